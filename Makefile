@@ -17,10 +17,11 @@
 #                                       library for 64-bit ARM too, where that TARGET was built;
 #                                       `packages/dist --help` says what these variables are
 #
-# PREFIX is /usr/local unless given. DESTDIR stands before it, for packages. The installing targets build only what
-# was never built, so that they need no toolchain; else they install what was built last. `uninstall` takes away what
-# any of them put in place, with all that is in share/port1 and share/doc/port1, and the folders that are empty then.
-# With a TARGET, or an empty SHARED, there is no shared library; CC links it.
+# PREFIX is /usr/local unless given. EXTCAPDIR is Wireshark's folder of extcap, for a link to port1-extcap. DESTDIR
+# stands before them, for packages. The installing targets build only what was never built, so that they need no
+# toolchain; else they install what was built last. `uninstall` takes away what any of them put in place, with all that
+# is in share/port1 and share/doc/port1, and the folders that are empty then. With a TARGET, or an empty SHARED, there
+# is no shared library; CC links it.
 
 PREFIX = /usr/local
 DESTDIR =
@@ -38,9 +39,11 @@ ZSHDIR = $(DATADIR)/zsh/site-functions
 FISHDIR = $(DATADIR)/fish/vendor_completions.d
 OWNDIR = $(DATADIR)/port1
 OWNDOCDIR = $(DATADIR)/doc/port1
+EXTCAPDIR =
 EXAMPLEDIR = $(OWNDOCDIR)/examples
 
 PROGRAM = crates/port1/out/port1
+SAMPLER = crates/port1_sample/out/port1_sample
 PAGE = page/out/port1.html
 LIBRARY = crates/port1_c/out/$(if $(TARGET),$(TARGET)/)libport1_c.a
 SONAME = libport1.so.2
@@ -64,11 +67,15 @@ SYSTEM = $(if $(DESTDIR),,$(filter /usr /usr/local,$(PREFIX)))
 # `rt` knows what has changed.
 all:
 	packages/build port1 run -- --version
+	packages/build port1_sample run -- --version
 	packages/build port1_c lib
 
-# These two only make what is not there.
+# These three only make what is not there.
 $(PROGRAM):
 	packages/build port1 run -- --version
+
+$(SAMPLER):
+	packages/build port1_sample run -- --version
 
 crates/port1_c/out/libport1_c.a:
 	packages/build port1_c lib
@@ -81,7 +88,7 @@ crates/port1_c/out/%/libport1_c.a:
 	$(CC) -shared -o $@ -Wl,-soname,$(SONAME) -Wl,-z,text -Wl,--version-script=c/package/libport1.map \
 		-Wl,--whole-archive $< -Wl,--no-whole-archive
 
-check: $(PROGRAM)
+check: $(PROGRAM) $(SAMPLER)
 	tests/run
 
 page:
@@ -92,10 +99,11 @@ version:
 
 install: install-program install-library
 
-install-program: $(PROGRAM) install-scripts
+install-program: $(PROGRAM) $(SAMPLER) install-scripts
 	install -d "$(DESTDIR)$(BINDIR)" "$(DESTDIR)$(MANDIR)" "$(DESTDIR)$(BASHDIR)" "$(DESTDIR)$(ZSHDIR)" \
 		"$(DESTDIR)$(FISHDIR)"
 	install -m 755 $(PROGRAM) "$(DESTDIR)$(BINDIR)/port1"
+	install -m 755 $(SAMPLER) "$(DESTDIR)$(BINDIR)/port1-sample"
 	install -m 644 cli/port1.1 "$(DESTDIR)$(MANDIR)/port1.1"
 	install -m 644 cli/completions/port1.bash "$(DESTDIR)$(BASHDIR)/port1"
 	install -m 644 cli/completions/_port1 "$(DESTDIR)$(ZSHDIR)/_port1"
@@ -123,6 +131,10 @@ install-scripts:
 	ln -sfnr "$(DESTDIR)$(EXAMPLEDIR)" "$(DESTDIR)$(OWNDIR)/examples"
 	$(COMMANDS) | while read -r name; do \
 		ln -sfr "$(DESTDIR)$(OWNDIR)/contrib/$$name" "$(DESTDIR)$(BINDIR)" || exit 1; done
+ifneq ($(EXTCAPDIR),)
+	install -d "$(DESTDIR)$(EXTCAPDIR)"
+	ln -sfr "$(DESTDIR)$(OWNDIR)/contrib/port1-extcap" "$(DESTDIR)$(EXTCAPDIR)"
+endif
 
 # A file of packages, where it is installed: its paths are relative, so that all of it may be moved.
 from-there = $$(realpath -ms --relative-to="$(2)" "$(1)")
@@ -156,11 +168,12 @@ dist:
 uninstall:
 	for script in "$(DESTDIR)$(OWNDIR)"/contrib/*; do link="$(DESTDIR)$(BINDIR)/$${script##*/}"; \
 		test ! "$$link" -ef "$$script" || rm -f "$$link"; done
-	rm -f "$(DESTDIR)$(BINDIR)/port1" "$(DESTDIR)$(MANDIR)/port1.1" "$(DESTDIR)$(BASHDIR)/port1" \
-		"$(DESTDIR)$(ZSHDIR)/_port1" "$(DESTDIR)$(FISHDIR)/port1.fish" "$(DESTDIR)$(LIBDIR)/libport1_c.a" \
+	rm -f "$(DESTDIR)$(BINDIR)/port1" "$(DESTDIR)$(BINDIR)/port1-sample" "$(DESTDIR)$(MANDIR)/port1.1" \
+		"$(DESTDIR)$(BASHDIR)/port1" "$(DESTDIR)$(ZSHDIR)/_port1" "$(DESTDIR)$(FISHDIR)/port1.fish" "$(DESTDIR)$(LIBDIR)/libport1_c.a" \
 		"$(DESTDIR)$(INCLUDEDIR)/port1.h" "$(DESTDIR)$(PKGCONFIGDIR)/port1.pc" "$(DESTDIR)$(LIBDIR)/$(SONAME)" \
 		"$(DESTDIR)$(LIBDIR)/libport1.so" "$(DESTDIR)$(CMAKEDIR)/port1Config.cmake" \
-		"$(DESTDIR)$(CMAKEDIR)/port1ConfigVersion.cmake"
+		"$(DESTDIR)$(CMAKEDIR)/port1ConfigVersion.cmake" \
+		$(if $(EXTCAPDIR),"$(DESTDIR)$(EXTCAPDIR)/port1-extcap")
 	rm -rf "$(DESTDIR)$(OWNDIR)" "$(DESTDIR)$(OWNDOCDIR)" $(if $(PYTHONDIR),"$(DESTDIR)$(PYTHONDIR)/port1")
 	for folder in $(FOLDERS); do rmdir "$(DESTDIR)$$folder" 2> /dev/null || true; done
 	test -z "$(DESTDIR)" || { cd "$(DESTDIR)" 2> /dev/null && rmdir -p ".$(PREFIX)" 2> /dev/null; } || true

@@ -52,6 +52,7 @@ GATE = [
     Package("python3-pytest", modules=["pytest"]),
     Package("python3-websocket", modules=["websocket"]),
     Package("sigrok-cli", ["sigrok-cli"]),
+    Package("systemd", ["systemd-analyze"]),
     Package("tshark", ["tshark"]),
     Package("valgrind", ["valgrind"]),
     Package("zsh", ["zsh"]),
@@ -60,10 +61,12 @@ GATE = [
 # Those of tests beside the gate, some of which run servers.
 BESIDE = [
     Package("gcc-aarch64-linux-gnu", ["aarch64-linux-gnu-gcc"]),
+    Package("gcc-arm-none-eabi", ["arm-none-eabi-gcc"]),
     Package("libc6-arm64-cross", files=[LOADER_OF_ARM]),
     Package("lintian", ["lintian"]),
     Package("munge", ["munged"]),
     Package("openssh-server", ["sshd"]),
+    Package("qemu-system-arm", ["qemu-system-arm"]),
     Package("qemu-user", ["qemu-aarch64"]),
     Package("rsync", ["rsync"]),
     Package("slurm-client", ["sbatch", "scancel", "sinfo", "squeue"]),

@@ -8,10 +8,11 @@ import re
 import subprocess
 import sys
 import tempfile
+import time
 from contextlib import contextmanager
 from functools import lru_cache, partial
 from pathlib import Path
-from typing import Any, Callable, Dict, Iterator, List, NamedTuple, Optional, Sequence, Tuple
+from typing import Any, Callable, Dict, Iterator, List, NamedTuple, Optional, Sequence, Tuple, Union
 
 TOP = Path(__file__).resolve().parent.parent
 
@@ -33,7 +34,7 @@ NODE = ["node", "--no-warnings", "--experimental-wasm-memory64"]
 TIMED = "statistics-api.test.js"
 
 # By how the name of a test begins, the module of Python that makes its inputs, or against which it compares.
-MODULES = {"recording-cabinets": "numpy", "recording-session": "numpy", "dictionary": "tomllib"}
+MODULES = {"recording-session": "numpy", "dictionary": "tomllib"}
 
 SECONDS = 1800
 
@@ -83,7 +84,7 @@ class Job(NamedTuple):
     content: bytes
     words: Tuple[str, ...]  # of the program
     form: str
-    lines: int
+    kind: Union[int, str]
     dictionary: str = ""
 
 
@@ -194,8 +195,31 @@ def program_lists(job: Job) -> Tuple[str, Optional[str]]:
     return ran.stdout.decode(), fault[len("port1: ") :] if fault else None
 
 
-def text_job(name: str, bits: str, lines: int, dictionary: str) -> Job:
-    return Job(name, bits.encode(), ("--bits", "--two") if lines == 2 else ("--bits",), "text", lines, dictionary)
+# How the program is told the kind of a capture.
+KINDS: Dict[Union[int, str], Tuple[str, ...]] = {1: (), 2: ("--two",), "arrivals": ("--arrivals",)}
+
+
+def text_job(name: str, bits: str, kind: Union[int, str], dictionary: str) -> Job:
+    return Job(name, bits.encode(), ("--bits", *KINDS[kind]), "text", kind, dictionary)
+
+
+def packed_arrivals(marks: str) -> bytes:
+    """Bits in the order of arrival as a packed capture."""
+    body = packed_pairs("".join(str("01oi".index(mark)) for mark in marks))
+    return b"TS2BITS3" + body[8:]
+
+
+def arrived(generator: random.Random, first: str, second: str) -> str:
+    """The bits of two lines with a clock each: the second drifts, and stops for a while now and then."""
+    marks, drift = [], generator.choice([0, 0.01, -0.01, 0.3])
+    others, due = iter(second), 0.0
+    for bit in first:
+        marks.append(bit)
+        due += 1 + drift if generator.random() > 0.0005 else -generator.randrange(900)
+        while due >= 1:
+            marks.append({"0": "o", "1": "i"}.get(next(others, ""), ""))
+            due -= 1
+    return "".join(marks)
 
 
 def packed_pairs(marks: str) -> bytes:
@@ -207,13 +231,15 @@ def packed_pairs(marks: str) -> bytes:
 def example_jobs() -> Iterator[Job]:
     """Every capture among the examples, with each dictionary there and without."""
     dictionaries = ["", *(path.read_text() for path in sorted((TOP / "examples").glob("*.toml")))]
-    for path in sorted([*(TOP / "examples").glob("*.bits"), *(TOP / "examples").glob("*.ts2")]):
+    for path in sorted(path for form in ("bits", "ts2", "arrivals") for path in (TOP / "examples").glob(f"*.{form}")):
         content = path.read_bytes()
-        is_two = content.startswith(b"TS2BITS2") or (path.suffix == ".bits" and any(mark in content for mark in b"23"))
-        words = (("--bits",) if path.suffix == ".bits" else ()) + (("--two",) if is_two else ())
-        form = "text" if path.suffix == ".bits" else "packed"
+        is_text = path.suffix in (".bits", ".arrivals")
+        is_two = content.startswith(b"TS2BITS2") or (is_text and any(mark in content for mark in b"23"))
+        has_arrivals = content.startswith(b"TS2BITS3") or path.suffix == ".arrivals"
+        kind = "arrivals" if has_arrivals else 1 + is_two
+        words = (("--bits",) if is_text else ()) + KINDS[kind]
         for number, dictionary in enumerate(dictionaries):
-            yield Job(f"{path.name}, dictionary {number}", content, words, form, 1 + is_two, dictionary)
+            yield Job(f"{path.name}, dictionary {number}", content, words, "text" if is_text else "packed", kind, dictionary)
 
 
 def generated_jobs(count: int) -> Iterator[Job]:
@@ -230,6 +256,9 @@ def generated_jobs(count: int) -> Iterator[Job]:
         packed = b"TS2BITS1" + len(first).to_bytes(8, "little") + octets_of(first)
         yield Job(f"one line, packed, seed {seed}", packed, (), "packed", 1, dictionary)
         yield Job(f"two lines, packed, seed {seed}", packed_pairs(pairs), ("--two",), "packed", 2, dictionary)
+        marks = arrived(generator, first, second)
+        yield text_job(f"two clocks, seed {seed}", marks, "arrivals", dictionary)
+        yield Job(f"two clocks, packed, seed {seed}", packed_arrivals(marks), ("--arrivals",), "packed", "arrivals", dictionary)
 
 
 def traffic_jobs() -> Iterator[Job]:
@@ -242,6 +271,7 @@ def traffic_jobs() -> Iterator[Job]:
         yield text_job(f"1200007 bits of {kind}", bits, 1, "")
         pairs = bits.replace("1", "3")
         yield text_job(f"1200007 pairs of {kind}", pairs, 2, NAMES)
+        yield text_job(f"arrivals of {kind}", arrived(random.Random(6), bits[:600007], bits[600007:]), "arrivals", NAMES)
 
 
 def broken_jobs() -> Iterator[Job]:
@@ -262,6 +292,10 @@ def broken_jobs() -> Iterator[Job]:
     for wrong in "x2~":
         yield text_job(f"{wrong} in the text", bits[:60] + wrong + bits[60:], 1, "")
     yield text_job("4 in a text of two lines", bits[:60] + "4" + bits[60:], 2, "")
+    yield text_job("a pair among arrivals", bits[:60] + "oi2" + bits[60:], "arrivals", "")
+    arrivals = packed_arrivals("01oi" * 5 + "0")
+    for content in [arrivals[:-1], arrivals + b"\0", arrivals[:-1] + b"\x04"]:
+        yield Job(f"arrivals that end in {content[-2:]!r}", content, ("--arrivals",), "packed", "arrivals")
     yield text_job("spaces", " ".join(bits) + "\r\n\t", 1, "")
     yield text_job("nothing", "", 1, "")
     for text in ["version = 3", "x", "version = 1\n[[frame]]\ntype = 256", NAMES.replace("length = 2", "length = 254")]:
@@ -276,7 +310,7 @@ def problems_of_jobs(page: Path, jobs: Callable[[], Iterator[Job]]) -> List[str]
         for number, job in enumerate(every):
             file = Path(folder, str(number))
             file.write_bytes(job.content)
-            told = {"file": str(file), "form": job.form, "lines": job.lines, "dictionary": job.dictionary}
+            told = {"file": str(file), "form": job.form, "kind": job.kind, "dictionary": job.dictionary}
             asked.append(told)
         found = listed(page, asked)
     problems = []
@@ -297,15 +331,14 @@ RECORDINGS = [
 def problems_of_recording(page: Path, name: str, channels: Sequence[str]) -> List[str]:
     """Whether the listing of a recording is that of the script's capture."""
     bench()
-    needs_module("numpy")
     file = TOP / "examples" / name
     taken = subprocess.run(
         [str(TOP / "scripts" / "recording-to-bits"), *channels], stdin=file.open(), capture_output=True
     )
     if taken.returncode != 0:
         return [taken.stderr.decode().strip()]
-    lines = 1 if len(channels) == 2 else 2
-    wanted, fault = program_lists(text_job(name, taken.stdout.decode(), lines, NAMES))
+    kind = 1 if len(channels) == 2 else "arrivals"
+    wanted, fault = program_lists(text_job(name, taken.stdout.decode(), kind, NAMES))
     job = {"file": str(file), "channels": list(channels), "rising": True, "dictionary": NAMES}
     got = listed(page, [job])[0]
     told = [line.partition(": ")[2] for line in taken.stderr.decode().splitlines()]
@@ -468,6 +501,26 @@ def problems_of_fault(page: Path, name: str) -> List[str]:
         return problems + ([] if shown_text(session) == wanted else ["the listing is not the program's"])
 
 
+def problems_of_growth(page: Path, name: str) -> List[str]:
+    """Whether the page says that a file is still being written, which grows so fast that no read of it succeeds;
+    Firefox reads what the file was when it was chosen."""
+    with tempfile.TemporaryDirectory(prefix="port1-") as folder, opened(name, address_of(page)) as session:
+        file = Path(folder, "growing.csv")
+        said = "document.getElementById('status').textContent + document.getElementById('fault').textContent"
+        for count in (100, 1 << 20):
+            rows = [f"{at}e-6,0,1,0,1\n" for at in range(count)]
+            file.write_text("".join(["Time [s],TXC,TXD,RXC,RXD\n", *rows]))
+            with subprocess.Popen(["sh", "-c", f"while :; do echo 9,0,1,0,1 >> {file}; done"]) as grow:
+                try:
+                    time.sleep(0.2)
+                    session.set_files("#files", [file])
+                    session.wait_until(f"/still being written{'|0 lines in' if name == 'firefox' else ''}/.test({said})")
+                finally:
+                    grow.kill()
+            session.visit(address_of(page))
+        return []
+
+
 WIRES = ["TXC", "TXD", "RXC", "RXD"]
 
 # What was sent when examples/four-wires.csv was made: a call on TXD, and its reply on RXD.
@@ -543,7 +596,7 @@ def problems_of_wires(page: Path, name: str) -> List[str]:
 
 
 # Notes of recording-to-bits, and what the report shows where.
-NOTES = "recording-to-bits: TXC has 9 edges\nrecording-to-bits: warning: TXC has an edge too early (at 0.250000 s)\n"
+NOTES = "recording-to-bits: TXC has 9 edges\nrecording-to-bits: warning: the edges of TXC jump: samples may have been lost (at 0.250000 s)\n"
 
 REPORTED = [
     ("#title", "^Cabinet <7> & more$"),
@@ -552,7 +605,7 @@ REPORTED = [
     ("#facts", "^port1-failure.bits"),
     ("#recording", "SHA-256[0-9a-f]{64}$"),
     ("#notes", "TXC has 9 edges"),
-    ("#warnings", "TXC has edges that come too early.*At 0.250 s"),
+    ("#warnings", "The edges of TXC jump.*At 0.250 s"),
     ("#dictionary-text", "name = .outputs."),
 ]
 
@@ -630,6 +683,7 @@ def tests_of(page: Path, is_long: bool) -> Iterator[Test]:
             ("a dictionary", problems_of_dictionary),
             ("names of a dictionary", problems_of_names),
             ("a fault", problems_of_fault),
+            ("a file that grows", problems_of_growth),
             ("four wires", problems_of_wires),
             ("a report", problems_of_report),
         ]:

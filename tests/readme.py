@@ -27,6 +27,7 @@ DOCUMENTS = [
     "docs/TROUBLESHOOTING.md",
     "docs/COOKBOOK.md",
     "docs/MANY-CAPTURES.md",
+    "docs/WATCH.md",
 ]
 
 INDENT = "    "
@@ -51,7 +52,7 @@ STATUSES = {
     "diff before.txt after.txt": 1,
     "recording-to-bits clock dat < examples/one-call.vcd": 2,
     "check-dictionary cab.toml": 1,
-    "parallel --joblog jobs.log 'port1 list": 1,
+    "parallel --tag --joblog jobs.log 'port1 list": 1,
 }
 
 SECONDS = 20

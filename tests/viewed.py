@@ -197,7 +197,7 @@ INPUTS = [
         "a session of PulseView",
         {**DICT, "tap.sr": session_of(SHORT)},
         "No fault found",
-        {"#head": "^40 frames", "#command": r"recording-to-bits TXC TXD RXC RXD < tap.sr \| port1 list --bits --two"},
+        {"#head": "^40 frames", "#command": r"recording-to-bits TXC TXD RXC RXD < tap.sr \| port1 list --bits --arrivals"},
     ),
     Input(
         "channels without names",
@@ -241,7 +241,7 @@ INPUTS = [
         "Look closer",
         {"#warnings": "ends in the middle of a line", "#head": "^40 frames"},
     ),
-    Input("a session that is cut off", {"tap.sr": session_of(SHORT)[:-400]}, "", {STATUS: "archive is cut off"}),
+    Input("a session that is cut off", {"tap.sr": session_of(SHORT)[:-400]}, "", {STATUS: "^The session is cut off"}),
     Input(
         "a capture that is cut off",
         {"a.ts2": b"TS2BITS1" + (90).to_bytes(8, "little") + b"\x7e\x7e"},
@@ -537,7 +537,7 @@ def problems_of_mending(page: Path, name: str) -> List[str]:
             session.value("[...document.querySelectorAll('#warning-list button')].at(-1).click()")
             session.wait_until("!document.body.classList.contains('reading')", 20)
         session.wait_until(f"{word} === 'No fault found'", 20)
-        problems += [] if text_at(session, "#command").startswith("No command") else ["a command is shown that lists another"]
+        problems += [] if "--falling --invert TXD,RXD TXC" in text_at(session, "#command") else ["the command does not invert"]
         problems += [] if text_at(session, "#warnings:not([hidden])") == "" else ["warnings are left"]
         session.value("page1.mend('wires')")
         problems += [] if session.value("document.activeElement.id") == "channel-0" else ["no wire is asked for"]

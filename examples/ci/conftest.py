@@ -31,7 +31,13 @@ def pytest_addoption(parser: pytest.Parser) -> None:
         "--two",
         action="store_true",
         default=os.environ.get("PORT1_TWO", "") not in ("", "0"),
-        help="the captures are of two lines; also where PORT1_TWO is 1",
+        help="the captures are of two lines with one clock; also where PORT1_TWO is 1",
+    )
+    group.addoption(
+        "--arrivals",
+        action="store_true",
+        default=os.environ.get("PORT1_ARRIVALS", "") not in ("", "0"),
+        help="the captures are of two lines, in the order of arrival; also where PORT1_ARRIVALS is 1",
     )
 
 
@@ -65,4 +71,5 @@ def pytest_generate_tests(metafunc: pytest.Metafunc) -> None:
 def options(request: pytest.FixtureRequest) -> List[str]:
     """What `port1` is told of every capture."""
     dictionary = Path(request.config.getoption("dictionary")).read_text(encoding="utf-8")
-    return [f"--dict={dictionary.rstrip()}", *(["--two"] if request.config.getoption("two") else [])]
+    lines = [f"--{form}" for form in ("two", "arrivals") if request.config.getoption(form)]
+    return [f"--dict={dictionary.rstrip()}", *lines]

@@ -3,10 +3,10 @@
     pytest --junitxml=bus.xml --captures=FOLDER --dictionary=FILE test_captures.py
 
 A capture fails where it has no frame, where it has a fault, and where anything in it is one of the kinds of `WRONG`
-below; the message has the fault and these lines of `port1 list`. The counts of `port1 check` are properties of the
-test. A folder without captures fails, too. Say `--two` for captures of two lines. The program is `port1`, or what the
-variable PORT1 says. The options and the variables that stand for them are in conftest.py; this folder may be copied
-and changed.
+below; the message has the fault, and these lines of `port1 list` with their seconds and names. The counts of `port1
+check` are properties of the test. A folder without captures fails, too. For captures of two lines say `--two` or
+`--arrivals`. The program is `port1`, or what the variable PORT1 says. The options and the variables that stand for
+them are in conftest.py; this folder may be copied and changed.
 """
 
 import os
@@ -23,6 +23,9 @@ WRONG = ("damaged", "overlong", "missing", "spoilt", "late", "pending")
 
 # How many of them a message has, at most.
 MOST_LINES = 100
+
+# Bits a second, on Port 1 of NEMA TS 2.
+RATE = 153600
 
 
 class Finding(NamedTuple):
@@ -57,16 +60,28 @@ def kind_of(line: str) -> str:
     return next(word for word in line.split() if not word.isdigit())
 
 
+def told(line: str, names: Dict[str, str], is_of_two: bool) -> str:
+    """A line with the second at which it begins, and with the name of its frame type, which the dictionary has."""
+    words = line.split()
+    seconds = int(words[1 if is_of_two else 0]) / RATE
+    name = names.get(words[-1]) if words[-2:-1] == ["type"] else None
+    return f"{seconds:.6f} s: {line.rstrip()}{f' ({name})' if name else ''}"
+
+
 def finding_of(capture: Path, options: List[str]) -> Finding:
     """What `port1 list` says that is wrong."""
     words = words_of("list", capture, options)
-    count, lines = 0, []
+    count, lines, is_of_two = 0, [], "--two" in options or "--arrivals" in options
+    names: Dict[str, str] = {}
     pipes = {"stdout": subprocess.PIPE, "stderr": subprocess.PIPE, "text": True}
     with capture.open("rb") as file, subprocess.Popen(words, stdin=file, **pipes) as listing:
         for line in listing.stdout:
             if kind_of(line) in WRONG:
                 count += 1
-                lines += [line.rstrip()] if count <= MOST_LINES else []
+                lines += [told(line, names, is_of_two)] if count <= MOST_LINES else []
+            elif line.count(" type ") == 1:
+                frame_type, *name = line.split(" type ")[1].split()
+                names.update({frame_type: name[0]} if name and name[0] not in ("unknown", "length") else {})
         fault = listing.stderr.read().strip()
     if listing.returncode != 0 and not fault:
         fault = f"`port1 list` ended with status {listing.returncode}"

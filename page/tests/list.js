@@ -3,7 +3,7 @@
  *
  *     node --experimental-wasm-memory64 page/tests/list.js MODULE < JOBS > RESULTS
  *
- * MODULE is the decoder. JOBS is an array of JSON: of each file its path, its form, how many lines it is of, the text
+ * MODULE is the decoder. JOBS is an array of JSON: of each file its path, its form, the kind of capture, the text
  * of a dictionary, and of a recording its channels and edges. RESULTS are the texts, notes and faults, in that order.
  */
 import { openAsBlob, readFileSync, writeFileSync } from "node:fs";

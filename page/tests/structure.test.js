@@ -2,6 +2,7 @@
 
 import assert from "node:assert/strict";
 import { test } from "node:test";
+import { KeptArrivals } from "../src/engine/arrivals.js";
 import { KeptBits } from "../src/engine/bits.js";
 import { ListingReader } from "../../scripts/modules/listing/read.js";
 import { structureOf } from "../src/worker/structure.js";
@@ -39,4 +40,20 @@ test("octets, flags and the zero after five ones", () => {
 test("where the capture begins or ends at a frame, there is no flag", () => {
   const { parts } = structureOf(listed("2 0 41 frame 108300fde5"), keptOf(FRAME), 0);
   assert.deepEqual(parts.map(({ text }) => text), ["10", "83", "00", "fd", "e5"]);
+});
+
+test("of a line with a clock of its own, each bit stands where it arrived", () => {
+  const bits = new KeptArrivals();
+  for (let place = 0; place < 100; place++) bits.push(0, 1);
+  [...(FLAG + FRAME + FLAG)].forEach((bit, at) => {
+    if (at !== 20) bits.push(0, 1); // there are two bits of the second line at one place
+    bits.push(1, Number(bit));
+  });
+  const from = bits.places.of(0);
+  assert.deepEqual(bits.between(1, 0, from + 2).map(({ place, digit }) => [place - from, digit]), [[0, 0], [1, 1]]);
+  const { parts, zeros } = structureOf(listed(`2 ${from + 8} ${from + 48} frame 108300fde5`), bits, 0);
+  assert.deepEqual(zeros, [from + 8 + 24 + 7 - 1]);
+  assert.deepEqual(parts.map(({ text }) => text), ["flag", "flag", "10", "83", "00", "fd", "e5"]);
+  assert.deepEqual(parts.map(({ first }) => first - from), [0, 48, 8, 16, 23, 31, 40]);
+  assert.deepEqual(parts.map(({ past }) => past - from), [8, 56, 16, 23, 31, 40, 48]);
 });

@@ -4,14 +4,21 @@ declare const process: {
   argv: string[];
   env: Record<string, string | undefined>;
   exitCode: number | undefined;
+  execPath: string;
+  pid: number;
+  stdin: import("node:stream").Readable;
   exit(status: number): never;
   on(event: string, listener: () => void): void;
   once(event: string, listener: () => void): void;
+  emit(event: string, ...words: any[]): boolean;
+  removeAllListeners(event: string): void;
+  kill(pid: number, signal: string | number): boolean;
 };
 
 interface Buffer extends Uint8Array {
   toString(encoding?: string, from?: number, past?: number): string;
   write(text: string, at: number, encoding: string): number;
+  writeBigUInt64LE(number: bigint, at: number): number;
   subarray(from?: number, past?: number): Buffer;
 }
 
@@ -28,12 +35,21 @@ declare class DecompressionStream {
 }
 
 declare module "node:fs" {
+  import { Readable } from "node:stream";
   interface Stats {
     mtime: Date;
     size: number;
     isFile(): boolean;
   }
+  function appendFileSync(path: string, text: string): void;
+  function createReadStream(path: string): Readable;
+  function createWriteStream(path: string): Readable;
+  function mkdirSync(path: string, options?: { recursive: boolean }): void;
+  function readdirSync(path: string): string[];
+  function statfsSync(path: string): { bavail: number; bsize: number };
+  function truncateSync(path: string, size: number): void;
   function closeSync(file: number): void;
+  function copyFileSync(from: string, to: string): void;
   function existsSync(path: string): boolean;
   function fstatSync(file: number): Stats;
   function openSync(path: string, flags: string): number;
@@ -44,13 +60,22 @@ declare module "node:fs" {
   function readFileSync(path: string | URL, encoding: string): string;
   function readSync(file: number, room: Uint8Array, at?: number, count?: number, place?: number | null): number;
   function renameSync(from: string, to: string): void;
-  function rmSync(path: string, options: { force: boolean }): void;
+  function rmSync(path: string, options: { force: boolean; recursive?: boolean }): void;
   function statSync(path: string): Stats;
-  function writeFileSync(path: string, text: string): void;
+  function writeFileSync(path: string, text: string | Uint8Array): void;
   function writeSync(file: number, octets: Uint8Array, at?: number): number;
 }
 
 declare module "node:child_process" {
+  import { Readable } from "node:stream";
+  interface Child {
+    pid: number;
+    stdin: any;
+    stdout: Readable;
+    stderr: Readable;
+    on(event: string, listener: (...words: any[]) => void): this;
+  }
+  function spawn(program: string, words: string[], options?: object): Child;
   function spawnSync(program: string, words: string[], options: object): {
     error?: Error & { code?: string };
     status: number | null;
@@ -59,8 +84,16 @@ declare module "node:child_process" {
   };
 }
 
+declare module "node:stream/promises" {
+  function pipeline(...streams: object[]): Promise<void>;
+}
+
 declare module "node:crypto" {
   function createHash(name: string): { update(octets: Uint8Array): void; digest(form: string): string };
+}
+
+declare module "node:events" {
+  function once(source: object, event: string): Promise<any[]>;
 }
 
 declare module "node:path" {
@@ -74,10 +107,16 @@ declare module "node:stream" {
     static from(pieces: AsyncIterable<Uint8Array>): Readable;
     static fromWeb(stream: ReadableStream<Uint8Array>): Readable;
     static toWeb(stream: Readable): ReadableStream<Uint8Array>;
-    on(event: string, listener: (fault: Error) => void): this;
+    on(event: string, listener: (some: any) => void): this;
+    read(): Buffer | null;
     pipe<T>(sink: T): T;
     destroy(fault?: Error): void;
     [Symbol.asyncIterator](): AsyncIterator<Buffer>;
+  }
+  class Writable {
+    on(event: string, listener: (fault: Error) => void): this;
+    write(octets: Uint8Array, done: (fault?: Error | null) => void): boolean;
+    end(): void;
   }
 }
 
@@ -92,6 +131,7 @@ declare module "node:util" {
 
 declare module "node:zlib" {
   import { Readable } from "node:stream";
-  function createGzip(): Readable;
+  function createGzip(options?: { level: number }): Readable;
+  function gunzipSync(octets: Uint8Array): Buffer;
   function createInflateRaw(): Readable;
 }

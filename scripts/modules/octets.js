@@ -1,15 +1,31 @@
 import { Fault } from "./fault.js";
 
+/**
+ * A file or a part of one, as a browser's Blob and a part of an open file are read.
+ * @typedef {object} Part
+ * @property {number} size
+ * @property {(from?: number, past?: number) => Part} slice
+ * @property {() => ReadableStream<Uint8Array>} stream
+ * @property {() => Promise<ArrayBuffer>} arrayBuffer
+ */
+
 /** What browsers call it when a file is another than the one that was chosen. */
 const CHANGED = new Set(["NotReadableError", "NotFoundError"]);
 
-/** The fault that an error in reading a file is; where it is none of these, one with the words given, if any. */
+/**
+ * The fault that an error in reading a file is; where it is none of these, one with the words given, if any.
+ * @param {unknown} error
+ */
 export function faultOf(error, otherwise = "") {
-  if (CHANGED.has(error.name)) return new Fault("the file changed while it was read");
+  if (CHANGED.has(/** @type {Error} */ (error).name)) return new Fault("the file changed while it was read");
   return error instanceof Fault || otherwise === "" ? error : new Fault(otherwise);
 }
 
-/** The octets of a part of a file. @param {Blob} part @returns {Promise<Uint8Array>} */
+/**
+ * The octets of a part of a file.
+ * @param {Part} part
+ * @returns {Promise<Uint8Array>}
+ */
 export async function octetsOf(part) {
   try {
     return new Uint8Array(await part.arrayBuffer());

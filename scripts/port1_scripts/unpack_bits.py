@@ -53,4 +53,4 @@ def main() -> None:
 
 
 if __name__ == "__main__":
-    manners.run(main)
+    manners.run(main, is_stream=True)

@@ -284,23 +284,8 @@ def recorded_from(cabinet: Cabinet, bus: Bus) -> Recorded:
     return cut(recorded, max(0, min(begin, end - least)), max(end, least))
 
 
-def parts_between_idle(bits: str) -> Iterator[Tuple[int, str]]:
-    """The parts of a line without fifteen ones in a row, and where they begin."""
-    zeros = [place for place, bit in enumerate(bits) if bit == "0"]
-    begin = 0
-    for at in range(1, len(zeros) + 1):
-        if at == len(zeros) or zeros[at] - zeros[at - 1] > 15:
-            yield zeros[begin], bits[zeros[begin] : zeros[at - 1] + 1]
-            begin = at
-
-
-def truth_of(recorded: Recorded) -> str:
-    """The capture of two lines: each part of the second line from the place on at which the first bit was taken."""
-    edges, bits = recorded.first
-    second = np.ones(len(bits), dtype=np.uint8)
-    for times, sent in recorded.second:
-        for begin, part in parts_between_idle(sent):
-            place = int(np.searchsorted(edges, times[begin]))
-            some = levels_of(part)[: max(0, len(bits) - place)]
-            second[place : place + len(some)] = some
-    return "".join(map(str, levels_of(bits) + 2 * second))
+def arrivals_of(recorded: Recorded) -> str:
+    """The bits in the order in which they were taken; of two in one sample the first line's first."""
+    lines = [[recorded.first], recorded.second]
+    edges = [(int(time), line, bit) for line, parts in enumerate(lines) for times, bits in parts for time, bit in zip(times, bits)]
+    return "".join("01oi"[2 * line + int(bit)] for _, line, bit in sorted(edges, key=lambda edge: edge[:2]))

@@ -21,16 +21,16 @@ ANSWERED = plain(CALL + REPLY)
 # The call with its 40th bit inverted, which is in the frame check.
 WRONG_CHECK = plain(CALL)[:40] + str(1 - int(plain(CALL)[40])) + plain(CALL)[41:]
 
-MISSING = "8 49 missing station 16 type 0"
+MISSING = "0.000052 s: 8 49 missing station 16 type 0 (call)"
 
 
 class Case(NamedTuple):
-    """A capture, and the message of its test; none where the test passes."""
+    """A capture, the message of its test, none where the test passes, and the option for two lines."""
 
     name: str
     capture: bytes
     message: Optional[str] = None
-    two: bool = False
+    lines: str = ""
 
 
 def wrong(*lines: str) -> str:
@@ -49,22 +49,25 @@ CASES = [
     Case("nothing.bits", b"", "the capture has no frame"),
     Case("nothing.ts2", packed(""), "the capture has no frame"),
     Case("flags.ts2", packed("01111110" * 9), "the capture has no frame"),
-    Case("short.bits", (ANSWERED + "0101" + "01111110").encode(), wrong("114 118 damaged short")),
-    Case("fcs.bits", (WRONG_CHECK + ANSWERED).encode(), wrong("8 49 damaged fcs")),
-    Case("overlong.ts2", packed(ANSWERED + 200 * "0" + "01111110"), wrong("114 314 overlong")),
+    Case("short.bits", (ANSWERED + "0101" + "01111110").encode(), wrong("0.000742 s: 114 118 damaged short")),
+    Case("fcs.bits", (WRONG_CHECK + ANSWERED).encode(), wrong("0.000052 s: 8 49 damaged fcs")),
+    Case("overlong.ts2", packed(ANSWERED + 200 * "0" + "01111110"), wrong("0.000742 s: 114 314 overlong")),
     Case("missing.bits", (plain(CALL) + ANSWERED).encode(), wrong(MISSING)),
     Case("missing.ts2", packed(plain(CALL) + ANSWERED), wrong(MISSING)),
     Case(
         "spoilt.bits",
         example("missing-and-spoilt.bits"),
-        wrong(MISSING, "106 130 damaged short", "57 98 spoilt station 16 type 0"),
+        wrong(MISSING, "0.000690 s: 106 130 damaged short", "0.000371 s: 57 98 spoilt station 16 type 0 (call)"),
     ),
     Case(
         "late.bits",
         example("in-time-late-missing.bits"),
-        wrong("106 147 late station 16 type 0", "220 261 missing station 16 type 0"),
+        wrong(
+            "0.000690 s: 106 147 late station 16 type 0 (call)",
+            "0.001432 s: 220 261 missing station 16 type 0 (call)",
+        ),
     ),
-    Case("pending.bits", example("one-call.bits"), wrong("8 49 pending station 16 type 0")),
+    Case("pending.bits", example("one-call.bits"), wrong("0.000052 s: 8 49 pending station 16 type 0 (call)")),
     Case("no octet.ts2", b"", "port1: capture: short head"),
     Case("cut off.ts2", packed(ANSWERED)[:-1], "port1: capture: short body"),
     Case(
@@ -74,12 +77,16 @@ CASES = [
     ),
     Case("text.ts2", ANSWERED.encode(), "port1: capture: wrong magic"),
     Case("packed.bits", packed(ANSWERED), "port1: capture: octet 0 is no bit"),
-    Case("answered on two lines.ts2", packed_two(plain(CALL) + "1" * 57, "1" * 57 + plain(REPLY)), None, True),
+    Case("answered on two lines.ts2", packed_two(plain(CALL) + "1" * 57, "1" * 57 + plain(REPLY)), None, "two"),
+    Case("answered by its own clock.bits", example("two-clocks.arrivals"), None, "arrivals"),
     Case(
         "late on two lines.bits",
         example("two-lines.bits"),
-        wrong("1 122 163 late station 16 type 0", "1 260 301 missing station 16 type 0"),
-        True,
+        wrong(
+            "0.000794 s: 1 122 163 late station 16 type 0 (call)",
+            "0.001693 s: 1 260 301 missing station 16 type 0 (call)",
+        ),
+        "two",
     ),
     Case("many.bits", (1000 * plain(CALL) + plain(REPLY)).encode()),
 ]
@@ -87,7 +94,10 @@ CASES = [
 CASES_BY_NAME = {case.name: case for case in CASES}
 
 # The message of many.bits: a call each 57 bits, of which the last alone is answered.
-MANY = [f"{57 * number + 8} {57 * number + 49} missing station 16 type 0" for number in range(999)]
+MANY = [
+    f"{(57 * number + 8) / 153600:.6f} s: {57 * number + 8} {57 * number + 49} missing station 16 type 0 (call)"
+    for number in range(999)
+]
 
 
 def message_of(case: Case) -> Optional[str]:
@@ -140,17 +150,18 @@ def verdict_of_each(folder: Path) -> List[str]:
     needs_module("pytest")
     problems = []
     before = sorted(CI.iterdir())
-    for two in (False, True):
-        cases = [case for case in CASES if case.two == two]
-        place = folder / f"two-{two}"
+    for lines in ("", "two", "arrivals"):
+        cases = [case for case in CASES if case.lines == lines]
+        place = folder / f"lines-{lines}"
         captures = written(place, cases)
-        words = [f"--captures={captures}", f"--dictionary={place / 'bus.toml'}", *(["--two"] if two else [])]
+        words = [f"--captures={captures}", f"--dictionary={place / 'bus.toml'}", *([f"--{lines}"] if lines else [])]
         ran = tested(CI, [f"--junitxml={place / 'bus.xml'}", *words], place, PYTHONDONTWRITEBYTECODE="1")
-        problems += [] if ran.returncode == 1 else [ran.stdout + ran.stderr]
+        status = int(any(message_of(case) for case in cases))
+        problems += [] if ran.returncode == status else [ran.stdout + ran.stderr]
         problems += problems_of_report(place / "bus.xml", cases)
         copied = Path(shutil.copytree(CI, place / "copied", ignore=shutil.ignore_patterns("__pycache__", ".*")))
         told = {"PORT1_CAPTURES": str(captures), "PORT1_DICTIONARY": str(place / "bus.toml")}
-        tested(copied, [f"--junitxml={place / 'copied.xml'}"], place, PORT1_TWO=str(int(two)), **told)
+        tested(copied, [f"--junitxml={place / 'copied.xml'}"], place, **{f"PORT1_{lines.upper()}": "1"}, **told)
         problems += problems_of_report(place / "copied.xml", cases)
         problems += [f"left: {path}" for path in place.rglob(".pytest_cache")]
     return problems + ([] if sorted(CI.iterdir()) == before else [f"left: {sorted(CI.iterdir())}"])

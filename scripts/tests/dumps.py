@@ -35,11 +35,9 @@ def dump(bits: str, times_alone: bool) -> bytes:
 
 SIGNALS = "dat, clk, both, both"
 
-CLK = "vcd-to-bits: clk has"
+CLK = "recording-to-bits: clk has"
 
-AT_TAKEN_EDGE = "vcd-to-bits: warning: the data changes at the edge of clk that is taken: try it"
-
-SHORT = "vcd-to-bits: warning: the data of clk has a pulse shorter than half a bit (at sample 8)\n"
+NO_EDGES = f"{CLK} 0 edges\nrecording-to-bits: warning: clk has no edges\n"
 
 # A dump with the data of two lines, which change between the edges of the clock and at one of them.
 TWO_DATA = b"""$var wire 1 ! clk $end $var wire 1 " dat $end $var wire 1 ( ans $end $enddefinitions $end
@@ -49,11 +47,11 @@ TWO_DATA = b"""$var wire 1 ! clk $end $var wire 1 " dat $end $var wire 1 ( ans $
 # The data changes at either edge, so that rising and falling edges have other bits; no pulse of the clock is short.
 BOTH_EDGES = b'#0 0! 0"\n#5 1! 1"\n#10 0!\n#15 1! 0"\n#20 0! 1"\n'
 
-# A clock that comes from no level and goes to none, which is no edge, and then a pulse of it.
+# A clock that has no level for a while.
 NO_LEVEL = '#0 0! 0"\n#4 {level}!\n#5 1!\n#8 {level}!\n#9 0!\n#12 1"\n#13 1!\n#16 0"\n#17 0!\n'
 
 # The wires changed as vectors of one bit, in letters of either case.
-VECTORS = b'#0 B0 ! b0 "\n#5 b1 ! B1 &\n#6 B0 ! B1 "\n#9 B1 !\n#10 Bz "\n'
+VECTORS = b'#0 B0 ! b0 "\n#5 b1 ! B1 &\n#6 B0 ! B1 "\n#9 B1 !\n#11 bz &\n'
 
 # Vectors and reals by codes that would be changes and times if they stood alone.
 ODD_CODES = b"""$var wire 1 ! clk $end $var wire 1 " dat $end
@@ -68,138 +66,138 @@ $enddefinitions $end
 """
 
 RUNS = [
-    Run("times alone", ["vcd-to-bits", "clk", "dat"], dump(plain(CALL), True), lines(plain(CALL)), f"{CLK} 57 edges\n"),
-    Run("times before changes", ["vcd-to-bits", "clk", "dat"], dump(plain(CALL), False), lines(plain(CALL)), f"{CLK} 57 edges\n"),
+    Run("times alone", ["recording-to-bits", "clk", "dat"], dump(plain(CALL), True), lines(plain(CALL)), f"{CLK} 57 edges\n"),
+    Run("times before changes", ["recording-to-bits", "clk", "dat"], dump(plain(CALL), False), lines(plain(CALL)), f"{CLK} 57 edges\n"),
     Run(
         "falling edges",
-        ["vcd-to-bits", "--falling", "clk", "dat"],
+        ["recording-to-bits", "--falling", "clk", "dat"],
         dump("0110", True) + b"#45 0!\n",
         b"0110\n",
-        f"{CLK} 4 edges\n{AT_TAKEN_EDGE} without --falling\n",
+        f"{CLK} 4 edges\n",
     ),
     Run(
         "rising edges of a clock with other bits at the falling ones",
-        ["vcd-to-bits", "clk", "dat"],
+        ["recording-to-bits", "clk", "dat"],
         DEFINITIONS.encode() + BOTH_EDGES,
         b"01\n",
-        f"{CLK} 2 edges\n{AT_TAKEN_EDGE} with --falling\n",
+        f"{CLK} 2 edges\n",
     ),
     Run(
         "falling edges of a clock with other bits at the rising ones",
-        ["vcd-to-bits", "--falling", "clk", "dat"],
+        ["recording-to-bits", "--falling", "clk", "dat"],
         DEFINITIONS.encode() + BOTH_EDGES,
         b"10\n",
         f"{CLK} 2 edges\n",
     ),
     *[
         Run(
-            " ".join(["a clock of the level", level, *options]),
-            ["vcd-to-bits", *options, "clk", "dat"],
+            f"a clock of the level {level}",
+            ["recording-to-bits", "clk", "dat"],
             DEFINITIONS.encode() + NO_LEVEL.format(level=level).encode(),
-            bits,
-            f"{CLK} 1 edge\n",
+            b"",
+            f"{NO_EDGES}recording-to-bits: clk has no level at 0.000004 s\n",
+            2,
         )
         for level in "xXzZ"
-        for options, bits in [([], b"1\n"), (["--falling"], b"0\n")]
     ],
     Run(
         "vectors of one bit",
-        ["vcd-to-bits", "clk", "dat"],
+        ["recording-to-bits", "clk", "dat"],
         DEFINITIONS.encode() + VECTORS,
         b"01\n",
         f"{CLK} 2 edges\n",
     ),
-    Run("codes that look like changes", ["vcd-to-bits", "clk", "dat"], ODD_CODES, b"10\n", f"{CLK} 2 edges\n"),
+    Run("codes that look like changes", ["recording-to-bits", "clk", "dat"], ODD_CODES, b"10\n", f"{CLK} 2 edges\n"),
     Run(
         "data that changes with the edge",
-        ["vcd-to-bits", "clk", "dat"],
+        ["recording-to-bits", "clk", "dat"],
         DEFINITIONS.encode() + b'#0 0! 0"\n#5 1! 1"\n#6 0!\n#7 0" 1!\n',
         b"01\n",
-        f"{CLK} 2 edges\n{AT_TAKEN_EDGE} with --falling\n",
+        f"{CLK} 2 edges\n",
     ),
     Run(
         "a signal named in two scopes",
-        ["vcd-to-bits", "clk", "dat"],
+        ["recording-to-bits", "clk", "dat"],
         b"$scope module probe $end $var wire 1 ! clk $end $upscope $end " + dump("0110", True),
         b"0110\n",
         f"{CLK} 4 edges\n",
     ),
     Run(
         "no edges",
-        ["vcd-to-bits", "clk", "dat"],
+        ["recording-to-bits", "clk", "dat"],
         DEFINITIONS.encode() + b'#0 1! 0"\n#9 0!\n',
         b"",
-        f"{CLK} 0 edges\nvcd-to-bits: warning: clk has no edges\n",
+        f"{CLK} 0 edges\nrecording-to-bits: warning: clk has no edges\n",
     ),
     Run(
         "an edge of no known level before",
-        ["vcd-to-bits", "clk", "dat"],
+        ["recording-to-bits", "clk", "dat"],
         DEFINITIONS.encode() + b'#0 x! 0"\n#5 1!\n#6 0!\n#7 1!\n',
         b"0\n",
         f"{CLK} 1 edge\n",
     ),
     Run(
         "data without a value",
-        ["vcd-to-bits", "clk", "dat"],
+        ["recording-to-bits", "clk", "dat"],
         DEFINITIONS.encode() + b'#0 0! 1"\n#1 1!\n#2 0! z"\n#5 1!\n',
         b"1\n",
-        "vcd-to-bits: at 0.000005 s the data has no known level\n",
+        f"{CLK} 1 edge\nrecording-to-bits: dat has no level at 0.000002 s\n",
         2,
     ),
-    Run("two lines", ["vcd-to-bits", "clk", "dat", "ans"], TWO_DATA, b"2130\n", f"{CLK} 4 edges\n{SHORT}"),
-    Run("two lines, the other way", ["vcd-to-bits", "clk", "ans", "dat"], TWO_DATA, b"1230\n", f"{CLK} 4 edges\n{SHORT}"),
+    Run("two lines", ["recording-to-bits", "clk", "dat", "ans"], TWO_DATA, b"0i1o1i0o\n", f"{CLK} 4 edges\n"),
+    Run("two lines, the other way", ["recording-to-bits", "clk", "ans", "dat"], TWO_DATA, b"1o0i1i0o\n", f"{CLK} 4 edges\n"),
     Run(
         "one of two lines",
-        ["vcd-to-bits", "clk", "ans"],
+        ["recording-to-bits", "clk", "ans"],
         TWO_DATA,
         b"1010\n",
-        f"{CLK} 4 edges\n{AT_TAKEN_EDGE} with --falling\n{SHORT}",
+        f"{CLK} 4 edges\n",
     ),
     Run(
         "a second line without a value",
-        ["vcd-to-bits", "clk", "dat", "ans"],
+        ["recording-to-bits", "clk", "dat", "ans"],
         TWO_DATA.replace(b"#7 0(", b"#7 z("),
-        b"2\n",
-        "vcd-to-bits: at sample 8 the data has no known level\n",
+        b"0i\n",
+        f"{CLK} 1 edge\nrecording-to-bits: ans has no level at sample 7\n",
         2,
     ),
     Run(
         "times that go back",
-        ["vcd-to-bits", "clk", "dat"],
+        ["recording-to-bits", "clk", "dat"],
         DEFINITIONS.encode() + b'#0 0! 0"\n#5 1!\n#3 0!\n',
-        b"",
-        "vcd-to-bits: #3 stands after #5, which is a later time\n",
+        b"0\n",
+        f"{CLK} 1 edge\nrecording-to-bits: #3 stands after #5, which is a later time\n",
         2,
     ),
     Run(
         "one time twice",
-        ["vcd-to-bits", "clk", "dat"],
+        ["recording-to-bits", "clk", "dat"],
         DEFINITIONS.encode() + b'#0 0! 0"\n#5 1!\n#5\n#9 0!\n',
         b"0\n",
         f"{CLK} 1 edge\n",
     ),
     Run(
         "no such signal",
-        ["vcd-to-bits", "clk", "data"],
+        ["recording-to-bits", "clk", "data"],
         dump("0", True),
         b"",
-        f"vcd-to-bits: no channel has the name data; there are: {SIGNALS}\n",
+        f"recording-to-bits: no channel has the name data; there are: {SIGNALS}\n",
         2,
     ),
     Run(
         "two signals",
-        ["vcd-to-bits", "both", "dat"],
+        ["recording-to-bits", "both", "dat"],
         dump("0", True),
         b"",
-        f"vcd-to-bits: 2 channels have the name both; there are: {SIGNALS}\n",
+        f"recording-to-bits: 2 channels have the name both; there are: {SIGNALS}\n",
         2,
     ),
     Run(
         "no dump",
-        ["vcd-to-bits", "--format=vcd", "clk", "dat"],
+        ["recording-to-bits", "--format=vcd", "clk", "dat"],
         b"01111110",
         b"",
-        "vcd-to-bits: the input is no value change dump: it has no $enddefinitions\n",
+        "recording-to-bits: the input is no value change dump: it has no $enddefinitions\n",
         2,
     ),
 ]
@@ -223,7 +221,7 @@ def vcd_through_sigrok(folder: Path) -> List[str]:
     dumped.write_bytes(plain_dump(bits))
     written_by(["sigrok-cli", "-i", dumped, "-I", "vcd", "-o", session])
     written = written_by(["sigrok-cli", "-i", session, "-O", "vcd"])
-    got = ran(["vcd-to-bits", "clk", "dat"], written)
+    got = ran(["recording-to-bits", "clk", "dat"], written)
     return [] if got.stdout == lines(bits) else [f"got {got.stdout[:99]!r}.. {got.stderr!r}"]
 
 

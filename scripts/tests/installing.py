@@ -55,6 +55,9 @@ def left_in(folder: Path) -> List[str]:
     return sorted(str(path.relative_to(folder)) for path in folder.rglob("*"))
 
 
+PROGRAMS = {"port1", "port1-sample"}
+
+
 def environment(binaries: Path) -> Dict[str, str]:
     return {"PATH": f"{binaries}:{os.environ.get('PATH', os.defpath)}", "LC_ALL": "C"}
 
@@ -68,7 +71,7 @@ def wrote(command: str, binaries: Path, folder: Path) -> bytes:
 
 def problems_of_scripts(binaries: Path, folder: Path) -> List[str]:
     """Whether each script is a link in bin that leads to a script beside, and tells its help from another folder."""
-    found = sorted(path.name for path in binaries.iterdir() if path.name != "port1")
+    found = sorted(path.name for path in binaries.iterdir() if path.name not in PROGRAMS)
     problems = [] if found == scripts() else [f"in bin there are {found}"]
     for name in found:
         problems += [f"{name}: not a relative link"] if os.readlink(binaries / name).startswith("/") else []
@@ -114,7 +117,7 @@ def problems_of_files(prefix: Path) -> List[str]:
 # What is written when it is installed, and what is built.
 MADE = {
     *["lib/pkgconfig/port1.pc", "lib/cmake/port1/port1Config.cmake", "lib/cmake/port1/port1ConfigVersion.cmake"],
-    *["bin/port1", "lib/libport1_c.a", "lib/libport1.so", "lib/libport1.so.2", "share/port1/page/port1.html"],
+    *["bin/port1", "bin/port1-sample", "lib/libport1_c.a", "lib/libport1.so", "lib/libport1.so.2", "share/port1/page/port1.html"],
     "share/port1/examples",
 }
 
@@ -150,7 +153,7 @@ def problems_of_modes(prefix: Path) -> List[str]:
     for path in prefix.rglob("*"):
         if path.is_symlink():
             continue
-        is_run = path.is_dir() or path == prefix / "bin" / "port1" or path.read_bytes().startswith(b"#!")
+        is_run = path.is_dir() or path.parent == prefix / "bin" or path.read_bytes().startswith(b"#!")
         mode = oct(path.stat().st_mode & 0o7777)
         problems += [] if mode == ("0o755" if is_run else "0o644") else [f"{path.relative_to(prefix)}: mode {mode}"]
     return problems

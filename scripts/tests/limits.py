@@ -161,10 +161,12 @@ def compares_with_an_earlier_run(folder: Path) -> List[str]:
     for within, status in (("19", 1), ("20", 0)):
         got = ran(["bus-limits", f"--baseline={slow}", f"--within={within}", loose, f"a={slower}"])
         found += [] if got.returncode == status else [f"within {within}: {got.returncode}, {got.stdout!r}"]
-    strange = wrote(folder, "strange.json", b'{"units": [{"name": "a", "statistics": {"kinds": 1}}]}')
-    got = ran(["bus-limits", f"--baseline={strange}", loose, f"a={good}"])
-    told = f"bus-limits: a: {strange} has no statistics of a\n".encode()
-    return found + ([] if (got.returncode, got.stderr) == (2, told) else [f"strange: {got.stderr!r}"])
+    for kinds in (b"1", b'[{"station": 1, "type": 1}]'):
+        strange = wrote(folder, "strange.json", b'{"units": [{"name": "a", "statistics": {"kinds": ' + kinds + b"}}]}")
+        got = ran(["bus-limits", f"--baseline={strange}", loose, f"a={good}"])
+        told = f"bus-limits: a: {strange} has no statistics of a\n".encode()
+        found += [] if (got.returncode, got.stderr) == (2, told) else [f"strange: {got.stderr!r}"]
+    return found
 
 
 def names_faults(folder: Path) -> List[str]:

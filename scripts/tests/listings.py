@@ -90,6 +90,10 @@ The listing is empty: nothing is known of the bus. Where a fault was told, mend 
 
 RATE_USAGE = "usage: {0} [-h] [--rate RATE]{2}\n{0}: error: --rate: \"{1}\" is no whole number above 0\n"
 
+MORE_USAGE = " [--dictionary FILE] [--bits BITS] [--begin TIME] [--json]"
+
+NOT_OURS = "dictionary: version is not 1 or 2"
+
 NO_TYPE = "the listing has no frame of a type"
 
 DRAFT_USAGE = "usage: draft-dictionary [-h]\ndraft-dictionary: error: x.txt is one word too many\n"
@@ -134,7 +138,8 @@ RUNS = [
     Run("a wrong call", ["draft-dictionary", "x.txt"], b"", b"", DRAFT_USAGE, 2),
     Run("an empty listing", ["bus-summary"], b"", EMPTY),
     Run("no line", ["bus-summary"], b"8 9 open\n8 9\n", b"", bad_line("bus-summary", "8 9"), 2),
-    Run("no rate", ["bus-summary", "--rate=-1"], b"", b"", RATE_USAGE.format("bus-summary", "-1", " [--json]"), 2),
+    Run("no dictionary", ["bus-summary", "--dictionary", "/dev/null"], b"", b"", f"bus-summary: {NOT_OURS}\n", 2),
+    Run("no rate", ["bus-summary", "--rate=-1"], b"", b"", RATE_USAGE.format("bus-summary", "-1", MORE_USAGE), 2),
 ]
 
 
@@ -206,6 +211,7 @@ NONE_SENT = "Nothing damaged lay within, but other frames: it seems that none we
 def gaps_in_order(_: Path) -> List[str]:
     """The longest gap against the usual one comes first, and gaps of a kind are counted, also those at both ends."""
     listing = Listing()
+    listing.answer(16, 0, 200)
     for number in range(100):
         if number not in (20, 21, 22, 40):
             listing.command(16, 0, number * 15360)
@@ -240,6 +246,8 @@ def gap_of_a_line_at_rest(_: Path) -> List[str]:
 def uneven_polls(_: Path) -> List[str]:
     """Commands two by two are how the bus is, and no fault; a gap among them is one all the same."""
     even, holed = Listing(), Listing()
+    for listing in (even, holed):
+        listing.answer(16, 0, 200)
     for number in range(60):
         for first in (number * 15360, number * 15360 + 1536):
             even.command(16, 0, first)
@@ -256,6 +264,7 @@ def gap_among_few(_: Path) -> List[str]:
     problems = []
     for count, told in [(4, True), (3, False)]:
         listing = Listing()
+        listing.answer(16, 0, 200)
         for first in [0, 15360, 107520, 122880][:count]:
             listing.command(16, 0, first)
         got = [text.partition(" from")[0] for text in sentences_of(summary_of(listing.octets()))]
@@ -288,7 +297,8 @@ def silent_and_missing(_: Path) -> List[str]:
         "Station 2 answered none of 12 commands of type 1 (call), but others.",
         "Station 4 is silent: it answered none of 12 commands, of type 1 (call). In place of the answer came 12 times"
         " another one, last of station 4, type 129, length.",
-        "Station 3 gave no answer to 4 of 12 commands of type 1 (call), 3 in a row from 0.726 s on.",
+        "Station 3 gave no answer to 4 of 12 commands of type 1 (call), at 0.226, 0.726, 0.826 and 0.926 s, 3 in a row"
+        " from 0.726 s on.",
         "12 frames of another length than in the dictionary, most of station 4 type 129: 12.",
         "12 strays, frames of answers to no command, most of station 4 type 129: 12.",
     ]
@@ -312,7 +322,8 @@ def late_and_spoilt(_: Path) -> List[str]:
     listing.command(2, 1, 10 * 15360)
     listing.verdict("pending", 2, 1, 10 * 15360)
     wanted = [
-        "Station 2 answered 2 of 10 commands of type 1 (call) late: after 40 to 50 ms; in time after 10 to 100 ms.",
+        "Station 2 answered 2 of 10 commands of type 1 (call) late, at 0.300 and 0.400 s: after 40 to 50 ms; in time"
+        " after 10 to 100 ms.",
         "Of station 3's answers to 10 commands of type 1 (call) 3 may have been spoilt: damage came first (1 on line 1"
         " and 2 on line 2).",
         "3 pieces are damaged; see below.",
@@ -321,6 +332,51 @@ def late_and_spoilt(_: Path) -> List[str]:
     problems = differing(wanted, sentences_of(summary), "sentences")
     problems += differing(["11", "8", "2", "0", "0", "20.0"], table_of(summary)[2, 1][:6], "late")
     return problems + differing(["10", "7", "0", "0", "3", "30.0"], table_of(summary)[3, 1][:6], "spoilt")
+
+
+def rounds_of(count: int, quiet: Sequence[int] = (), unanswered: Sequence[int] = ()) -> Listing:
+    """Rounds of 100 ms in which two stations are asked; in some none is, and in some none answers."""
+    listing = Listing()
+    for number in range(count):
+        for station in (1, 2) if number not in quiet else ():
+            first = number * 15360 + station * 1536
+            if number in unanswered:
+                listing.command(station, 1, first)
+                listing.verdict("missing", station, 1, first)
+            else:
+                listing.exchange(station, 1, first, 100)
+    return listing
+
+
+def one_cause_one_sentence(_: Path) -> List[str]:
+    """A silence of the controller, of all stations, and of the whole bus until the recording ends: a sentence each."""
+    quiet = rounds_of(50, quiet=range(20, 23)).octets()
+    mute = rounds_of(50, unanswered=range(25, 50)).octets()
+    apart = [
+        "No command was sent to any station for 390 ms from 1.920 s on, of 2 types that otherwise come regularly.",
+        "No station answered from 2.510 s on: 50 commands in a row, to 2 stations.",
+    ]
+    problems = differing(apart[:1], sentences_of(summary_of(quiet)), "no command")
+    problems += differing(apart[1:], sentences_of(summary_of(mute)), "no answer")
+    dead = sentences_of(summary_of(rounds_of(50).octets(), "--bits", str(10 * RATE)))
+    wanted = "Nothing came on either line from 4.921 s until the recording ends at 10.000 s, for 5.1 s."
+    return problems if [text.partition(" Before")[0] for text in dead] == [wanted] else [*problems, f"dead: {dead}"]
+
+
+def windows_of_a_dictionary(folder: Path) -> List[str]:
+    """Without a window nothing can be late: all is well only where each type that is answered has one."""
+    listing, dictionary = rounds_of(20).octets(), folder / "windows.toml"
+    head = 'version = 2\n[[frame]]\ntype = 1\nname = "call"\nlength = 0\nanswered = true\n'
+    answer = '[[frame]]\ntype = 129\nname = "reply"\nlength = 0\n'
+    problems = []
+    for window, wanted in [
+        ("window = 460\n", "Nothing is wrong: nothing is damaged, missing, spoilt or late,"),
+        ("", "No reply was judged late: the dictionary has no window."),
+    ]:
+        dictionary.write_text(head + window + answer, encoding="ascii")
+        told = summary_of(listing, "--dictionary", str(dictionary))
+        problems += [] if wanted in told else [f"{window!r}: {told}"]
+    return problems
 
 
 def exchanged_lines(_: Path) -> List[str]:
@@ -337,6 +393,7 @@ def many_of_one_sort(_: Path) -> List[str]:
     for station in range(20):
         listing.command(station, 1, station * 1000)
         listing.verdict("missing", station, 1, station * 1000)
+    listing.answer(16, 0, 29_000)
     listing.command(30, 1, 30_000)
     listing.verdict("pending", 30, 1, 30_000)
     summary = summary_of(listing.octets())
@@ -345,6 +402,44 @@ def many_of_one_sort(_: Path) -> List[str]:
     problems += differing("And 14 more of this sort; the table has them.", told[-1] if told else "", "the last")
     is_told = "\n1 command at the end still waits for an answer.\n" in summary
     return problems if is_told else [*problems, "the pending command is not told"]
+
+
+def answer_without_its_command(_: Path) -> List[str]:
+    """A recording that begins between a command and its answer has no stray; one later has, and one after damage."""
+    problems = []
+    for before, strays in ((0, 0), (1, 1), (2, 1)):
+        listing = Listing()
+        if before == 1:
+            listing.exchange(16, 0, 20, 100)
+        elif before == 2:
+            listing.damage(1, 20)
+        listing.answer(16, 0, 1000)
+        listing.texts.append("2 1000 1041 stray station 16 type 128")
+        listing.exchange(16, 0, 2000, 100)
+        told = [text for text in sentences_of(summary_of(listing.octets())) if "stray" in text]
+        problems += differing(strays, len(told), f"strays, {before}")
+    return problems
+
+
+def times_of_day(_: Path) -> List[str]:
+    """With the time of place 0, sentences, table and damage have times of day, and what is on another day its date."""
+    listing = good_listing()
+    for number in range(3):
+        listing.command(9, 1, (600 + number) * RATE)
+        listing.verdict("missing", 9, 1, (600 + number) * RATE)
+    text = listing.octets()
+    problems = []
+    for begin, wanted in (
+        ("2026-11-27T03:00:00Z", ("It begins on 2026-11-27 03:00:00.000 UTC.", "from 03:00:00.030 on", " 03:10:00.000")),
+        ("2026-11-27T23:55:00.5+01:00", ("It begins on 2026-11-27 23:55:00.500.", "from 23:55:00.530 on", " 2026-11-28 00:05:00.500")),
+        ("2026-11-27T03:00", ("It begins on 2026-11-27 03:00:00.000.", "from 03:00:00.030 on", " 03:10:00.000")),
+    ):
+        got = ran(["bus-summary", "--begin", begin], text, env={**os.environ, "TZ": "America/New_York"}).stdout.decode()
+        plain = " ".join(got.split())
+        problems += [f"{begin}: no {part!r} in {plain[:600]}" for part in wanted if part not in plain]
+    got_wrong = ran(["bus-summary", "--begin", "yesterday"], text)
+    is_told = b'--begin: "yesterday" is no time as' in got_wrong.stderr and got_wrong.returncode == 2
+    return problems if is_told else [*problems, f"yesterday: {got_wrong.stderr!r}"]
 
 
 def quantile(times: Sequence[int], percent: int) -> int:
@@ -420,8 +515,8 @@ MONITOR = re.compile(
 )
 
 LATE = re.compile(
-    r"Station 2 answered 8 of 25 commands of type 1 \(poll\) late: after ([\d.]+) to ([\d.]+) ms; in time after"
-    r" ([\d.]+) to ([\d.]+) ms\."
+    r"Station 2 answered 8 of 25 commands of type 1 \(poll\) late, at ([\d., and]+) s: after ([\d.]+) to ([\d.]+) ms;"
+    r" in time after ([\d.]+) to ([\d.]+) ms\."
 )
 
 
@@ -445,8 +540,10 @@ def problems_of_late(text: str) -> List[str]:
     late = [command.reply_bits for command in told if command.fate == "late"]
     in_time = [command.reply_bits for command in told if command.fate == "answered"]
     wanted = [min(late), max(late), min(in_time), max(in_time)]
-    good = found is not None and len(late) == 8 and all(near(part, bits) for part, bits in zip(found.groups(), wanted))
-    return [] if good else [f"late: {text}"]
+    begins = [f"{command.first / RATE:.3f}" for command in told if command.fate == "late"]
+    if found is None or re.split(", | and ", found[1]) != begins or len(late) != 8:
+        return [f"late: {text}"]
+    return [] if all(near(part, bits) for part, bits in zip(found.groups()[1:], wanted)) else [f"late: {text}"]
 
 
 def summary_of_example(_: Path) -> List[str]:
@@ -596,8 +693,12 @@ TESTS = [
     gap_among_few,
     silent_and_missing,
     late_and_spoilt,
+    one_cause_one_sentence,
+    windows_of_a_dictionary,
     exchanged_lines,
     many_of_one_sort,
+    answer_without_its_command,
+    times_of_day,
     reply_times,
     damage_in_time,
     example_is_generated,

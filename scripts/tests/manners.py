@@ -40,11 +40,19 @@ CALLS: Dict[str, Call] = {
     "pack-bits": Call([], BITS),
     "recording-to-bits": Call(["0", "1"], bytes([0, 1, 2, 3]) * 200_000),
     "unpack-bits": Call([], b"TS2BITS1" + (8_000_000).to_bytes(8, "little") + bytes(1_000_000)),
-    "vcd-to-bits": Call(["0", "1"], bytes([0, 1, 2, 3]) * 200_000),
 }
 
 # Scripts that are given a file in their words, and the words after it.
-FILES: Dict[str, List[str]] = {"bus-limits": ["unit=unit.list"], "check-dictionary": [], "list-in-parts": []}
+FILES: Dict[str, List[str]] = {
+    "bus-limits": ["unit=unit.list"],
+    "bus-report": ["nowhere"],
+    "bus-watch": ["--dictionary", "no-such-file.toml"],
+    "check-dictionary": [],
+    "list-in-parts": [],
+}
+
+# Scripts that another program calls.
+CALLED = {"port1-extcap"}
 
 RUNS: List[Run] = []
 
@@ -62,6 +70,7 @@ def called(name: str, words: List[Word], **options) -> "subprocess.CompletedProc
 # What is tested, and the modules whose tests run it: every script, and what stands elsewhere in the repository.
 MODULES: Dict[str, List[str]] = {
     "bus-limits": ["limits"],
+    "bus-report": ["reports"],
     "bus-summary": ["listings"],
     "by-definition": ["definitions"],
     "check-dictionary": ["dictionaries"],
@@ -73,21 +82,22 @@ MODULES: Dict[str, List[str]] = {
     "list-to-page": ["reports"],
     "list-to-pcap": ["wireshark"],
     "pack-bits": ["packing"],
-    "recording-to-bits": ["recordings"],
+    "recording-to-bits": ["recordings", "dumps"],
+    "bus-watch": ["watch"],
+    "port1-extcap": ["extcap"],
     "unpack-bits": ["packing"],
-    "vcd-to-bits": ["dumps"],
     "c/targets/build": ["targets"],
     "bindings/python": ["packages"],
     "bindings/sigrok": ["sigrok"],
 }
 
 # What the tests of the other modules share.
-SHARED = {"__init__", "cabinet", "case", "failing_bus"}
+SHARED = {"__init__", "cabinet", "case", "failing_bus", "watched"}
 
 
 def every_script_is_tested(_: Path) -> List[str]:
     """A new script needs its words in the tables above, and a module with tests that run it."""
-    problems = [f"{name} is in no table" for name in scripts() if name not in CALLS and name not in FILES]
+    problems = [f"{name} is in no table" for name in scripts() if name not in {*CALLS, *FILES, *CALLED}]
     problems += [f"{name} has no module" for name in scripts() if name not in MODULES]
     for name, modules in MODULES.items():
         for module in modules:
@@ -196,6 +206,23 @@ def nobody_reads(_: Path) -> List[str]:
     return problems
 
 
+def full_disk(_: Path) -> List[str]:
+    """Where a disk takes no more, one line says so, with status 2."""
+    problems = []
+    environment = {key: value for key, value in os.environ.items() if key != "PYTHONUNBUFFERED"}
+    for name, call in CALLS.items():
+        needs("node")
+        with open("/dev/full", "wb") as full, tempfile.TemporaryFile() as source:
+            source.write(call.stdin)
+            source.seek(0)
+            words = [SCRIPTS / name, *call.words]
+            output = {"stdout": full, "stderr": subprocess.PIPE, "env": environment}
+            got = subprocess.run(words, stdin=source, timeout=SECONDS, **output)
+        if not is_one_line(got, name):
+            problems.append(f"{name}: status {got.returncode}, {lines_of(got.stderr)}")
+    return problems
+
+
 TESTS = [
     every_script_is_tested,
     every_module_is_run,
@@ -204,4 +231,5 @@ TESTS = [
     folders_as_input,
     files_that_are_not_there,
     nobody_reads,
+    full_disk,
 ]

@@ -227,6 +227,49 @@ if decoder.open is not None:
     print(decoder.open, decoder.place, "open")
 """
 
+# Bits of one line as text, as `port1 list --bits --dict` lists them, the names of the dictionary aside.
+PAIRED = """import sys
+from port1 import *
+entries = {0: Entry(1, True, 40), 1: Entry(0, True), 9: Entry(2), 128: Entry(2), 129: Entry(1)}
+decoder, pairing = LineDecoder(max(3 + entry.length for entry in entries.values())), Pairing(entries)
+ends = {Standing.UNKNOWN: " unknown", Standing.WRONG_LENGTH: " length"}
+for report in filter(None, map(decoder.push, map(int, sys.stdin.read()))):
+    seen = pairing.take(report)
+    about = f" station {seen.station} type {seen.ftype}" + ends.get(seen.standing, "")
+    about = f" control {seen.control}" if seen.standing is Standing.OTHER_CONTROL else about
+    about = " untyped" if seen.standing is Standing.UNTYPED else about
+    print(f"{report}{about if seen.standing else ''}")
+    if seen.verdict:
+        print(seen.verdict)
+    if seen.is_stray:
+        print(report.first, report.past, "stray", "station", seen.station, "type", seen.ftype)
+if decoder.open is not None:
+    print(decoder.open, decoder.place, "open")
+if pairing.waiting:
+    first, past, station, ftype = pairing.waiting
+    print(first, past, "pending", "station", station, "type", ftype)
+for call in [lambda: Pairing({256: Entry(0)}), lambda: Pairing({0: Entry(256)}), lambda: pairing.take(report, 3),
+             lambda: pairing.take(Report(Kind.FRAME, 0, 24, None, b"abc"))]:
+    try:
+        call()
+    except OutOfRange as fault:
+        print(fault)
+"""
+
+PAIRED_REFUSES = """type 256 cannot have length 0 and window 0
+type 0 cannot have length 256 and window 0
+a line is 0, 1 or 2, not 3
+a frame has at least four octets, those of the check among them
+"""
+
+# The same entries, with names that a listing has nowhere else.
+PAIRED_DICTIONARY = "version = 2\n" + "".join(
+    f'[[frame]]\ntype = {ftype}\nname = "N{ftype}"\nlength = {length}\n{more}'
+    for ftype, length, more in [
+        *[(0, 1, "answered = true\nwindow = 40\n"), (1, 0, "answered = true\n"), (9, 2, ""), (128, 2, ""), (129, 1, "")],
+    ]
+)
+
 SENT = """import sys
 from port1 import LineEncoder
 encoder, out = LineEncoder(), sys.stdout.buffer
@@ -359,6 +402,39 @@ def longest_frames() -> str:
     return text
 
 
+def talk(generator: random.Random, count: int) -> str:
+    """Lines for `port1 encode`: commands, and what comes after them."""
+    texts = ["flag"] * 30
+    for _ in range(count):
+        kind = generator.choice([0, 1, 1, 2, 9])
+        station, length = generator.choice([1, 2, 255]), {0: 1, 9: 2}.get(kind, 0)
+        texts.append(f"frame {station:02x}83{kind:02x}{'5a' * (length + (generator.random() < 0.1))}")
+        texts += ["flag"] * generator.randrange(8) + ["idle"] * (generator.random() < 0.2)
+        answer = f"frame {station:02x}{generator.choice(['83', '83', '83', '13'])}{kind + 128:02x}{'a5' * {0: 2, 1: 1}.get(kind, 0)}"
+        texts += generator.choice([[answer], [answer], [], ["frame 0183"], [answer, answer]])
+        texts += ["flag"] * generator.randrange(4)
+    return "".join(f"{text}\n" for text in texts)
+
+
+def pairing_in_python(folder: Path) -> List[str]:
+    """It says of commands and answers what `port1 list` does: each standing, verdict and stray, and what waits."""
+    module = moved(folder) / "lib" / "python"
+    problems, seen = [], set()
+    for seed in range(4):
+        generator = random.Random(seed)
+        bits = list(encoded(talk(generator, 200)))
+        for _ in range(20):
+            bits[generator.randrange(len(bits))] = generator.choice("01")
+        words = [os.environ["PORT1"], "list", "--bits", f"--dict={PAIRED_DICTIONARY}"]
+        stdin = "".join(bits).encode()
+        wanted = subprocess.run(words, input=stdin, stdout=subprocess.PIPE, check=True, timeout=SECONDS).stdout.decode()
+        wanted = re.sub(r" N\d+$", "", wanted, flags=re.MULTILINE) + PAIRED_REFUSES
+        problems += unlike(f"{seed}", wanted.splitlines(), python(PAIRED, [], stdin, module).decode().splitlines())
+        seen |= set(wanted.split())
+    words = {"answered", "late", "missing", "spoilt", "stray", "pending", "unknown", "length", "control", "untyped", "idle"}
+    return problems or [f"no capture has {word}" for word in sorted(words - seen - {"pending"})]
+
+
 def encoder_in_python(folder: Path) -> List[str]:
     """It sends what `port1 encode` does."""
     module = moved(folder) / "lib" / "python"
@@ -454,6 +530,7 @@ TESTS: List[Test] = [
     without_shared_library,
     taken_away,
     decoder_in_python,
+    pairing_in_python,
     encoder_in_python,
     refusals_in_python,
     code_of_the_document,

@@ -34,7 +34,9 @@ GATE = f"== bus_fcs\nrt: bus_fcs proved\n{CLOSING}"
 # When the commit of the scratch repository was made, in seconds, and a time that is still to come.
 COMMITTED, TO_COME = 1700000000, 4102444800
 
-# The archives, and the page, where they are built.
+# The programs, the archives, and the page, where they are built.
+PROGRAM = "crates/port1/out/port1"
+SAMPLER = "crates/port1_sample/out/port1_sample"
 LIBRARY = "crates/port1_c/out/libport1_c.a"
 LIBRARY_FOR_ARM = "crates/port1_c/out/aarch64-unknown-linux-gnu/libport1_c.a"
 PAGE = "page/out/port1.html"
@@ -124,15 +126,17 @@ def repository(folder: Path) -> Path:
             shutil.copy2(TOP / name, folder / name)
     for words in (["add", "-A"], ["commit", "-q", "-m", "All"]):
         git(folder, *words)
-    program = folder / "crates/port1/out/port1"
-    program.parent.mkdir(parents=True, exist_ok=True)
-    shutil.copy2(os.environ["PORT1"], program)
+    for program, built in [(PROGRAM, os.environ["PORT1"]), (SAMPLER, TOP / SAMPLER)]:
+        (folder / program).parent.mkdir(parents=True, exist_ok=True)
+        shutil.copy2(built, folder / program)
     for name, compiler in [(LIBRARY, "cc"), (LIBRARY_FOR_ARM, shutil.which("aarch64-linux-gnu-gcc") or "cc")]:
         if (TOP / name).is_file():
             (folder / name).parent.mkdir(parents=True, exist_ok=True)
             shutil.copy2(TOP / name, folder / name)
         else:
             stand_in(folder / name, compiler)
+    for target in ("thumbv7m-none-eabi", "riscv32imac-unknown-none-elf"):
+        stand_in(folder / f"crates/port1_c/out/{target}/libport1_c.a", "cc")
     for name, text in {PAGE: "<!DOCTYPE html>\n<title>a page</title>\n", **OF_NO_SOURCE}.items():
         (folder / name).parent.mkdir(parents=True, exist_ok=True)
         (folder / name).write_text(text)
@@ -228,7 +232,7 @@ def one_version(folder: Path) -> List[str]:
 def packages_by_name(_: Path) -> List[str]:
     """The files in dist, and that SHA256SUMS is of all others."""
     wanted = ["SHA256SUMS", f"libport1-dev_{version()}_amd64.deb", f"libport1-dev_{version()}_arm64.deb"]
-    wanted += [tarball().name, f"port1_{version()}_amd64.deb"]
+    wanted += [f"port1-{version()}.html", tarball().name, f"port1-boards-{version()}.tar.gz", f"port1_{version()}_amd64.deb"]
     files = sorted((scratch() / "dist").iterdir())
     sums = [f"{hashlib.sha256(file.read_bytes()).hexdigest()}  {file.name}" for file in files[1:]]
     problems = unlike("dist", wanted, [file.name for file in files])
@@ -245,6 +249,20 @@ def without_arm(folder: Path) -> List[str]:
     problems = unlike("packages", names, [*left])
     told_of = entries(left[names[0]])["usr/share/doc/libport1-dev/PROVED-BY"].octets
     return problems + unlike("what PROVED-BY tells of 64-bit ARM", False, b"ARM" in told_of)
+
+
+def contents_for_boards(_: Path) -> List[str]:
+    """The archives for boards that are there, header and examples, and the page by itself."""
+    top, name = scratch(), f"port1-boards-{version()}"
+    got = {path[len(name) + 1 :]: it.octets for path, it in files_of(top / "dist" / f"{name}.tar.gz").items()}
+    archives = {f"{target}/libport1_c.a" for target in ("thumbv7m-none-eabi", "riscv32imac-unknown-none-elf")}
+    examples = {f"examples/{name}" for name in told(["git", "-C", top / "c/examples", "ls-files"]).split()}
+    problems = unlike("boards", sorted({"include/port1.h", "PROVED-BY", *archives, *examples}), sorted(got))
+    problems += [] if b"not proved" in got["PROVED-BY"] else ["PROVED-BY does not say that they are not proved"]
+    for name in archives:
+        problems += [] if got[name] == (top / "crates/port1_c/out" / name).read_bytes() else [f"{name} is another"]
+    page = (top / "dist" / f"port1-{version()}.html").read_bytes() == (top / PAGE).read_bytes()
+    return problems + ([] if page else ["the page is another"])
 
 
 def contents_of_tarball(folder: Path) -> List[str]:
@@ -275,9 +293,10 @@ def contents_of_program(_: Path) -> List[str]:
     names = {name[len(top) :] for name in files_of(tarball())}
     wanted = {f"usr/{RENAMED.get(name, name)}" for name in names if not name.startswith(library)}
     wanted |= {"usr/share/doc/port1/changelog.gz", "usr/share/lintian/overrides/port1"}
+    wanted |= {"usr/lib/x86_64-linux-gnu/wireshark/extcap/port1-extcap"}
     files = files_of(packages()["port1_amd64.deb"])
     problems = unlike("files", sorted(wanted), sorted(files))
-    program = files["usr/bin/port1"].octets == (scratch() / "crates/port1/out/port1").read_bytes()
+    program = files["usr/bin/port1"].octets == (scratch() / PROGRAM).read_bytes()
     return problems + unlike("the program is the one that was built", True, program)
 
 
@@ -304,7 +323,7 @@ def everything(package: Path, seconds: int) -> List[str]:
     """Whether modes, owners and times are as they have to be."""
     problems = []
     for name, it in entries(package).items():
-        runs = name.endswith("bin/port1") or "/share/port1/contrib/" in f"/{name}" and it.octets.startswith(b"#!")
+        runs = name.endswith(("bin/port1", "bin/port1-sample")) or "/share/port1/contrib/" in f"/{name}" and it.octets.startswith(b"#!")
         modes = {"folder": 0o755, "link": 0o777, "file": 0o755 if runs else 0o644}
         problems += unlike(f"{name}: mode", oct(modes.get(it.kind, 0)), oct(it.mode))
         problems += unlike(f"{name}: owner and time", ("0 0", seconds), (it.owner, it.seconds))
@@ -313,14 +332,15 @@ def everything(package: Path, seconds: int) -> List[str]:
 
 def modes_and_owners(_: Path) -> List[str]:
     """All is of root; folders and programs have 755, other files 644; all times are that of the commit."""
-    found = {path.name: everything(path, COMMITTED) for path in [tarball(), *packages().values()]}
+    boards = scratch() / "dist" / f"port1-boards-{version()}.tar.gz"
+    found = {path.name: everything(path, COMMITTED) for path in [tarball(), boards, *packages().values()]}
     return [f"{name}: {problem}" for name, problems in found.items() for problem in problems]
 
 
 def another_time(folder: Path) -> List[str]:
     """SOURCE_DATE_EPOCH stands in place of the time of the commit, and may be later than today."""
     made = make_dist(repository(folder / "repository"), SOURCE_DATE_EPOCH=str(TO_COME))
-    found = {path.name: everything(path, TO_COME) for path in made.iterdir() if path.name != "SHA256SUMS"}
+    found = {path.name: everything(path, TO_COME) for path in made.iterdir() if path.suffix in (".gz", ".deb")}
     return [f"{name}: {problem}" for name, problems in found.items() for problem in problems]
 
 
@@ -506,6 +526,7 @@ TESTS: List[Test] = [
     packages_by_name,
     without_arm,
     contents_of_tarball,
+    contents_for_boards,
     contents_of_program,
     contents_of_libraries,
     modes_and_owners,

@@ -9,9 +9,9 @@ import random
 import re
 from datetime import datetime
 from pathlib import Path
-from typing import List, NamedTuple
+from typing import List, NamedTuple, Sequence
 
-from tests.case import DICTIONARY, SCRIPTS, Run, Test, ran
+from tests.case import DICTIONARY, SCRIPTS, Run, Test, Word, ran
 
 PAGE = SCRIPTS / "tests" / "page.html"
 
@@ -137,4 +137,50 @@ def refuses_other_lines(_: Path) -> List[str]:
     return [] if (got.returncode, got.stderr.decode()) == (2, told) else [f"{got.returncode}: {got.stderr!r}"]
 
 
-TESTS: List[Test] = [holds_the_listing, tells_what_it_is_given, tells_of_the_recording, refuses_other_lines]
+# What `port1 list --arrivals` says of the example of four wires, by how it was made (tests/recordings.py).
+FOUR_WIRES = """1 0 15 idle
+1 48 89 frame 108300fde5 station 16 type 0 call
+1 97 112 idle
+2 124 165 frame 108380f561 station 16 type 128 reply
+1 48 89 answered station 16 type 0
+"""
+
+EXAMPLES = SCRIPTS.parent / "examples"
+
+
+def made_by(folder: Path, words: Sequence[Word], status: int, told: str) -> List[str]:
+    """What is wrong with a report of a recording, which is to end so."""
+    got = ran(["bus-report", *words])
+    problems = [] if got.returncode == status else [f"{words}: status {got.returncode}"]
+    problems += [] if told in got.stderr.decode() else [f"{words}: {told!r} is not in {got.stderr.decode()!r}"]
+    if got.stdout:
+        is_shown = (folder / "summary.txt").read_bytes() == got.stdout
+        problems += [] if is_shown else [f"{words}: the summary is not what is shown"]
+    return problems
+
+
+def report_of_a_recording(folder: Path) -> List[str]:
+    """All of a report in one folder, with a dictionary and with a draft; channels by name, or named."""
+    wires, dictionary = EXAMPLES / "four-wires.csv", EXAMPLES / "call-and-reply.toml"
+    given, drafted, one, cut = (folder / name for name in ("given", "drafted", "one", "cut"))
+    problems = made_by(given, [f"--dictionary={dictionary}", wires, given], 0, "TXC has 197 edges, RXC has 57 edges")
+    problems += made_by(given, [wires, given], 2, f"bus-report: {given} is there, and not empty\n")
+    problems += made_by(drafted, ["--title=A cabinet", wires, drafted], 0, "channels TXC, TXD, RXC, RXD\n")
+    problems += made_by(one, [EXAMPLES / "one-call.vcd", one], 2, "which channels are TXC, TXD, RXC and RXD? There are: clk, dat")
+    problems += ["a folder was made in vain"] if one.exists() else []
+    problems += made_by(one, [EXAMPLES / "one-call.vcd", one, "clk", "dat"], 0, "clk has 57 edges")
+    table = folder / "cut.csv"
+    table.write_bytes(wires.read_bytes()[:-4])
+    problems += made_by(cut, [f"--dictionary={dictionary}", table, cut], 2, "the recording ends within row ")
+    wanted = {given: FOUR_WIRES, drafted: FOUR_WIRES.replace("call", "type0").replace("reply", "type128")}
+    wanted.update({cut: FOUR_WIRES, one: "8 49 frame 108300fde5 station 16 type 0 type0\n"})
+    for made, listing in wanted.items():
+        found = (made / "listing.txt").read_text(encoding="ascii")
+        problems += [] if found == listing else [f"{made.name}: the listing is {found!r}"]
+    copied = (given / "cabinet.toml").read_bytes() == dictionary.read_bytes()
+    return problems + ([] if copied else ["the dictionary is another"])
+
+
+TESTS: List[Test] = [
+    *[holds_the_listing, tells_what_it_is_given, tells_of_the_recording, refuses_other_lines, report_of_a_recording],
+]

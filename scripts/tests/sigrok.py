@@ -9,7 +9,7 @@ from pathlib import Path
 from typing import List, NamedTuple, Sequence, Tuple
 
 from needs import Skipped, needs
-from tests.case import CALL, DICTIONARY, REPLY, SECONDS, TOP, WINDOWS
+from tests.case import CALL, DICTIONARY, REPLY, SCRIPTS, SECONDS, TOP, WINDOWS
 from tests.case import Run, Word, listed, plain, random_bits
 
 RUNS: List[Run] = []
@@ -567,6 +567,27 @@ def installed(folder: Path) -> List[str]:
     return [f"left: {path}" for path in left] + ([] if got.stdout == wanted else [f"{got.stdout}{got.stderr}"])
 
 
+def without_a_terminal(_: Path) -> List[str]:
+    """The recorder's line of each paper, with sigrok's made-up analyser, gives bits where there is no terminal."""
+    needs("sigrok-cli", "node")
+    problems = []
+    for paper in ("COOKBOOK", "WATCH"):
+        text = (TOP / "docs" / f"{paper}.md").read_text(encoding="utf-8")
+        form = r"^    (tail .*\| )?(?:timeout \d+ )?(sigrok-cli -d fx2lafw.*) \|\n *(recording-to-bits [^|]*) \|"
+        found = re.search(form, text, re.MULTILINE)
+        if found is None:
+            problems.append(f"{paper}: no line")
+            continue
+        keep, recorder, script = found[1] or "", found[2].replace("fx2lafw", "demo"), SCRIPTS / found[3]
+        line = f"{keep}timeout 3 {recorder} | {script} --format binary"
+        pipes = {"stdin": subprocess.DEVNULL, "stdout": subprocess.PIPE, "stderr": subprocess.PIPE}
+        bits = subprocess.Popen(["sh", "-c", line], **pipes)
+        out, err = bits.communicate(timeout=SECONDS)
+        if not out.strip():
+            problems.append(f"{paper}: no bits: {err.decode()[:200]}")
+    return problems
+
+
 TESTS = [
     pieces_of_one_line,
     falling_edge,
@@ -585,4 +606,5 @@ TESTS = [
     dump_of_the_examples,
     faults,
     installed,
+    without_a_terminal,
 ]

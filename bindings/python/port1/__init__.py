@@ -1,11 +1,14 @@
-"""Frames of a synchronous HDLC line from its bits, and bits from frames, by the C library of port1.
+"""Frames of a synchronous HDLC line from its bits, what answered them, and bits from frames, by the C library of port1.
 
-    from port1 import Kind, LineDecoder, LineEncoder
+    from port1 import Entry, Kind, LineDecoder, LineEncoder, Pairing
 
     decoder = LineDecoder(longest=256, origin=0)
     for report in decoder.feed(octets):
         if report.kind is Kind.FRAME:
             handle(report.octets)
+
+    pairing = Pairing({0: Entry(length=0, answered=True, window=460), 128: Entry(length=2)})
+    print(pairing.take(report).verdict)
 
     encoder = LineEncoder()
     sent = encoder.flag() + encoder.frame(b"\\x10\\x83\\x00") + encoder.flag() + encoder.end()
@@ -25,19 +28,26 @@ import os
 from enum import IntEnum
 from functools import lru_cache
 from pathlib import Path
-from typing import Any, Iterator, List, NamedTuple, Optional, Tuple, Union
+from typing import Any, Iterator, List, Mapping, NamedTuple, Optional, Tuple, Union
 
 __all__ = [
     "BadState",
     "Cause",
+    "Command",
+    "Entry",
     "Fault",
     "Kind",
     "LineDecoder",
     "LineEncoder",
     "NoLibrary",
+    "Outcome",
     "OutOfRange",
+    "Pairing",
     "PlaceLimit",
     "Report",
+    "Seen",
+    "Standing",
+    "Verdict",
 ]
 
 # The version of the library that this came with.
@@ -51,6 +61,9 @@ OK, BAD_LENGTH, PLACE_LIMIT, BAD_STATE, BAD_ARGUMENT, NO_ROOM = range(6)
 # Octets of a frame, address through information: of the longest frame of a decoder, and of one that is sent.
 SHORTEST_LONGEST, LONGEST = 3, 256
 SHORTEST_SENT = 2
+
+# Frame types.
+TYPES = 256
 
 # The place that no bit has, and none after it.
 PLACES = 1 << 60
@@ -118,6 +131,66 @@ class Report(NamedTuple):
         return " ".join(words)
 
 
+class Standing(IntEnum):
+    """How a frame stands to the entries."""
+
+    OTHER_CONTROL = 1
+    UNTYPED = 2
+    UNKNOWN = 3
+    WRONG_LENGTH = 4
+    KNOWN = 5
+
+
+class Outcome(IntEnum):
+    """What became of a command."""
+
+    ANSWERED = 1
+    LATE = 2
+    MISSING = 3
+    SPOILT = 4
+
+
+class Entry(NamedTuple):
+    """What is known of a frame type: the octets after it, the check aside; whether commands are answered; and within how
+    many bits the answer is to begin, 0 for no limit."""
+
+    length: int
+    answered: bool = False
+    window: int = 0
+
+
+class Command(NamedTuple):
+    """A command: its bits from `first` to just before `past`, its station and its frame type."""
+
+    first: int
+    past: int
+    station: int
+    ftype: int
+
+
+class Verdict(NamedTuple):
+    """What became of which command. Its `str` is the line that `port1 list` writes."""
+
+    outcome: Outcome
+    command: Command
+
+    def __str__(self) -> str:
+        first, past, station, ftype = self.command
+        return f"{first} {past} {self.outcome.name.lower()} station {station} type {ftype}"
+
+
+class Seen(NamedTuple):
+    """What follows from a report: of a frame its standing, its station, and its type or control octet where it has one;
+    the verdict on the command that waited; and whether the frame is an answer to no command."""
+
+    standing: Optional[Standing]
+    station: Optional[int]
+    ftype: Optional[int]
+    control: Optional[int]
+    verdict: Optional[Verdict]
+    is_stray: bool
+
+
 class LineState(ctypes.Structure):
     """struct port1_line."""
 
@@ -156,8 +229,54 @@ class SenderState(ctypes.Structure):
     _fields_ = [("behind_flag", ctypes.c_uint32)]
 
 
+class EntryState(ctypes.Structure):
+    """struct port1_entry."""
+
+    _fields_ = [
+        ("known", ctypes.c_uint8),
+        ("length", ctypes.c_uint8),
+        ("answered", ctypes.c_uint8),
+        ("spare", ctypes.c_uint8),
+        ("window", ctypes.c_uint32),
+    ]
+
+
+class PairState(ctypes.Structure):
+    """struct port1_pair."""
+
+    _fields_ = [
+        ("first", ctypes.c_uint64),
+        ("past", ctypes.c_uint64),
+        ("waits", ctypes.c_uint32),
+        ("station", ctypes.c_uint8),
+        ("ftype", ctypes.c_uint8),
+        ("spare", ctypes.c_uint16),
+    ]
+
+
+class SeenState(ctypes.Structure):
+    """struct port1_seen."""
+
+    _fields_ = [
+        ("standing", ctypes.c_uint32),
+        ("verdict", ctypes.c_uint32),
+        ("first", ctypes.c_uint64),
+        ("past", ctypes.c_uint64),
+        ("stray", ctypes.c_uint32),
+        ("station", ctypes.c_uint8),
+        ("control", ctypes.c_uint8),
+        ("ftype", ctypes.c_uint8),
+        ("command_station", ctypes.c_uint8),
+        ("command_type", ctypes.c_uint8),
+        ("spare", ctypes.c_uint8 * 7),
+    ]
+
+
 # The structures by their names in C, and their sizes there.
-STRUCTURES = {"port1_line": (LineState, 360), "port1_report": (ReportState, 24), "port1_sender": (SenderState, 4)}
+STRUCTURES = {
+    **{"port1_line": (LineState, 360), "port1_report": (ReportState, 24), "port1_sender": (SenderState, 4)},
+    **{"port1_entry": (EntryState, 8), "port1_pair": (PairState, 24), "port1_seen": (SeenState, 40)},
+}
 
 
 def places() -> Iterator[str]:
@@ -372,3 +491,55 @@ class LineEncoder:
             self._octets[0] = self._octets[full]
         self._at.value = rest
         return octets
+
+
+class Pairing:
+    """Pairs commands with their answers, by what is known of the frame types.
+
+    It is given each report of a line in order: of one line, `line` is 0. Of two lines it is 1 for the controller's, on
+    which commands wait, and 2 for that of the answers; the places of both count the same bits.
+    """
+
+    def __init__(self, entries: Mapping[int, Entry]):
+        self._entries = (EntryState * TYPES)()
+        for ftype, entry in entries.items():
+            length, answered, window = entry
+            if not (0 <= ftype < TYPES and 0 <= length < TYPES and 0 <= window < 1 << 32):
+                raise OutOfRange(f"type {ftype} cannot have length {length} and window {window}")
+            self._entries[ftype] = EntryState(1, length, int(answered), 0, window)
+        self._library = loaded()
+        self._state, self._seen = PairState(), SeenState()
+        status = self._library.port1_pair_init(ctypes.byref(self._state))
+        if status != OK:
+            raise refusal(status)
+
+    def take(self, report: Report, line: int = 0) -> Seen:
+        """Takes a report, and says what follows from it."""
+        if line not in (0, 1, 2):
+            raise OutOfRange(f"a line is 0, 1 or 2, not {line}")
+        given = ReportState(report.kind, report.cause or 0, report.first, report.past)
+        pointers = (ctypes.byref(self._state), self._entries, ctypes.c_uint64(TYPES), line, ctypes.byref(given))
+        octets = (report.octets, ctypes.c_uint64(len(report.octets)))
+        status = self._library.port1_pair_take(*pointers, *octets, ctypes.byref(self._seen))
+        if status == BAD_ARGUMENT:
+            raise OutOfRange("a frame has at least four octets, those of the check among them")
+        if status != OK:
+            raise refusal(status)
+        return self._found()
+
+    def _found(self) -> Seen:
+        seen = self._seen
+        command = Command(seen.first, seen.past, seen.command_station, seen.command_type)
+        verdict = Verdict(Outcome(seen.verdict), command) if seen.verdict else None
+        if not seen.standing:
+            return Seen(None, None, None, None, verdict, False)
+        standing = Standing(seen.standing)
+        control = seen.control if standing is Standing.OTHER_CONTROL else None
+        ftype = seen.ftype if standing > Standing.UNTYPED else None
+        return Seen(standing, seen.station, ftype, control, verdict, bool(seen.stray))
+
+    @property
+    def waiting(self) -> Optional[Command]:
+        """The command that waits for its answer."""
+        state = self._state
+        return Command(state.first, state.past, state.station, state.ftype) if state.waits else None

@@ -45,8 +45,3 @@ unfolding bits_from
 bits-taken os i n zero fewer = refl
 bits-taken os i zero (suc m) fewer = absurd (omega (arith, fewer))
 bits-taken os i (suc n) (suc m) fewer = rw (bits-taken os (i + 1) n m (omega (arith, fewer))) refl
-
--- all of them but the last
-pub front-from : (os : List ℕ) (i n : ℕ) → take (length (bits_from os i n) - 1) (bits_from os i n)
-    ≡ bits_from os i (n - 1)
-front-from os i n = rw (length-from os i n) (bits-taken os i n (n - 1) (omega arith))

@@ -1,6 +1,6 @@
 -- Captures of two lines with a clock each.
-use Rattle.std.proofs.Common.{◌≡◌, ℕ, ◌+◌, ◌-◌, ◌<◌, ◌≤◌, ◌^◌, Bool, true, false, List, [], ◌∷◌, ◌++◌, length, map}
-use Rattle.std.proofs.Common.{take, drop, Option, Some, Result, Ok, Err, MatchResult, refl, sym, ap, ◌∙◌, subst, arith}
+use Rattle.std.proofs.Common.{◌≡◌, ℕ, ◌+◌, ◌<◌, ◌≤◌, ◌^◌, Bool, List, [], ◌∷◌, ◌++◌, length, map}
+use Rattle.std.proofs.Common.{take, drop, Option, Result, Ok, Err, MatchResult, refl, sym, ap, ◌∙◌, subst, arith}
 use Rattle.std.proofs.Common.{append-nil, append_assoc}
 use Rattle.std.proofs.lemmas.List.{map-append, take-append-drop, length-drop}
 use Rattle.bus_bits.specs.Packed.{packed_arrival_capture, packed_arrival_whole, pair_body, arrival_head_fault}
@@ -9,8 +9,8 @@ use Rattle.bus_dictionary.specs.Entry.{FrameType}
 use Rattle.bus_pairing.specs.LineReport.{LineReport}
 use Rattle.bus_pairing.specs.Seen.{SeenReport, seen}
 use Rattle.bus_pairing.proofs.SeenLemmas.{seen-more}
-use Rattle.bus_watch.specs.Watch.{AdvancesWatch, AdvancesWatchShown}
-use Rattle.bus_clocks.specs.Arrival.{Arrival, own, arrived, decides}
+use Rattle.bus_watch.specs.Watch.{AdvancesWatchShown}
+use Rattle.bus_clocks.specs.Arrival.{Arrival, arrived, decides}
 use Rattle.bus_clocks.specs.Clocks.{IsAfterArrivals, bits_taken, two_clocks}
 use Rattle.bus_clocks.specs.Laws.{ArrivalsGrow}
 use Rattle.bus_clocks.specs.Rested.{IsRestAfter, comes_to_rest, rested, fill}

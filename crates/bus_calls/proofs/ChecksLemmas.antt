@@ -8,7 +8,7 @@ use Rattle.bus_bits.specs.Capture.{CaptureOf}
 use Rattle.bus_dictionary.specs.Entry.{FrameType}
 use Rattle.bus_pairing.specs.History.{history, tally}
 use Rattle.bus_watch.specs.Watch.{seen_by}
-use Rattle.bus_calls.specs.Captures.{Form, capture, whole_capture, reports_of_form, reports_seen, HasFault}
+use Rattle.bus_calls.specs.Captures.{Form, reports_of_form, reports_seen}
 use Rattle.bus_text.specs.CheckText.{check_text}
 use Rattle.bus_text.specs.Summary.{summary_of}
 use Rattle.bus_text.specs.Put.{Cuts}

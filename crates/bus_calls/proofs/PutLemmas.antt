@@ -1,11 +1,8 @@
 -- The lines of nothing.
-use Rattle.std.proofs.Common.{◌≡◌, ℕ, List, [], refl}
+use Rattle.std.proofs.Common.{◌≡◌, List, [], refl}
 use Rattle.bus_dictionary.specs.Entry.{FrameType}
-use Rattle.bus_text.specs.Adds.{Prints}
 use Rattle.bus_text.specs.Listing.{text_of, listing}
-use Rattle.bus_text.specs.declared.page.Page.{Page}
 use Rattle.bus_text.specs.declared.printer.Printer.{Printer}
-use Rattle.bus_text.proofs.ListingLemmas.{nothing-put}
 
 -- where nothing is seen there are no lines
 pub listing-nothing : (p : Printer) (d : List FrameType) → listing p d [] ≡ []

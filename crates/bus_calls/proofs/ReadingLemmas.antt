@@ -3,6 +3,7 @@ use Rattle.std.proofs.Common.{◌≡◌, ℕ, ◌<◌, Bool, true, false, List, 
 use Rattle.std.proofs.Common.{MatchResult, refl, sym, ap, ◌∙◌, subst, arith, append-nil, inl, inr}
 use Rattle.std.specs.Io.KnownBytes.{IsAtEnd}
 use Rattle.bus_dictionary.specs.Entry.{FrameType}
+use Rattle.bus_text.specs.declared.page.Page.{Page}
 use Rattle.bus_text.specs.declared.printer.Printer.{Printer}
 use Rattle.bus_bits.specs.Capture.{CaptureOf, CaptureFault, capped}
 use Rattle.bus_dictionary.specs.Dictionary.{longest_of}
@@ -13,7 +14,7 @@ use Rattle.bus_calls.specs.Internal.Kinds.{KindView, KindLaws}
 use Rattle.bus_text.specs.Summary.{summary_of}
 use Rattle.bus_text.specs.Pages.{Pages}
 use Rattle.bus_text.specs.Put.{Cuts}
-use Rattle.bus_calls.specs.Internal.Watching.{IsSound, Watches, IsCutOff, fed, lines, printed}
+use Rattle.bus_calls.specs.Internal.Watching.{IsSound, Watches, Feeds, IsCutOff, fed, lines, printed}
 use Rattle.bus_calls.specs.Internal.Sessions.{IsRead, IsReadBy, is_text, Follows, FollowsText, FollowsPacked, Stops}
 use Rattle.bus_calls.specs.Internal.Reading.{IsClean, IsFaulty, Finishes}
 use Rattle.bus_calls.specs.declared.run.CaptureRun.{CaptureRun}
@@ -93,6 +94,31 @@ packed-clean : {A R X B : Type 0} (kind : KindView A R X B) → KindLaws kind �
     (head : List ℕ) (body : Option B) (xs : List ℕ) → IsRead kind head body xs → (kind.form.packed xs).fault ≡ None
 packed-clean {A} {R} kind law head None xs read = ap (λ (c : CaptureOf R). c.fault) (law.form.short xs read.1).0
 packed-clean kind law head (Some body) xs read = law.clean body xs read
+
+-- what was read was followed still when the page has been written
+pub turned : {A R X B : Type 0} (kind : KindView A R X B) (start now later : Option (List ℕ)) (s : Source B)
+    (w : CaptureRun A) (page : Page) (xs : List ℕ)
+    → ((text : List ℕ) → Pages start now w.reporter.page.text w.reporter.page.written text →
+    Pages start later page.text page.written text) → Follows kind start now s w xs
+    → Follows kind start later s (record w { reporter = record w.reporter { page = page } }) xs
+turned {A} {R} {X} {B} kind start now later s w page xs turn = by-kind s
+  where
+    fed-on : (b : List R) → Feeds kind start now w b
+        → Feeds kind start later (record w { reporter = record w.reporter { page = page } }) b
+    fed-on b followed = record {
+      rule = followed.rule;
+      bits = record {
+        is_after = followed.bits.is_after;
+        counts = followed.bits.counts;
+        page = turn (lines kind w (fed kind w b)) followed.bits.page;
+      };
+    }
+
+    by-kind : (s : Source B) → Follows kind start now s w xs
+        → Follows kind start later s (record w { reporter = record w.reporter { page = page } }) xs
+    by-kind (source.Text text) followed =
+        record { at = followed.at; clean = followed.clean; bits = fed-on _ followed.bits }
+    by-kind (source.Packed p) followed = record { read = followed.read; bits = fed-on _ followed.bits }
 
 -- what was read has no fault, and its bits were followed
 pub record IsUnplaced {A R X B : Type 0} (kind : KindView A R X B) (text : Bool) (start now : Option (List ℕ))

@@ -1,6 +1,6 @@
 -- Packed captures, some octets more at a time.
-use Rattle.std.proofs.Common.{◌≡◌, ℕ, ◌-◌, ◌<◌, ◌≤◌, ◌^◌, false, List, [], ◌∷◌, ◌++◌, length, take, drop, get_or}
-use Rattle.std.proofs.Common.{Option, Some, Result, Ok, Err, MatchResult, refl, sym, ap, ◌∙◌, subst, append-nil, arith}
+use Rattle.std.proofs.Common.{◌≡◌, ℕ, ◌-◌, ◌<◌, ◌≤◌, ◌^◌, false, List, ◌++◌, length, take, drop}
+use Rattle.std.proofs.Common.{Option, Some, Result, Ok, Err, MatchResult, sym, ap, ◌∙◌, subst, append-nil, arith}
 use Rattle.std.specs.Result.{IsErrAnd}
 use Rattle.std.proofs.lemmas.Grind.{common_steps}
 use Rattle.bus_bits.specs.Capture.{CaptureOf}
@@ -13,11 +13,6 @@ use Rattle.bus_calls.specs.declared.packed.PackedCapture.{PackedCapture}
 use Rattle.bus_text.specs.declared.fault.ToolFault.{ToolFault}
 use Rattle.bus_text.specs.declared.fault.ToolFault.TheVariants as fault
 use Rattle.bus_calls.proofs.CapturesLemmas.{halts-stops}
-
--- the first octet
-pub first-octet : (xs os : List ℕ) → 0 < length os → xs ++ get_or os 0 0 ∷ [] ≡ xs ++ take 1 os
-first-octet xs [] some = absurd (omega (arith, some))
-first-octet xs (o ∷ os) some = refl
 
 -- no octets were read
 pub none-read : {A R X B : Type 0} (t : KindView A R X B) (start now : Option (List ℕ)) (run : CaptureRun A) (body : B)
@@ -46,10 +41,6 @@ head-filled items xs os h n same count short enough is =
       ap (λ (ys : List ℕ). ys ++ drop (16 - n) os) here
           ∙ ap (λ (j : ℕ). (xs ++ take (16 - length xs) os) ++ drop (16 - j) os) long ∙ filled-head xs os,
     )
-
--- a slice to the end
-pub slice-rest : (k : ℕ) (os : List ℕ) → take (length os - k) (drop k os) ≡ drop k os
-slice-rest k os = grind (arith, common_steps)
 
 -- what was refused, where `map_err` answered an error
 pub err-mapped : {T E D : Type 0} (P : T → Type 0) (Q : E → Type 0) (Gives : E → D → Type 0) (r : Result T E)
@@ -84,22 +75,3 @@ module _ {A R X B : Type 0} (t : KindView A R X B) where
   octets-taken start now w xs body b (Err f) low read is taken =
       halts-stops t start now w (fed_by t.form (t.rest w.analyser) (t.form.packed xs)) f low
       (subst (λ (x : List R). FeedHalts t start now w x f) (sym is) taken)
-
-  -- a body that was followed is a capture that was followed
-  pub body-packed : (start now : Option (List ℕ)) (w : CaptureRun A) (p : PackedCapture B) (body : B) (ys zs : List ℕ)
-      (r : Result (Unit {0}) ToolFault)
-      → p.body ≡ Some body → ys ≡ zs
-      → MatchResult r (λ _. FollowsBody t start now body w ys) (λ f. Stops t false start now w ys f)
-      → MatchResult r (λ _. FollowsPacked t start now p w zs) (λ f. Stops t false start now w zs f)
-  body-packed start now w p body ys zs (Ok u) is same taken = record {
-    read = subst (λ b. IsRead t p.head.items b zs) (sym is) (subst (t.is_body body) same taken.read);
-    bits = subst (λ (x : List ℕ). Feeds t start now w (t.form.packed x).bits) same taken.bits;
-  }
-  body-packed start now w p body ys zs (Err f) is same taken =
-      subst (λ (x : List ℕ). Stops t false start now w x f) same taken
-
-  -- a body of a capture that was followed
-  pub packed-body : (start now : Option (List ℕ)) (w : CaptureRun A) (p : PackedCapture B) (body : B) (xs : List ℕ)
-      → p.body ≡ Some body → FollowsPacked t start now p w xs → FollowsBody t start now body w xs
-  packed-body start now w p body xs is followed =
-      record { read = subst (λ b. IsRead t p.head.items b xs) is followed.read; bits = followed.bits }

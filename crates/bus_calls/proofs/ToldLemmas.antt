@@ -9,7 +9,7 @@ use Rattle.bus_text.specs.declared.fault.ToolFault.TheVariants as fault
 use Rattle.bus_text.specs.declared.put.ShortWrite.{ShortWrite}
 use Rattle.bus_calls.specs.Internal.Kinds.{KindView, KindLaws}
 use Rattle.bus_calls.specs.Internal.Reporting.{IsOut, ReportsSeen}
-use Rattle.bus_calls.specs.Internal.Watching.{Halts, IsSame, IsSound, Watches, lines, printed}
+use Rattle.bus_calls.specs.Internal.Watching.{Halts, IsSound, Watches, lines, printed}
 use Rattle.bus_calls.specs.declared.run.CaptureRun.{CaptureRun}
 use Rattle.bus_calls.specs.Internal.ReportingLaws.{few-within}
 use Rattle.bus_watch.proofs.PairScanLemmas.{length-zipped, zip-met}

@@ -1,17 +1,11 @@
 -- Captures of two lines.
-use Rattle.std.proofs.Common.{◌≡◌, ℕ, ◌+◌, ◌*◌, Bool, List, [], ◌∷◌, ◌++◌, length, zip, Some, sym}
+use Rattle.std.proofs.Common.{◌≡◌, ℕ, ◌+◌, ◌*◌, Bool, List, [], ◌∷◌, length, zip}
 use Rattle.std.proofs.Common.{ap, ◌∙◌, arith}
 use Rattle.std.proofs.lemmas.List.{length-map}
 use mir.Val.{bool_byte}
 use Rattle.bus_bits.specs.Bits.{bits_from}
 use Rattle.bus_bits.specs.Packed.{packed_pair_capture, packed_pair_whole, pair_body, in_pairs, pair_head_fault}
-use Rattle.bus_pairing.specs.LineReport.{pairs_of, firsts}
-use Rattle.bus_pairing.specs.Seen.{SeenReport}
-use Rattle.bus_pairing.specs.Shown.{found, found_on}
-use Rattle.bus_pairing.specs.declared.finding.Finding.{Finding}
-use Rattle.bus_pairing.specs.declared.line.Line.{Line}
-use Rattle.bus_text.specs.Summary.{summary_of}
-use Rattle.bus_text.proofs.SummaryLemmas.{summary-more}
+use Rattle.bus_pairing.specs.LineReport.{firsts}
 use Rattle.bus_calls.proofs.HeadedLemmas.{whole-bits}
 use Rattle.bus_calls.proofs.OneLineLemmas.{bit-alone, no_body}
 

@@ -1,12 +1,9 @@
 -- What is known of the symbols that are followed, some more at a time.
-use Rattle.std.proofs.Common.{◌≡◌, ℕ, zero, suc, ◌+◌, ◌-◌, ◌*◌, ◌<◌, ◌≤◌, ◌^◌, List, [], ◌∷◌, ◌++◌, length, take, drop}
-use Rattle.std.proofs.Common.{get_or, Option, Some, None, Result, Ok, Err, MatchResult, IfOk, refl, sym, ap, ◌∙◌, subst}
-use Rattle.std.proofs.Common.{arith, append_assoc, append-nil, length-append, true, false, inl, inr}
-use Rattle.std.proofs.lemmas.Bool.{cases_lt}
+use Rattle.std.proofs.Common.{◌≡◌, ℕ, zero, suc, ◌+◌, ◌-◌, ◌<◌, ◌≤◌, ◌^◌, List, [], ◌∷◌, ◌++◌, length, take, drop}
+use Rattle.std.proofs.Common.{get_or, Option, Some, None, refl, sym, ap, ◌∙◌, subst}
+use Rattle.std.proofs.Common.{arith, append_assoc, append-nil, length-append}
 use Rattle.std.proofs.lemmas.Grind.{common_steps}
-use Rattle.std.proofs.Math.Seq.{take-add, drop-append_seam}
-use Rattle.std.proofs.lemmas.List.{take_all, take-append-le, take-append-drop}
-use Rattle.arrayvec.specs.ArrayVec.{array_vec_len}
+use Rattle.std.proofs.lemmas.List.{take_all, take-append-le}
 use Rattle.bus_dictionary.specs.Entry.{FrameType}
 use Rattle.bus_dictionary.specs.Dictionary.{longest_of}
 use Rattle.bus_pairing.specs.Seen.{SeenReport, seen}
@@ -14,9 +11,7 @@ use Rattle.bus_pairing.specs.Talk.{pending}
 use Rattle.bus_watch.specs.Watch.{AdvancesWatch, seen_by}
 use Rattle.bus_text.specs.Listing.{ending_text}
 use Rattle.bus_text.specs.Summary.{summary_of}
-use Rattle.bus_text.specs.Counting.{IsFew}
 use Rattle.bus_text.specs.Pages.{Pages}
-use Rattle.bus_text.specs.Put.{Cuts}
 use Rattle.bus_calls.specs.Internal.Kinds.{KindView, KindLaws}
 use Rattle.bus_calls.specs.Internal.Watching.{IsSound, Watches, IsSame, Halts, FeedHalts, printed, ended, lines}
 use Rattle.bus_calls.specs.Internal.Watching.{last_lines, reports_by, within}
@@ -26,7 +21,7 @@ use Rattle.bus_text.specs.declared.fault.ToolFault.{ToolFault}
 use Rattle.bus_text.specs.declared.fault.ToolFault.TheVariants as fault
 use Rattle.bus_text.specs.declared.page.Page.{Page}
 use Rattle.bus_text.proofs.PagesLemmas.{pages-more}
-use Rattle.bus_calls.specs.Internal.ReportingLaws.{few-within, printed-append, printed-none}
+use Rattle.bus_calls.specs.Internal.ReportingLaws.{printed-append}
 
 -- symbols that all have a place
 pub within-all : {X : Type 0} (origin : ℕ) (b : List X) → origin + length b ≤ 2 ^ 60 → within origin b ≡ b

@@ -94,57 +94,6 @@ fn decode_octet<T: CaptureKind, W: Write>(
     }
 }
 
-/// Takes the next octets after the head, many or one, and returns how many these were.
-#[inline(always)]
-fn analyse_some<T: CaptureKind, W: Write>(
-    body: &mut T::Body,
-    octets: &[u8],
-    run: &mut CaptureRun<T>,
-    w: &mut W,
-) -> Result<usize, ToolFault>
-    requires sound { IsSound T.kind run.old }
-    requires some { 0 < length octets.now }
-    ensures within { IfOk result (λ n. (1 ≤ n) × (n ≤ length octets.now)) }
-    ensures taken { (start : Option (List ℕ)) (xs : List ℕ) →
-        FollowsBody T.kind start (W.contents w.old) body.old run.old xs → MatchResult result
-        (λ n. FollowsBody T.kind start (W.contents w.new) body.new run.new (xs ++ take n octets.now))
-        (λ fault. (n : ℕ)
-        × Stops T.kind false start (W.contents w.new) run.new (xs ++ take n octets.now) fault) }
-    ensures same { IsSame T.kind run.old run.new }
-    ensures sound { IsSound T.kind run.new }
-{
-    let taken = T::analyse_packed(body, octets, run, w)?;
-    if taken > 0 {
-        return Ok(taken);
-    }
-    decode_octet(body, octets[0], run, w)?;
-    Ok(1)
-}
-
-/// Takes octets after the head, up to the first fault.
-#[inline(never)]
-fn analyse_body<T: CaptureKind, W: Write>(
-    body: &mut T::Body,
-    octets: &[u8],
-    run: &mut CaptureRun<T>,
-    w: &mut W,
-) -> Result<(), ToolFault>
-    requires { IsSound T.kind run.old }
-    ensures taken { (start : Option (List ℕ)) (xs : List ℕ) →
-        FollowsBody T.kind start (W.contents w.old) body.old run.old xs → MatchResult result
-        (λ _. FollowsBody T.kind start (W.contents w.new) body.new run.new (xs ++ octets.now))
-        (λ fault. Stops T.kind false start (W.contents w.new) run.new (xs ++ octets.now) fault) }
-    ensures same { IsSame T.kind run.old run.new }
-    ensures sound { IsSound T.kind run.new }
-{
-    T::laws();
-    let mut taken = 0;
-    while taken < octets.len() {
-        taken += analyse_some(body, &octets[taken..], run, w)?;
-    }
-    Ok(())
-}
-
 impl<B> PackedCapture<B> {
     /// No octets.
     pub fn new() -> Self
@@ -177,7 +126,33 @@ impl<B> PackedCapture<B> {
         head
     }
 
+    /// Takes octets of the head, as many as it lacks, and reads it where it is whole then. Returns how many these were.
+    fn fill_head<T: CaptureKind<Body = B>>(&mut self, octets: &[u8]) -> Result<usize, ToolFault>
+        ensures read { (xs : List ℕ) → IsRead T.kind self.old.head.items self.old.body xs → MatchResult result
+            (λ n. IsRead T.kind self.new.head.items self.new.body (xs ++ take n octets.now)
+            × ((T.kind.form.packed (xs ++ take n octets.now)).bits ≡ (T.kind.form.packed xs).bits))
+            (λ fault. (cause : CaptureFault) × IsSameFault fault cause
+            × (T.kind.form.packed (xs ++ octets.now)
+            ≡ record { bits = (T.kind.form.packed xs).bits; fault = Some cause })) }
+        ensures within { IfOk result (λ n. n ≤ length octets.now) }
+        ensures all { IfOk result (λ n. self.new.body ≡ None → n ≡ length octets.now) }
+    {
+        T::laws();
+        if self.body.is_some() {
+            return Ok(0);
+        }
+        let missing = HEAD - self.head.len();
+        if octets.len() < missing {
+            self.gather(octets);
+            return Ok(octets.len());
+        }
+        self.gather(&octets[..missing]);
+        self.body = Some(T::read_head(&self.head()).map_err(head_fault)?);
+        Ok(missing)
+    }
+
     /// Takes some octets, up to the first fault.
+    #[inline(never)]
     pub fn analyse<T: CaptureKind<Body = B>, W: Write>(
         &mut self,
         octets: &[u8],
@@ -192,39 +167,22 @@ impl<B> PackedCapture<B> {
         ensures same { IsSame T.kind run.old run.new }
         ensures sound { IsSound T.kind run.new }
     {
-        match &mut self.body {
-            Some(body) => analyse_body(body, octets, run, w),
-            None => self.analyse_head(octets, run, w),
-        }
-    }
-
-    /// Takes octets of the head, and then those after it.
-    fn analyse_head<T: CaptureKind<Body = B>, W: Write>(
-        &mut self,
-        octets: &[u8],
-        run: &mut CaptureRun<T>,
-        w: &mut W,
-    ) -> Result<(), ToolFault>
-        requires none { self.old.body ≡ None }
-        requires sound { IsSound T.kind run.old }
-        ensures taken { (start : Option (List ℕ)) (xs : List ℕ) →
-            FollowsPacked T.kind start (W.contents w.old) self.old run.old xs → MatchResult result
-            (λ _. FollowsPacked T.kind start (W.contents w.new) self.new run.new (xs ++ octets.now))
-            (λ fault. Stops T.kind false start (W.contents w.new) run.new (xs ++ octets.now) fault) }
-        ensures same { IsSame T.kind run.old run.new }
-        ensures sound { IsSound T.kind run.new }
-    {
         T::laws();
-        let missing = HEAD - self.head.len();
-        if octets.len() < missing {
-            self.gather(octets);
+        let mut taken = self.fill_head::<T>(octets)?;
+        let Some(mut body) = self.body.take() else {
             return Ok(());
+        };
+        while taken < octets.len() {
+            let many = T::analyse_packed(&mut body, &octets[taken..], run, w)?;
+            if many > 0 {
+                taken += many;
+                continue;
+            }
+            decode_octet(&mut body, octets[taken], run, w)?;
+            taken += 1;
         }
-        self.gather(&octets[..missing]);
-        let mut body = T::read_head(&self.head()).map_err(head_fault)?;
-        let ending = analyse_body(&mut body, &octets[missing..], run, w);
         self.body = Some(body);
-        ending
+        Ok(())
     }
 
     /// What is wrong where the input ends here.

@@ -133,26 +133,6 @@ impl<T: CaptureKind> CaptureReader<T> {
         }
     }
 
-    /// Takes what one read gave, and writes its lines.
-    fn analyse_read<W: Write>(&mut self, octets: &[u8], w: &mut W) -> Result<(), ToolFault>
-        requires sound { IsSound T.kind self.old.run }
-        requires few { octets_taken self.old.source + length octets.now < 2 ^ 100 }
-        ensures taken { (start : Option (List ℕ)) (xs : List ℕ) →
-            Follows T.kind start (W.contents w.old) self.old.source self.old.run xs → MatchResult result
-            (λ _. Follows T.kind start (W.contents w.new) self.new.source self.new.run (xs ++ octets.now))
-            (λ fault. Stops T.kind (is_text self.old.source) start (W.contents w.new) self.new.run
-            (xs ++ octets.now) fault) }
-        ensures text { is_text self.new.source ≡ is_text self.old.source }
-        ensures few { OnOk result (octets_taken self.new.source ≤ octets_taken self.old.source + length octets.now) }
-        ensures same { IsSame T.kind self.old.run self.new.run }
-        ensures sound { IsSound T.kind self.new.run }
-    {
-        T::laws();
-        self.analyse(octets, w)?;
-        self.run.reporter.page.write_out(w)?;
-        Ok(())
-    }
-
     /// Reads to the end or the first fault, by at most `reads` calls of the reader.
     pub fn read_to_end<R: Read, W: Write>(
         &mut self,
@@ -178,7 +158,8 @@ impl<T: CaptureKind> CaptureReader<T> {
                 Ok(count) => count,
                 Err(_) => return Err(ToolFault::Read),
             };
-            self.analyse_read(&buffer[..count], w)?;
+            self.analyse(&buffer[..count], w)?;
+            self.run.reporter.page.write_out(w)?;
         }
         Err(ToolFault::ReadsLimit)
     }

@@ -47,6 +47,7 @@ impl<W: Write> ReportObserver<W> for Reporter {
 
     ghost has_room = { HasReporterRoom };
 
+    #[inline(always)]
     fn observe(
         &mut self,
         line: Option<Line>,

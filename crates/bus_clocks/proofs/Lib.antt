@@ -14,3 +14,5 @@ pub mod RunLemmas
 pub mod ScanLemmas
 pub mod SumLemmas
 pub mod CountedLemmas
+pub mod FactsLemmas
+pub mod TapLemmas

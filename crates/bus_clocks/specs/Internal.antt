@@ -2,3 +2,5 @@
 pub mod ClockView
 pub mod Pushes
 pub mod Held
+pub mod Tallies
+pub mod Taps

@@ -6,4 +6,6 @@ pub mod Ledger
 pub mod Headline
 pub mod Rested
 pub mod Sampled
+pub mod Facts
+pub mod Tapped
 pub mod Internal

@@ -3,9 +3,12 @@
 ghost use Rattle.std.specs.Prelude.{◌≡◌, ◌+◌, ◌≤◌, ◌/◌, ◌%◌, ◌==◌, ◌&&◌, ◌++◌, ◌∷◌, [], List, ℕ, not, Some, None};
 ghost use Rattle.std.specs.Prelude.{if◌then◌else◌};
 ghost use Rattle.bus_pairing.specs.declared.line.Line.TheVariants.{First};
-ghost use Rattle.bus_clocks.specs.Internal.Held.{held_state, next_state};
+ghost use Rattle.std.specs.Prelude.{IsTrue};
+ghost use Rattle.bus_clocks.specs.Internal.Held.{held_state, next_state, clock_state, data_state, no_edges, IsSettled};
 ghost use Rattle.bus_clocks.specs.Sampled.{IsAfterSamples, sampled, bits_of_edges, clock_of, data_of};
 
+use crate::facts::Levels;
+use bus_pairing::Line;
 use std::marker::Model;
 
 /// The bits that arrive with one sample. The first line's arrives first.
@@ -15,6 +18,22 @@ pub struct Edges {
     pub first: Option<bool>,
     /// The second line's.
     pub second: Option<bool>,
+}
+
+impl Edges {
+    /// No bit arrives.
+    pub const NONE: Edges = Edges {
+        first: None,
+        second: None,
+    };
+
+    /// Whether no bit arrives.
+    #[inline(always)]
+    pub fn is_none(&self) -> bool
+        ensures { IsTrue result → self.now ≡ no_edges }
+    {
+        self.first.is_none() && self.second.is_none()
+    }
 }
 
 /// A channel.
@@ -27,7 +46,16 @@ pub(crate) struct HeldLevel {
 }
 
 impl HeldLevel {
+    /// Whether a sample of this level changes nothing.
+    #[inline(always)]
+    fn is_settled(&self, level: bool) -> bool
+        ensures { IsTrue result → held_state self.now ≡ record { level = level; others = 0 } }
+    {
+        level == self.level && self.others == 0
+    }
+
     /// A sample of this level; a level counts once it stood in `hold` samples more.
+    #[inline(always)]
     fn sample(&mut self, level: bool, hold: u32)
         requires { self.old.others ≤ hold }
         ensures next { held_state self.new ≡ next_state hold (held_state self.old) level }
@@ -70,7 +98,17 @@ impl LineLevels {
         }
     }
 
+    /// Whether a sample with these levels changes nothing.
+    #[inline(always)]
+    fn is_settled(&self, sample: u8) -> bool
+        ensures { IsTrue result → (held_state self.now.clock ≡ record { level = clock_of First sample; others = 0 })
+            × (held_state self.now.bits ≡ record { level = data_of First sample; others = 0 }) }
+    {
+        self.clock.is_settled(sample % 2 == 1) && self.bits.is_settled(sample / 2 % 2 == 1)
+    }
+
     /// A sample. Returns the bit that arrives with it, if the clock rises: the level of the data just before.
+    #[inline(always)]
     fn sample(&mut self, sample: u8, hold: u32) -> Option<bool>
         requires clock { self.old.clock.others ≤ hold }
         requires bits { self.old.bits.others ≤ hold }
@@ -83,6 +121,9 @@ impl LineLevels {
         ensures clock_within { self.new.clock.others ≤ hold }
         ensures bits_within { self.new.bits.others ≤ hold }
     {
+        if self.is_settled(sample) {
+            return None;
+        }
         let before = *self;
         self.clock.sample(sample % 2 == 1, hold);
         self.bits.sample(sample / 2 % 2 == 1, hold);
@@ -136,6 +177,7 @@ impl Sampler {
     }
 
     /// The next sample. Returns the bits that arrive with it.
+    #[inline(always)]
     pub fn sample(&mut self, sample: u8) -> Edges
         ensures sampled { (ss : List ℕ) → IsAfterSamples self.old ss →
             sampled self.old.hold (ss ++ sample ∷ []) ≡ sampled self.old.hold ss ++ bits_of_edges result }
@@ -146,5 +188,29 @@ impl Sampler {
             first: self.first.sample(sample, self.hold),
             second: self.second.sample(sample / 4, self.hold),
         }
+    }
+
+    /// The levels of a line that count.
+    #[inline(always)]
+    pub(crate) fn levels(&self, line: Line) -> Levels
+        ensures clock { result.clock ≡ (clock_state self.now line).level }
+        ensures bits { result.bits ≡ (data_state self.now line).level }
+    {
+        let levels = match line {
+            Line::First => self.first,
+            Line::Second => self.second,
+        };
+        Levels {
+            clock: levels.clock.level,
+            bits: levels.bits.level,
+        }
+    }
+
+    /// Whether samples with these levels change nothing.
+    #[inline(always)]
+    pub(crate) fn is_settled(&self, sample: u8) -> bool
+        ensures { IsTrue result → IsSettled self.now sample }
+    {
+        self.first.is_settled(sample) && self.second.is_settled(sample / 4)
     }
 }

@@ -1,14 +1,13 @@
 -- Bits taken at once: what they decide.
-use Rattle.std.proofs.Common.{◌≡◌, ◌≢◌, ℕ, zero, suc, ◌+◌, ◌*◌, ◌%◌, ◌^◌, ◌≤◌, ◌<◌, Bool, false, List, [], ◌∷◌, ◌++◌}
+use Rattle.std.proofs.Common.{◌≡◌, ℕ, zero, suc, ◌+◌, ◌*◌, ◌%◌, ◌^◌, ◌≤◌, ◌<◌, Bool, false, List, [], ◌∷◌, ◌++◌}
 use Rattle.std.proofs.Common.{length, take, get_or, None, refl, sym, ap, ◌∙◌, subst, arith, inl, inr}
 use Rattle.std.specs.Prelude.{bit_or}
 use Rattle.std.specs.Option.{option_map}
 use Rattle.std.specs.Int.Bits.{or_shifted_r}
 use Rattle.std.proofs.lemmas.Nat.{shl_whole}
 use Rattle.std.proofs.lemmas.List.{append-nil}
-use Rattle.std.proofs.lemmas.Bool.{cases_lt}
 use Rattle.bus_bits.specs.Octet.{bits_of}
-use Rattle.bus_bits.proofs.OctetLemmas.{number-bits, length-bits, bits-front}
+use Rattle.bus_bits.proofs.OctetLemmas.{number-bits}
 use Rattle.bus_fcs.specs.Check.{CheckView}
 use Rattle.bus_line.specs.Report.{moved}
 use Rattle.bus_line.specs.Due.{current, placed}
@@ -79,40 +78,3 @@ pub tracks-last : {C : Type 0} (view : CheckView C) (n : ℕ) (d : LineState C) 
     → Tracks view d ((b ++ take n bits) ++ get_or bits n false ∷ []) (current (b ++ take n bits))
 tracks-last view n d b bits no_stop inside tracks =
     rw (← last-list n b bits inside, mark-no_stop b bits n n no_stop (omega arith) (omega (arith, inside))) tracks
-
--- ---- all together
-
--- a run of bits without a stop that takes all of them
-pub record NoStop (w n x : ℕ) (b : List Bool) : Type 0 where
-  pub word : IsWord w b (bits_of n x)
-  pub no_stop : HasNoStop b (bits_of n x) n
-
-pub has_no_stop : (w n m x : ℕ) (b : List Bool) → IsWord w b (bits_of n x) → m ≡ n → ((i : ℕ) → i < m → IsStop w i → ⊥)
-    →
-    NoStop w n x b
-has_no_stop w n m x b word all no_stop =
-    let size = length-bits n x in
-    record {
-      word = word;
-      no_stop = no_stop-before w n b (bits_of n x) word (omega (arith, size))
-          (λ i before. no_stop i (omega (arith, all, before)));
-    }
-
--- a run of bits without a stop that a stop ends
-pub record Last (w n m x : ℕ) (b : List Bool) : Type 0 where
-  pub word : IsWord w b (bits_of n x)
-  pub no_stop : HasNoStop b (bits_of n x) m
-  pub within : m < length (bits_of n x)
-  pub front : take (m + 1) (bits_of n x) ≡ bits_of (m + 1) x
-
-pub is_last : (w n m x : ℕ) (b : List Bool) → IsWord w b (bits_of n x) → m ≤ n → m ≢ n →
-    ((i : ℕ) → i < m → IsStop w i → ⊥) → Last w n m x b
-is_last w n m x b word within not-all no_stop =
-    let size = length-bits n x in
-    let inside : m < n = elim (cases_lt m n) [ inl is ↦ is | inr far ↦ absurd (not-all (omega arith)) ] in
-    record {
-      word = word;
-      no_stop = no_stop-before w m b (bits_of n x) word (omega (arith, size, inside)) no_stop;
-      within = omega (arith, size, inside);
-      front = bits-front (m + 1) n x (omega (arith, inside));
-    }

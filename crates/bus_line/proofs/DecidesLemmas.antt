@@ -1,12 +1,12 @@
 -- Bits that decide nothing, and bits after them.
-use Rattle.std.proofs.Common.{◌≡◌, ℕ, ◌+◌, ◌-◌, ◌≤◌, ◌++◌, List, [], ◌∷◌, map, Bool, false, Option, None, Some, inl}
-use Rattle.std.proofs.Common.{inr, ap, refl, sym, subst, ◌∙◌, length, length-append, take, drop, get_or, arith}
+use Rattle.std.proofs.Common.{◌≡◌, ℕ, ◌+◌, ◌-◌, ◌≤◌, ◌++◌, List, [], ◌∷◌, map, Bool, false, Option, None, Some}
+use Rattle.std.proofs.Common.{ap, refl, sym, subst, ◌∙◌, length, length-append, take, drop, get_or, arith}
 use Rattle.std.specs.Option.{is_some, option_map, option_to_list}
-use Rattle.std.proofs.lemmas.Bool.{cases_lt, true≢false}
+use Rattle.std.proofs.lemmas.Bool.{true≢false}
 use Rattle.std.proofs.lemmas.List.{append-nil, append_assoc, append_cancel_left, length-take, map-append}
 use Rattle.std.proofs.lemmas.List.{take-append-drop, take_all, take_more}
 use Rattle.bus_bits.specs.Bits.{bits_from}
-use Rattle.bus_bits.proofs.BitLemmas.{bits-more, front-from, length-from}
+use Rattle.bus_bits.proofs.BitLemmas.{bits-more, length-from}
 use Rattle.bus_fcs.specs.Check.{CheckView}
 use Rattle.bus_line.specs.Report.{Report, moved}
 use Rattle.bus_line.specs.Due.{due_at, placed, reports}
@@ -78,10 +78,6 @@ module _ {C : Type 0} {view : CheckView C} (os : List ℕ) {from at : ℕ} {a c 
       Decides view c (bits_from os at n) r e → Decides view a (bits_from os from m) r e
   decides-on {e} {r} n m count told = rw (← joins n m count) (decides-more quiet told)
 
-  pub decide-on : (n m : ℕ) → m ≡ at - from + n → DecideNothing view c (bits_from os at n) →
-      DecideNothing view a (bits_from os from m)
-  decide-on n m count told = subst (DecideNothing view a) (joins n m count) (decide-more quiet told)
-
   pub place-on : c.place ≡ a.place + (at - from)
   place-on = quiet.leads.place ∙ ap (λ (n : ℕ). a.place + n) (length-from os from (at - from))
 
@@ -123,24 +119,6 @@ advances-quiet {C} {view} {a} {c} {bits} quiet = record {
       append_assoc b front last ∙ ap (λ (z : List Bool). b ++ z) (take-append-drop (length bits - 1) bits) in
       none-before a.origin a.longest b front last
       (ap (placed a.origin a.longest) all ∙ silent quiet b stands);
-}
-
--- bits after those, of which the last may decide a report
-pub advances-on : {C : Type 0} {view : CheckView C} (os : List ℕ) {from at : ℕ} {a c e : LineState C}
-    {r : Option Report} → from ≤ at → Decides view a (bits_from os from (at - from)) None c
-    → (n m : ℕ) → m ≡ at - from + n
-    → Advances view c (bits_from os at n) r e → Advances view a (bits_from os from m) r e
-advances-on {C} {view} os {from} {at} {a} {c} begun quiet n m count advances = record {
-  decides = decides-on os begun quiet n m count advances.decides;
-  before = elim (cases_lt 0 n) [
-    | inl some ↦
-        let behind = subst (DecideNothing view c) (front-from os at n) advances.before in
-        subst (DecideNothing view a) (sym (front-from os from m))
-        (decide-on os begun quiet (n - 1) (m - 1) (omega (arith, count, some)) behind)
-    | inr none ↦
-        let all : at - from ≡ m = omega (arith, count, none) in
-        rw (← all) (advances-quiet quiet).before
-  ];
 }
 
 -- what the last bit decides

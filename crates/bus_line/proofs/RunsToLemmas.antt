@@ -1,8 +1,10 @@
 -- Bits of a piece, and the one after six ones.
 use Rattle.std.proofs.Common.{◌≡◌, ◌≢◌, ℕ, ◌+◌, ◌-◌, ◌*◌, ◌/◌, ◌%◌, ◌^◌, ◌≤◌, ◌<◌, ◌++◌, List, [], ◌∷◌, Bool, arith}
-use Rattle.std.proofs.Common.{false, true, Option, None, ap, refl, sym, subst, ◌∙◌, length, length-append, take, get_or}
+use Rattle.std.proofs.Common.{false, true, not, Option, None, ap, refl, sym, subst, ◌∙◌, length, length-append, take}
+use Rattle.std.proofs.Common.{get_or}
 use Rattle.std.specs.Prelude.{bit_or}
 use Rattle.std.specs.Option.{option_map, option_to_list}
+use Rattle.std.proofs.lemmas.Bool.{not-false}
 use Rattle.std.proofs.lemmas.List.{append-nil, append_assoc, take_all}
 use Rattle.bus_bits.specs.Bits.{bits_from}
 use Rattle.bus_bits.specs.Octet.{bits_of}
@@ -20,7 +22,7 @@ use Rattle.bus_line.specs.Internal.Tracks.{HasTaken, Tracks}
 use Rattle.bus_line.proofs.DueMoreLemmas.{placed-more}
 use Rattle.bus_line.proofs.AdvanceLemmas.{no_stop-after, no_stop-before, no_stop-placed, tracks-last}
 use Rattle.bus_line.proofs.TimeFillLemmas.{last-bits-small, no-stop, word-behind, word-is, word_of}
-use Rattle.bus_line.proofs.DecidesLemmas.{decide-more, joins, last-bit}
+use Rattle.bus_line.proofs.DecidesLemmas.{decide-more, decides-on, joins, last-bit}
 
 -- ---- bits without a stop
 
@@ -95,6 +97,25 @@ module _ {C : Type 0} {view : CheckView C} {old new : LineState C} {bits : List 
   ran-to true some all no_stop = ran-last some no_stop
   ran-to false some all no_stop = ran-all (all refl)
 
+-- a stride takes bits up to the first after six ones, or 56 without a stop
+pub strode : {C : Type 0} {view : CheckView C} {old new : LineState C} (x n : ℕ) (is_stop : Bool) → 1 ≤ n → n ≤ 56 →
+    ((i : ℕ) → i + 1 < n → bit_or (old.last_bits / 256) (x * 256 % 18446744073709551616) / 2 ^ (2 + i) % 64 ≢ 63) →
+    (is_stop ≡ false → (n ≡ 56) × ((i : ℕ) → i < 56 →
+    bit_or (old.last_bits / 256) (x * 256 % 18446744073709551616) / 2 ^ (2 + i) % 64 ≢ 63)) →
+    ConsumesBits view old (bits_of n x) new → RunsToStop view old (bits_of n x) is_stop new
+strode {C} {view} {old} x n is_stop some few before none consumed =
+    let long = length-bits n x in
+    ran-to consumed is_stop (omega (arith, long, some))
+    (λ going b stands.
+    let quiet = none going in
+    subst (HasNoStop b (bits_of n x)) (sym long)
+    (no_stop-turn old x n n b stands.has_taken (λ i earlier. quiet.1 i (omega (arith, earlier, quiet.0))) few
+    (omega arith)))
+    (λ b stands.
+    subst (λ (k : ℕ). HasNoStop b (bits_of n x) (k - 1)) (sym long)
+    (no_stop-turn old x (n - 1) n b stands.has_taken (λ i earlier. before i (omega (arith, earlier)))
+    (omega (arith, few)) (omega arith)))
+
 -- ---- what the last of them decides
 
 pub decided : {C : Type 0} {view : CheckView C} {old mid new : LineState C} {bits : List Bool}
@@ -160,3 +181,19 @@ pub runs-on : {C : Type 0} {view : CheckView C} (os : List ℕ) {from at : ℕ} 
     → Decides view a (bits_from os from (at - from)) None c → (n m : ℕ) → m ≡ at - from + n
     → RunsTo view c (bits_from os at n) e → RunsTo view a (bits_from os from m) e
 runs-on os begun quiet n m count reached = rw (← joins os begun quiet n m count) (runs-more quiet reached)
+
+pub stops-on : {C : Type 0} {view : CheckView C} (os : List ℕ) {from at : ℕ} {a c : LineState C} → from ≤ at
+    → Decides view a (bits_from os from (at - from)) None c → (n m : ℕ) → m ≡ at - from + n → (is_stop : Bool)
+    → (e : LineState C) → RunsToStop view c (bits_from os at n) is_stop e
+    → RunsToStop view a (bits_from os from m) is_stop e
+stops-on os begun quiet n m count true e reached = runs-on os begun quiet n m count reached
+stops-on os begun quiet n m count false e reached = decides-on os begun quiet n m count reached
+
+-- and what the last decides, where it is a stop
+pub decided-on : {C : Type 0} {view : CheckView C} (os : List ℕ) {from at : ℕ} {a c mid new : LineState C}
+    {event : Option Event} → from ≤ at → Decides view a (bits_from os from (at - from)) None c → (n m : ℕ)
+    → m ≡ at - from + n → (is_stop : Bool) → not is_stop ≡ false → RunsToStop view c (bits_from os at n) is_stop mid
+    → DecidesLast view mid event new → AdvancesWith view a (bits_from os from m) event new
+decided-on {C} {view} os {from} {at} {a} {c} {mid} begun quiet n m count is_stop going reached decision =
+    decided (runs-on os begun quiet n m count (subst (λ (stop : Bool). RunsToStop view c (bits_from os at n) stop mid)
+    (not-false is_stop going) reached)) decision

@@ -184,23 +184,9 @@ stop-zero w count i word inside few none stop =
       | inr run ↦ let bit = (fourteen-at w i word inside).1 run in omega (arith, all, none, bit)
     ]
 
-stop-one : (w count i : ℕ) → w < 2 ^ 64 → i < 64 → count < 64 → i < count → bit_at (stops w count) i ≡ 1 → IsStop w i
-stop-one w count i word inside few before one =
-    let all = stops-at w count i in
-    let not-last = (one-at count i few).0 (λ same. omega (arith, same, before)) in
-    let bit : ℕ = bit_at (bit_and (six w / 1024) (MAX - w / 512)) i in
-    elim (cases_lt bit 1) [
-      | inl here ↦ inr
-          ((fourteen-at w i word inside).0
-          (let most = bit_at-lt (bit_and (fourteen w / 4) (MAX - w / 2)) i in omega arith))
-      | inr here ↦ inl
-          ((six-at w i word inside).0 (let most = bit_at-lt (bit_and (six w / 1024) (MAX - w / 512)) i in omega arith))
-    ]
-
 -- the lowest 1 is the first stop, or `count`
 pub record IsFirstStop (w count n : ℕ) : Type 0 where
   pub no_stop : (i : ℕ) → i < n → IsStop w i → ⊥
-  pub stop : n < count → IsStop w n
   pub within : n ≤ count
 
 stops-lt : (w count : ℕ) → stops w count < 2 ^ 64
@@ -228,7 +214,6 @@ first-stop w count word few =
     let n : ℕ = trailing_zeros w64 s in record {
       no_stop = λ i before. stop-zero w count i word (omega (arith, lowest.0, before)) (omega arith)
           (lowest.2 i before);
-      stop = λ before. stop-one w count n word lowest.0 (omega arith) before lowest.1;
       within = elim (cases_lt count n) [ inl past ↦ absurd (omega (arith, last, lowest.2 count past)) | inr is ↦ is ];
     }
 

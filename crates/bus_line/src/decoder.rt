@@ -4,7 +4,7 @@ mod append;
 mod decide;
 mod ended_mark;
 mod marked;
-mod piece;
+mod run;
 mod scan;
 mod settled;
 mod step;

@@ -90,7 +90,7 @@ impl Conversation {
     /// is `None` where there is one line.
     ///
     /// A frame has 4 to 258 octets, and the counters have room for one report more: [`Conversation::has_room`].
-    #[inline(never)]
+    #[inline(always)]
     pub fn add_report(&mut self, line: Option<Line>, event: Event, octets: &[u8])
         requires whole { IsWhole event.kind octets.now }
         requires fits { length octets.now ≤ most_octets }

@@ -9,7 +9,7 @@ use arrayvec::ArrayVec;
 use itoa::Buffer;
 
 /// Appends a number in decimal.
-pub(crate) fn push_number<const N: usize>(text: &mut ArrayVec<u8, N>, n: u64)
+pub fn push_number<const N: usize>(text: &mut ArrayVec<u8, N>, n: u64)
     requires { array_vec_len text.old + 20 ≤ N }
     ensures { Adds text.old (decimal n) 20 text.new }
 {

@@ -7,7 +7,7 @@ use arrayvec::ArrayVec;
 
 /// Appends octets, for which there is to be room.
 #[inline(always)]
-pub(crate) fn push_octets<const N: usize>(text: &mut ArrayVec<u8, N>, octets: &[u8])
+pub fn push_octets<const N: usize>(text: &mut ArrayVec<u8, N>, octets: &[u8])
     requires { array_vec_len text.old + length octets.now ≤ N }
     ensures { text.new.items ≡ text.old.items ++ octets.now }
 {

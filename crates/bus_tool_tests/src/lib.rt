@@ -15,6 +15,8 @@ mod listings;
 #[cfg(test)]
 mod program;
 #[cfg(test)]
+mod samples;
+#[cfg(test)]
 mod shows;
 #[cfg(test)]
 mod streams;

@@ -6,15 +6,22 @@ const MOST_KEPT = 2 ** 31;
 /** How many ones an octet has. */
 const ONES = Uint8Array.from({ length: 256 }, (_, octet) => octet.toString(2).replaceAll("0", "").length);
 
+/** @typedef {{ place: number, digit: number }} Bit */
+
 /** The bits of a capture, as they were decoded, so that a picture can show them. */
 export class KeptBits {
   constructor() {
+    /** @type {Uint8Array[][]} */
     this.chunks = []; // for each block, the octets of each line
     this.length = 0; // in bits
     this.ones = [0, 0]; // of each line
   }
 
-  /** Keeps a block. All but the last are whole; the bits of an octet that are none are 0. */
+  /**
+   * Keeps a block. All but the last are whole; the bits of an octet that are none are 0.
+   * @param {Uint8Array[]} octets
+   * @param {number} bits
+   */
   take(octets, bits) {
     if (this.chunks.length * BLOCK < MOST_KEPT) this.chunks.push(octets.map((some) => some.slice()));
     octets.forEach((some, line) => {
@@ -23,14 +30,25 @@ export class KeptBits {
     this.length += bits;
   }
 
-  /** The bits of a line from one place to another, as text; those that are not there or were not kept are left out. */
-  text(line, first, past) {
-    let text = "";
+  /** How many bits each line has. */
+  get counts() {
+    return [this.length, this.length];
+  }
+
+  /**
+   * The bits of a line from one place to another; those that are not there or were not kept are left out.
+   * @param {number} line
+   * @param {number} first
+   * @param {number} past
+   */
+  between(line, first, past) {
+    /** @type {Bit[]} */
+    const bits = [];
     for (let place = Math.max(first, 0); place < Math.min(past, this.length); place++) {
-      const chunk = this.chunks[Math.floor(place / (8 * BLOCK))];
+      const octets = this.chunks[Math.floor(place / (8 * BLOCK))]?.[line];
       const within = place % (8 * BLOCK);
-      if (chunk) text += (chunk[line][within >> 3] >> (within & 7)) & 1;
+      if (octets) bits.push({ place, digit: (octets[within >> 3] >> (within & 7)) & 1 });
     }
-    return text;
+    return bits;
   }
 }

@@ -1,19 +1,39 @@
 import { Fault } from "../../../scripts/modules/fault.js";
 import { BLOCK } from "./decoder.js";
 
-/** What each octet of a text capture is: a mark of one line or two, skipped, or else. */
+/** What octets of a text capture may be beside a mark: skipped, or else. */
 const SKIPPED = 4;
 const OTHER = 5;
-const MARKS = new Uint8Array(256).fill(OTHER);
-"0123".split("").forEach((digit, mark) => (MARKS[digit.charCodeAt(0)] = mark));
-" \t\r\n".split("").forEach((space) => (MARKS[space.charCodeAt(0)] = SKIPPED));
+
+/**
+ * What each octet is, where these characters are the marks.
+ * @param {string} characters
+ */
+function tableOf(characters) {
+  const table = new Uint8Array(256).fill(OTHER);
+  characters.split("").forEach((character, mark) => (table[character.charCodeAt(0)] = mark));
+  " \t\r\n".split("").forEach((space) => (table[space.charCodeAt(0)] = SKIPPED));
+  return table;
+}
+
+/**
+ * The kinds of captures: of one line, of pairs of two lines, and of bits in the order of arrival.
+ * @type {Record<Kind, { marks: Uint8Array, magic: string, width: number }>}
+ */
+const KINDS = {
+  1: { marks: tableOf("01"), magic: "TS2BITS1", width: 1 },
+  2: { marks: tableOf("0123"), magic: "TS2BITS2", width: 2 },
+  arrivals: { marks: tableOf("01oi"), magic: "TS2BITS3", width: 2 },
+};
+
+/** @typedef {Packer|import("./arrivals.js").Arrivals} Sink of marks, and of packed ones */
+/** @typedef {import("../worker/forms.js").Kind} Kind */
 
 /** Of each octet its bits 0, 2, 4 and 6, as bits 0 to 3: the bits of the first line in four pairs. */
 const FIRSTS = Uint8Array.from({ length: 256 }, (_, octet) =>
   [0, 1, 2, 3].reduce((bits, pair) => bits | (((octet >> (2 * pair)) & 1) << pair), 0),
 );
 
-const MAGIC = { 1: "TS2BITS1", 2: "TS2BITS2" };
 const HEAD = 16;
 const MOST_BITS = 2n ** 60n;
 
@@ -26,7 +46,10 @@ export class Packer {
     this.bits = 0;
   }
 
-  /** Takes a mark: the bit of the first line, and twice that of the second. */
+  /**
+   * Takes a mark: the bit of the first line, and twice that of the second.
+   * @param {number} mark
+   */
   add(mark) {
     const at = this.bits >> 3;
     const shift = this.bits & 7;
@@ -37,7 +60,11 @@ export class Packer {
     if (this.bits === 8 * BLOCK) this.flush();
   }
 
-  /** Takes an octet of a packed capture, with so many marks, of which all but the last of the capture has all. */
+  /**
+   * Takes an octet of a packed capture, with so many marks, of which all but the last of the capture has all.
+   * @param {number} octet
+   * @param {number} marks
+   */
   addOctet(octet, marks) {
     const at = this.bits >> 3;
     const [first, second] = this.blocks;
@@ -67,41 +94,47 @@ export class Packer {
 
 /** A text capture: marks, and spaces between them. */
 export class TextReader {
-  constructor(lines, hand) {
-    this.most = lines === 2 ? 3 : 1;
-    this.packer = new Packer(lines, hand);
+  /** @param {Kind} kind @param {Sink} sink */
+  constructor(kind, sink) {
+    this.marks = KINDS[kind].marks;
+    this.sink = sink;
     this.read = 0;
   }
 
+  /** @param {Uint8Array} octets */
   take(octets) {
-    const { packer, most } = this;
+    const { sink, marks } = this;
     for (let at = 0; at < octets.length; at++) {
-      const mark = MARKS[octets[at]];
-      if (mark <= most) packer.add(mark);
+      const mark = marks[octets[at]];
+      if (mark < SKIPPED) sink.add(mark);
       else if (mark !== SKIPPED) this.refuse(this.read + at);
     }
     this.read += octets.length;
   }
 
+  /** @param {number} place */
   refuse(place) {
-    this.packer.flush();
+    this.sink.flush();
     throw new Fault(`capture: octet ${place} is no bit`);
   }
 
   end() {
-    this.packer.flush();
+    this.sink.flush();
   }
 }
 
-/** A packed capture: a head with the number of bits, or of pairs, and as many. */
+/** A packed capture: a head with the number of marks, and as many. */
 export class PackedReader {
-  constructor(lines, hand) {
-    this.lines = lines;
-    this.packer = new Packer(lines, hand);
+  /** @param {Kind} kind @param {Sink} sink */
+  constructor(kind, sink) {
+    this.kind = KINDS[kind];
+    this.sink = sink;
+    /** @type {number[]} */
     this.head = [];
-    this.left = 0; // bits, or pairs, that are still to come
+    this.left = 0; // marks that are still to come
   }
 
+  /** @param {Uint8Array} octets */
   take(octets) {
     let at = 0;
     while (this.head.length < HEAD && at < octets.length) {
@@ -114,29 +147,31 @@ export class PackedReader {
   readHead() {
     const view = new DataView(Uint8Array.from(this.head).buffer);
     const magic = String.fromCharCode(...this.head.slice(0, 8));
-    if (magic !== MAGIC[this.lines]) throw new Fault("capture: wrong magic");
+    if (magic !== this.kind.magic) throw new Fault("capture: wrong magic");
     const count = view.getBigUint64(8, true);
     if (count > MOST_BITS) throw new Fault("capture: too many bits");
     this.left = Number(count);
   }
 
+  /** @param {number} octet */
   takeOctet(octet) {
     if (this.left === 0) this.refuse("octets after the end");
-    const width = this.lines; // bits of a mark
+    const { width } = this.kind; // bits of a mark
     const marks = Math.min(this.left, 8 / width);
     if (octet >> (marks * width) !== 0) this.refuse("spare bits are not 0");
-    this.packer.addOctet(octet, marks);
+    this.sink.addOctet(octet, marks);
     this.left -= marks;
   }
 
+  /** @param {string} text */
   refuse(text) {
-    this.packer.flush();
+    this.sink.flush();
     throw new Fault(`capture: ${text}`);
   }
 
   end() {
     if (this.head.length < HEAD) throw new Fault("capture: short head");
-    this.packer.flush();
+    this.sink.flush();
     if (this.left > 0) throw new Fault("capture: short body");
   }
 }

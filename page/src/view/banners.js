@@ -1,6 +1,8 @@
 import { element, make } from "./dom.js";
 import { faultWords, wordsOf } from "./words.js";
 
+/** @typedef {import("../../../scripts/modules/recording/doubts.js").Warning} Warning */
+
 /** What there is to do about a warning. */
 const NAMES = {
   edge: "Take the bits at the other edge",
@@ -9,14 +11,19 @@ const NAMES = {
   second: "Show it",
 };
 
+/**
+ * What the page can do.
+ * @typedef {keyof typeof NAMES} Act
+ */
+
 /** What stands above all else: a fault of the file, warnings of the recording, and what was guessed. */
 export class Banners {
-  /** @param {(act: "edge"|"invert"|"wires"|"second", warning?: object) => void} mend what to do about a warning */
+  /** @param {(act: Act, warning?: Warning) => void} mend what to do about a warning */
   constructor(mend) {
     this.mend = mend;
   }
 
-  /** @param {{ fault: string|null, warnings: object[], count: number }} summary @param {string} guess */
+  /** @param {{ fault: string|null, warnings: Warning[], count: number }} summary @param {string} guess */
   show({ fault, warnings, count }, guess) {
     element("fault").hidden = fault === null;
     element("fault").textContent = fault === null ? "" : faultWords(fault, count > 0);
@@ -28,15 +35,21 @@ export class Banners {
     element("guess").replaceChildren(guess, ...(guess === "" ? [] : [this.button("wires")]));
   }
 
-  /** A warning, with what to do; the other edge is offered once. */
+  /**
+   * A warning, with what to do, in a report no more than to show it; the other edge is offered once.
+   * @param {Warning} warning
+   * @param {boolean} isFirstEdge
+   */
   item(warning, isFirstEdge) {
     const { text, cure, act } = wordsOf(warning);
     const item = make("li", "");
     item.append(make("strong", text), ...(cure ? [` ${cure}`] : []));
-    if (act !== "" && (act !== "edge" || isFirstEdge)) item.append(this.button(act, warning));
+    const isOffered = element("listing-data") ? act === "second" : act !== "edge" || isFirstEdge;
+    if (act !== "" && isOffered) item.append(this.button(act, warning));
     return item;
   }
 
+  /** @param {Act} act @param {Warning} [warning] */
   button(act, warning) {
     const button = make("button", NAMES[act], "screen");
     button.type = "button";

@@ -19,6 +19,7 @@ export class Bar {
    * @param {{ name: string, date: string, hasDictionary: boolean }} file
    */
   show(summary, job, { name, date, hasDictionary }) {
+    /** @param {string} text */
     const fact = (text, className = "") => make("li", text, className);
     const chip = fact("");
     chip.append(this.chip);
@@ -32,7 +33,11 @@ export class Bar {
     this.draw();
   }
 
-  /** Says which dictionary there is, and how it stands. */
+  /**
+   * Says which dictionary there is, and how it stands.
+   * @param {string} name
+   * @param {{ text: string, isGood: boolean }} state
+   */
   setDictionary(name, state) {
     Object.assign(this, { name, state });
     this.draw();

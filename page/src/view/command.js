@@ -1,25 +1,34 @@
-/** Inverts one line of one, or of two lines the first, the second or both. */
-const INVERT = ["tr 01 10", "tr 0123 1032", "tr 0123 2301", "tr 0123 3210"];
+/**
+ * How \`port1\` is told the kind of a capture.
+ * @type {Record<import("./page.js").CaptureKind, string[]>}
+ */
+const KINDS = { 1: [], 2: ["--two"], arrivals: ["--arrivals"] };
 
-const NO_COMMAND = "No command lists the same: recording-to-bits takes no inverted answers that have a clock of their own.";
-
-/** The command that lists the same. */
+/**
+ * The command that lists the same.
+ * @param {import("./page.js").Asked} job
+ * @param {string} name
+ */
 export function commandOf(job, name) {
   if (job.form === "listing") return "";
   const isRecording = job.channels.length > 0;
-  if (job.channels.length === 4 && job.inverted > 1) return NO_COMMAND;
-  const words = ["port1 list"];
-  if (job.form === "text" || isRecording) words.push("--bits");
-  if (isRecording ? job.channels.length > 2 : job.lines === 2) words.push("--two");
-  if (job.dictionary) words.push('--dict "$(cat DICTIONARY)"');
+  /** @type {import("./page.js").CaptureKind} */
+  const kind = isRecording ? (job.channels.length > 2 ? "arrivals" : 1) : job.kind;
+  const bits = job.form === "text" || isRecording ? ["--bits"] : [];
+  const dictionary = job.dictionary ? ['--dict "$(cat DICTIONARY)"'] : [];
+  const list = ["port1 list", ...bits, ...KINDS[kind], ...dictionary].join(" ");
   const file = quoted(name);
-  if (!isRecording) return `The same listing: ${words.join(" ")} < ${file}`;
-  const bits = ["recording-to-bits", ...(job.rising ? [] : ["--falling"]), ...job.channels.map(quoted)];
-  const turned = job.inverted ? [INVERT[job.channels.length > 2 ? job.inverted : 0]] : [];
-  return `The same listing: ${[`${bits.join(" ")} < ${file}`, ...turned, words.join(" ")].join(" | ")}`;
+  if (!isRecording) return `The same listing: ${list} < ${file}`;
+  const data = [job.channels[1], job.channels[job.channels.length - 1]];
+  const inverted = data.filter((_, at) => (job.inverted >> at) & 1).join(",");
+  const options = [...(job.rising ? [] : ["--falling"]), ...(inverted ? [`--invert ${quoted(inverted)}`] : [])];
+  return `The same listing: ${["recording-to-bits", ...options, ...job.channels.map(quoted)].join(" ")} < ${file} | ${list}`;
 }
 
-/** A word as a shell takes it. */
+/**
+ * A word as a shell takes it.
+ * @param {string} word
+ */
 function quoted(word) {
   return /^[\w.,:+@%/-]+$/.test(word) ? word : `'${word.replaceAll("'", "'\\''")}'`;
 }

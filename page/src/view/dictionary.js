@@ -4,16 +4,25 @@ import { element, make, save } from "./dom.js";
 /** After so many milliseconds without a key, an edited dictionary is read. */
 const PAUSE = 800;
 
+/** @typedef {import("../../../scripts/modules/dictionary/check.js").Finding} Finding */
+/** @typedef {import("../../../scripts/modules/dictionary/schema.js").Schema} Schema */
+
 /** The dictionary: its text, what is wrong with it, and what is read with it. */
 export class DictionaryPane {
   /**
-   * @param {object} desk
-   * @param {object} schema
+   * @param {{ check: (text: string, schema: Schema) => Promise<Finding[]> }} desk
+   * @param {Schema} schema
    * @param {import("./bar.js").Bar} bar
    * @param {() => Promise<void>} read what to do where an edit is done
    */
   constructor(desk, schema, bar, read) {
-    Object.assign(this, { desk, schema, bar, read, name: "" });
+    this.desk = desk;
+    this.schema = schema;
+    this.bar = bar;
+    this.read = read;
+    this.name = "";
+    /** @type {number|undefined} */
+    this.timer = undefined;
     this.field = element("dictionary");
     this.field.addEventListener("input", () => this.edited());
     element("save-dictionary").addEventListener("click", () => save("dictionary.toml", new Blob([this.text])));
@@ -23,7 +32,11 @@ export class DictionaryPane {
     return this.field.value;
   }
 
-  /** Takes a text, of a file or a draft. */
+  /**
+   * Takes a text, of a file or a draft.
+   * @param {string} text
+   * @param {string} name
+   */
   set(text, name) {
     clearTimeout(this.timer);
     this.field.value = text;
@@ -41,7 +54,10 @@ export class DictionaryPane {
     this.timer = setTimeout(() => this.read(), PAUSE);
   }
 
-  /** Says what is wrong with it. @returns {Promise<number>} how many faults there are */
+  /**
+   * Says what is wrong with it.
+   * @returns {Promise<number>} how many faults there are
+   */
   async check() {
     const { text } = this;
     const findings = text.trim() ? await this.desk.check(text, this.schema) : [];
@@ -56,7 +72,10 @@ export class DictionaryPane {
   }
 }
 
-/** What is found in a dictionary, with its line. */
+/**
+ * What is found in a dictionary, with its line.
+ * @param {Finding} finding
+ */
 function itemOf({ line, text, isFault }) {
   return make("li", `line ${line}: ${text}`, isFault ? "fault" : "");
 }

@@ -5,9 +5,13 @@ import { element, make } from "./dom.js";
  * @typedef {{ keys: string[], shown: string, words: string }} Key
  */
 
-/** Whether a key was typed into a field, or is one of the browser's own. */
+/**
+ * Whether a key was typed into a field, or is one of the browser's own.
+ * @param {KeyboardEvent} event
+ */
 export function isOther(event) {
-  const isTyped = event.target.closest?.("input:not([type=checkbox]), textarea, select, dialog");
+  const target = /** @type {Partial<Element>} */ (event.target);
+  const isTyped = target.closest?.("input:not([type=checkbox]), textarea, select, dialog");
   return isTyped || event.ctrlKey || event.metaKey || event.altKey;
 }
 
@@ -25,6 +29,7 @@ export class Help {
   }
 }
 
+/** @param {string} name @param {{ shown: string, words: string }[]} keys */
 function partOf(name, keys) {
   const part = make("section");
   const list = make("dl");

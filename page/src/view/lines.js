@@ -2,10 +2,14 @@ import { element, make } from "./dom.js";
 import { isOther } from "./keys.js";
 import { latest } from "./latest.js";
 
+/** @typedef {import("../worker/desk.js").FarDesk} Desk */
+/** @typedef {import("../worker/desk.js").Line} Line */
+
 /** The height of a line, which the style sheet has, too, and the most that browsers take for the height of a list. */
 const LINE_HEIGHT = 20;
 const MOST_HEIGHT = 8000000;
 
+/** @type {(import("./keys.js").Key & { act(lines: Lines): void })[]} */
 const ACTS = [
   { keys: ["ArrowDown"], shown: "\u2193", words: "choose the next line", act: (lines) => lines.move(1) },
   { keys: ["ArrowUp"], shown: "\u2191", words: "choose the line before", act: (lines) => lines.move(-1) },
@@ -21,13 +25,20 @@ export const LINES_KEYS = ACTS;
 
 /** The lines of a listing, of which only those in view are in the page. */
 export class Lines {
+  /** @type {number[]} those that are drawn */
+  rows = [];
+  drawnAt = 0; // the place of the first of them
+  expected = NaN; // how far `show` scrolled
+
   /**
-   * @param {object} desk
+   * @param {Desk} desk
    * @param {(row: number) => void} pick what to do where a line is chosen
    * @param {(row: number) => void} open what to do where the line that is chosen is chosen again
    */
   constructor(desk, pick, open) {
-    Object.assign(this, { desk, pick, open });
+    this.desk = desk;
+    this.pick = pick;
+    this.open = open;
     this.rate = 1;
     this.at = -1; // the place of the chosen line among those shown
     this.count = 0;
@@ -42,7 +53,10 @@ export class Lines {
     this.view.setAttribute("role", "presentation");
     this.spacer = make("div");
     this.box.append(this.view, this.spacer);
-    this.ask = latest((from, many) => desk.lines(from, many), (lines) => this.draw(lines));
+    this.ask = latest(
+      (/** @type {number} */ from, /** @type {number} */ many) => desk.lines(from, many),
+      (lines) => this.draw(lines),
+    );
     this.box.addEventListener("scroll", () => this.scrolled());
     this.box.addEventListener("wheel", (event) => this.turned(event), { passive: false });
     this.box.addEventListener("keydown", (event) => this.pressed(event));
@@ -65,14 +79,20 @@ export class Lines {
     return Math.min(MOST_HEIGHT, Math.max(this.count * LINE_HEIGHT, this.box.clientHeight));
   }
 
-  /** Shows a list of so many lines, from one on. */
+  /**
+   * Shows a list of so many lines, from one on.
+   * @param {number} count
+   */
   reset(count, top = 0) {
     this.count = count;
     this.spacer.style.height = `${this.height}px`;
     this.show(top);
   }
 
-  /** Shows the lines from one on. */
+  /**
+   * Shows the lines from one on.
+   * @param {number} top
+   */
   show(top) {
     this.top = Math.max(0, Math.min(Math.round(top), this.count - this.many));
     const wanted = (this.top / Math.max(1, this.count - this.many)) * (this.height - this.box.clientHeight);
@@ -81,7 +101,11 @@ export class Lines {
     this.ask(this.top, this.many + 1);
   }
 
-  /** Shows a line in the middle, and marks it. */
+  /**
+   * Shows a line in the middle, and marks it.
+   * @param {number} position
+   * @param {number} row
+   */
   reveal(position, row) {
     this.chosen = row;
     this.at = position;
@@ -97,6 +121,7 @@ export class Lines {
     this.ask(this.top, this.many + 1);
   }
 
+  /** @param {WheelEvent} event */
   turned(event) {
     if (event.ctrlKey || Math.abs(event.deltaY) < Math.abs(event.deltaX)) return;
     const step = event.deltaMode === 0 ? event.deltaY / LINE_HEIGHT : event.deltaY;
@@ -106,6 +131,7 @@ export class Lines {
     this.show(this.top + (Math.abs(step) < 1 ? Math.sign(step) : step));
   }
 
+  /** @param {KeyboardEvent} event */
   pressed(event) {
     const found = ACTS.find(({ keys }) => keys.includes(event.key));
     if (!found || isOther(event)) return;
@@ -114,7 +140,10 @@ export class Lines {
     found.act(this);
   }
 
-  /** Chooses the line so many further on. */
+  /**
+   * Chooses the line so many further on.
+   * @param {number} step
+   */
   async move(step) {
     const next = Math.max(0, Math.min(this.count - 1, (this.at < 0 ? this.top - Math.sign(step) : this.at) + step));
     const [line] = await this.desk.lines(next, 1);
@@ -123,16 +152,20 @@ export class Lines {
     this.pick(line.row);
   }
 
-  /** Puts lines into the elements that are there, which is quicker than to make them. */
+  /**
+   * Puts lines into the elements that are there, which is quicker than to make them.
+   * @param {Line[]} lines
+   */
   draw(lines) {
     while (this.view.childElementCount < lines.length) this.view.append(emptyLine());
-    while (this.view.childElementCount > lines.length) this.view.lastChild.remove();
+    while (this.view.childElementCount > lines.length) /** @type {ChildNode} */ (this.view.lastChild).remove();
     lines.forEach((line, at) => this.drawLine(this.view.children[at], line, this.top + at));
     this.rows = lines.map(({ row }) => row);
     this.drawnAt = this.top;
     this.box.setAttribute("aria-activedescendant", this.chosen < 0 ? "" : `line-${this.chosen}`);
   }
 
+  /** @param {Element} node @param {Line} line @param {number} position */
   drawLine(node, line, position) {
     const isChosen = line.row === this.chosen;
     node.className = `line ${line.kind}${isChosen ? " chosen" : ""}`;
@@ -141,14 +174,16 @@ export class Lines {
     node.setAttribute("aria-setsize", String(this.count));
     node.setAttribute("aria-posinset", String(position + 1));
     cellsOf(line, this.rate).forEach((text, at) => {
-      const cell = node.children[at].firstChild;
+      const cell = /** @type {Text} */ (node.children[at].firstChild);
       if (cell.data !== text) cell.data = text;
     });
-    node.lastChild.className = line.derived ? "about derived" : "about";
+    /** @type {Element} */ (node.lastChild).className = line.derived ? "about derived" : "about";
   }
 
+  /** @param {MouseEvent} event */
   clicked(event) {
-    const at = [...this.view.children].indexOf(event.target.closest(".line"));
+    const nodes = /** @type {(Element|null)[]} */ ([...this.view.children]);
+    const at = nodes.indexOf(/** @type {Element} */ (event.target).closest(".line"));
     if (at < 0) return;
     const row = this.rows[at];
     this.at = this.drawnAt + at;
@@ -180,10 +215,15 @@ function emptyLine() {
   return line;
 }
 
-/** The texts of the cells: the time, and then a line of `port1 list` as it is, with the time of a reply. */
+/**
+ * The texts of the cells: the time, and then a line of `port1 list` as it is, with the time of a reply.
+ * @param {Line} line
+ * @param {number} rate
+ */
 function cellsOf({ text, first, reply, derived }, rate) {
   const found = /^(?:([12]) )?(\d+ \d+) (\w+)(?: ([0-9a-f]{4,}))?(.*)$/.exec(text);
-  const [, on = "", places, kind, octets = "", about] = found ?? [null, "", "", "", text, ""];
+  const whole = /** @type {[null, string, string, string, string, string]} */ ([null, "", "", "", text, ""]);
+  const [, on = "", places, kind, octets = "", about] = found ?? whole;
   const after = reply === null ? about : `${about}, ${((1000 * reply) / rate).toFixed(2)} ms`;
   const second = `${(first / rate).toFixed(6)} `;
   return [second, on && `${on} `, `${places} `, kind, octets && ` ${octets}`, derived ? ` ${derived}` : after];

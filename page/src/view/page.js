@@ -19,13 +19,60 @@ import { Tabs } from "./tabs.js";
 import { Timeline, TIMELINE_KEYS } from "./timeline.js";
 import { duration, grouped, seconds } from "./units.js";
 import { Verdict } from "./verdict.js";
+import { whyNot } from "./words.js";
 
-/** What is chosen under Form, as the worker takes it. */
+/** @typedef {import("../../../scripts/modules/recording/doubts.js").Warning} Warning */
+/** @typedef {ReturnType<typeof import("../worker/forms.js").formOf>} Told of a file by its first octets */
+/** @typedef {NonNullable<Told["kind"]>} CaptureKind */
+/** @typedef {Told & { form: Exclude<Told["form"], "dictionary"|"other"> }} Chosen how a file is read */
+/** @typedef {import("../worker/desk.js").FarDesk} Desk */
+/** @typedef {import("../worker/desk.js").Found} Found */
+/** @typedef {import("../worker/desk.js").Summary} Summary */
+
+/**
+ * What the worker is asked to read.
+ * @typedef {object} Asked
+ * @property {File} file
+ * @property {Chosen["form"]} form
+ * @property {CaptureKind} kind of a capture
+ * @property {string[]} channels of a recording
+ * @property {boolean} rising whether bits are taken at rising edges
+ * @property {number} inverted which lines' data is: 1, 2, or 3 for both
+ * @property {number} rate in bits a second
+ * @property {string} dictionary its text, or nothing
+ * @property {Uint8Array|null} engine the decoder's module
+ */
+
+/**
+ * The same of the listing in a report, with the warnings that the report was told.
+ * @typedef {Pick<Asked, "rate"|"dictionary"|"engine"> & { file: Blob, form: "listing", told: string[], end?: number }}
+ *   Embedded
+ */
+
+/**
+ * What the page knows of itself, and a report of its recording.
+ * @typedef {object} About
+ * @property {string} version
+ * @property {string} decoder its SHA-256
+ * @property {import("./dictionary.js").Schema} schema of dictionaries
+ * @property {Record<string, string>} [recording] what is known of its file
+ * @property {string[]} [notes] on it
+ * @property {number} [bits] that it has
+ */
+
+/** @typedef {About & { title: string, rate: number, dictionary: string, command: string }} Report */
+
+/**
+ * What is chosen under Form, as the worker takes it.
+ * @type {Record<string, Chosen>}
+ */
 const FORMS = {
-  text1: { form: "text", lines: 1 },
-  text2: { form: "text", lines: 2 },
-  packed1: { form: "packed", lines: 1 },
-  packed2: { form: "packed", lines: 2 },
+  text1: { form: "text", kind: 1 },
+  text2: { form: "text", kind: 2 },
+  text3: { form: "text", kind: "arrivals" },
+  packed1: { form: "packed", kind: 1 },
+  packed2: { form: "packed", kind: 2 },
+  packed3: { form: "packed", kind: "arrivals" },
   vcd: { form: "vcd" },
   csv: { form: "csv" },
   session: { form: "session" },
@@ -42,6 +89,9 @@ const NOTHING_CHOSEN = "Nothing is chosen: choose a mark, a line, or a time of a
 /** About a line that is no stretch, so many seconds are shown. */
 const ABOUT_SECONDS = 0.3;
 
+/** @typedef {import("./keys.js").Key & { act: (page: Page, key: string) => void }} PageKey */
+
+/** @type {PageKey[]} */
 const KEYS = [
   { keys: ["n"], shown: "n", words: "the next place of the sentences", act: (page) => page.sentences.step(1) },
   { keys: ["p"], shown: "p", words: "the place before", act: (page) => page.sentences.step(-1) },
@@ -53,7 +103,10 @@ const KEYS = [
   { keys: ["w"], shown: "w", words: "wires and form", act: (page) => page.toggleSettings() },
 ];
 
-/** Keys without a file, too. */
+/**
+ * Keys without a file, too.
+ * @type {PageKey[]}
+ */
 const KEYS_ALWAYS = [
   { keys: ["o"], shown: "o", words: "open a file", act: (page) => page.files.choose() },
   { keys: ["?"], shown: "?", words: "these keys", act: (page) => page.help.open() },
@@ -61,23 +114,23 @@ const KEYS_ALWAYS = [
 
 /** The page: what was chosen, and the parts that show it. */
 class Page {
+  /** @param {Desk} desk */
   constructor(desk) {
     this.desk = desk;
+    /** @type {About} */
     this.about = JSON.parse(element("about").textContent);
     this.engine = canRun() && element("engine") ? octetsOf("engine") : null;
+    /** @type {File[]} */
     this.chosen = [];
-    this.make();
-    this.state("empty");
-    this.listen();
-    const { version, decoder } = this.about;
-    element("version").textContent = `Port 1 analyser ${version}, decoder ${decoder.slice(0, 16)}.`;
-    element("query-kind").replaceChildren(make("option", ""), ...KINDS.map((kind) => make("option", kind)));
-    if (!this.engine && !element("listing-data")) this.say(NO_ENGINE);
-  }
-
-  make() {
-    const { desk } = this;
-    this.files = new Files((files) => this.take(files).catch((fault) => this.say(fault.message, true)));
+    /** @type {Found} */
+    this.found = { form: "other", channels: [] }; // of the chosen file, once the worker has looked at it
+    this.guess = "";
+    this.rate = RATE;
+    /** @type {Asked|Embedded|null} */
+    this.asked = null;
+    /** @type {Asked|Embedded|null} */
+    this.job = null; // of what is shown
+    this.files = new Files((files) => this.take(files).catch((fault) => this.refuse(fault)));
     this.lines = new Lines(desk, (row) => this.pickLine(row), (row) => this.openLine(row));
     this.timeline = new Timeline(desk, {
       pick: (row) => this.pickMark(row),
@@ -87,15 +140,21 @@ class Page {
     this.tabs = new Tabs();
     this.bar = new Bar(() => this.tabs.open("dictionary"));
     this.verdict = new Verdict((name) => this.showKind(name));
-    this.banners = new Banners((act, warning) => this.mend(act, warning).catch((fault) => this.say(fault.message, true)));
+    this.banners = new Banners((act, warning) => this.mend(act, warning).catch((fault) => this.refuse(fault)));
     this.sentences = new Sentences((place) => this.go(place), () => this.tabs.open("table"));
     this.dictionary = new DictionaryPane(desk, this.about.schema, this.bar, () => this.readAgain());
     this.replies = new Replies();
     this.help = new Help([["Page", [...KEYS, ...KEYS_ALWAYS]], ["Timeline", TIMELINE_KEYS], ["Listing", LINES_KEYS]]);
+    this.state("empty");
+    this.listen();
+    const { version, decoder } = this.about;
+    element("version").textContent = `Port 1 analyser ${version}, decoder ${decoder.slice(0, 16)}.`;
+    element("query-kind").replaceChildren(make("option", ""), ...KINDS.map((kind) => make("option", kind)));
+    if (!this.engine && !element("listing-data")) this.say(NO_ENGINE);
   }
 
   listen() {
-    element("file").addEventListener("change", () => this.look());
+    element("file").addEventListener("change", () => this.look().catch((fault) => this.refuse(fault)));
     element("settings").addEventListener("submit", (event) => {
       event.preventDefault();
       this.read();
@@ -113,11 +172,23 @@ class Page {
     this.onClick("save-summary", async () => save("summary.txt", new Blob([await this.desk.summaryText()])));
   }
 
+  /**
+   * Says why a file cannot be read.
+   * @param {Error} fault
+   */
+  refuse(fault) {
+    this.say(whyNot(fault.message), true);
+  }
+
+  /** @param {string} id @param {() => void|Promise<void>} act */
   onClick(id, act) {
     element(id).addEventListener("click", () => Promise.resolve(act()).catch((fault) => this.say(fault.message, true)));
   }
 
-  /** How far the page is: empty, asking for wires, or with a result. */
+  /**
+   * How far the page is: empty, asking for wires, or with a result.
+   * @param {"empty"|"asking"|"result"} name
+   */
   state(name) {
     document.body.dataset.state = name;
   }
@@ -125,11 +196,15 @@ class Page {
   toggleSettings(isOpen = !document.body.classList.contains("settings-open")) {
     document.body.classList.toggle("settings-open", isOpen);
     element("show-settings").setAttribute("aria-expanded", String(isOpen));
-    const fields = [...element("settings").querySelectorAll("select:enabled")];
-    if (isOpen) fields.find((field) => field.offsetParent !== null)?.focus();
+    /** @type {NodeListOf<HTMLSelectElement>} */
+    const fields = element("settings").querySelectorAll("select:enabled");
+    if (isOpen) [...fields].find((field) => field.offsetParent !== null)?.focus();
   }
 
-  /** Keys for the whole page, where none is typed into a field. */
+  /**
+   * Keys for the whole page, where none is typed into a field.
+   * @param {KeyboardEvent} event
+   */
   pressed(event) {
     const keys = element("result").hidden ? KEYS_ALWAYS : [...KEYS, ...KEYS_ALWAYS];
     const found = isOther(event) ? undefined : keys.find((some) => some.keys.includes(event.key));
@@ -138,6 +213,7 @@ class Page {
     found.act(this, event.key);
   }
 
+  /** @param {"lines"|"query-text"|"query-second"} id */
   focusListing(id) {
     this.tabs.open("listing");
     element(id).focus();
@@ -145,6 +221,7 @@ class Page {
 
   /** Reads the example that is in the page. */
   async showExample() {
+    /** @type {Record<string, string>} */
     const texts = JSON.parse(await (await unpacked("example-data")).text());
     await this.take(Object.entries(texts).map(([name, text]) => new File([text], name)));
   }
@@ -156,19 +233,29 @@ class Page {
     this.tabs.open("dictionary");
   }
 
-  /** Tells how things are. */
+  /**
+   * Tells how things are.
+   * @param {string} text
+   */
   say(text, isFault = false) {
     element("status").textContent = text;
     element("status").classList.toggle("fault", isFault);
   }
 
-  /** What the worker tells of its own accord. */
+  /**
+   * What the worker tells of its own accord.
+   * @param {{ progress: number }} event
+   */
   hear({ progress }) {
     element("progress").value = progress;
   }
 
-  /** Takes files: dictionaries into their field, the rest to choose from. */
+  /**
+   * Takes files: dictionaries into their field, the rest to choose from.
+   * @param {File[]} files
+   */
   async take(files) {
+    /** @type {[File[], string[]]} */
     const [rest, others] = [[], []];
     for (const file of files) {
       const { form, why } = await this.desk.lookAt(file);
@@ -201,7 +288,7 @@ class Page {
     element("ask").textContent = "";
     const how = this.files.offerChannels(channels);
     this.guess = how === "ordered" ? `The channels ${this.files.channels().join(", ")} were taken for ${WIRES}.` : "";
-    if (channels.length === 0 || how !== "asked") {
+    if (channels.length === 0 || how !== "unknown") {
       await this.read();
       return;
     }
@@ -209,13 +296,15 @@ class Page {
     if (element("result").hidden) this.state("asking");
     else this.toggleSettings(true);
     this.say("Say which channels the recording has, then read it.");
-    element("channels").querySelector("select").focus();
+    /** @type {HTMLSelectElement} */ (element("channels").querySelector("select")).focus();
   }
 
+  /** @param {File} file @returns {Asked} */
   jobOf(file) {
-    const chosen = FORMS[element("form").value] ?? this.found;
+    const chosen = FORMS[element("form").value] ?? /** @type {Chosen} */ (this.found); // no other file is taken
+    const kind = /** @type {CaptureKind} */ (1);
     return {
-      ...{ lines: 1, ...chosen, channels: this.found.channels.length > 0 ? this.files.channels() : [] },
+      ...{ kind, ...chosen, channels: this.found.channels.length > 0 ? this.files.channels() : [] },
       ...{ rising: !element("falling").checked, inverted: this.files.inverted(), file },
       rate: Number(element("rate").value) || RATE,
       dictionary: this.dictionary.text,
@@ -234,7 +323,7 @@ class Page {
       await this.load(this.jobOf(file), file.name);
       this.toggleSettings(false);
     } catch (fault) {
-      this.say(fault.message, true);
+      this.refuse(/** @type {Error} */ (fault));
       if (document.body.dataset.state !== "result" && this.found.channels.length > 0) this.state("asking");
     }
     document.body.classList.remove("reading");
@@ -247,6 +336,7 @@ class Page {
     if (this.file && !element("result").hidden) await this.read();
   }
 
+  /** @param {Asked|Embedded} job @param {string} name */
   async load(job, name) {
     const began = performance.now();
     this.asked = job;
@@ -275,7 +365,12 @@ class Page {
     element("chosen").textContent = NOTHING_CHOSEN;
   }
 
-  /** All that is said of a file in words. */
+  /**
+   * All that is said of a file in words.
+   * @param {Summary} summary
+   * @param {Asked|Embedded} job
+   * @param {string} name
+   */
   showWords(summary, job, name) {
     const { verdict, findings, warnings } = summary;
     const isReport = Boolean(element("listing-data"));
@@ -283,7 +378,7 @@ class Page {
     this.verdict.show(summary);
     this.banners.show(summary, isReport ? "" : this.guess);
     const bits = summary.past - summary.first;
-    this.sentences.show(findings, summary.well, [...verdict.lacks, ...verdict.notes], { rate: job.rate, length: bits });
+    this.sentences.show(findings, verdict.well, [...verdict.lacks, ...verdict.notes], { rate: job.rate, length: bits });
     const length = (bits / job.rate).toFixed(3);
     const pieces = counted(summary.damaged, "damaged piece");
     element("head").textContent = `${counted(summary.frames, "frame")} and ${pieces} in ${length} s.`;
@@ -294,21 +389,33 @@ class Page {
     element("warnings-head").hidden = warnings.length === 0;
   }
 
-  /** The bar and the title. */
+  /**
+   * The bar and the title.
+   * @param {Summary} summary
+   * @param {Asked|Embedded} job
+   * @param {string} name
+   * @param {boolean} isReport
+   */
   showFile(summary, job, name, isReport) {
-    const date = isReport ? this.about.recording?.date ?? "" : dateOf(job.file);
-    const shown = isReport ? this.about.recording?.name ?? name : name;
+    const [asked, about] = [/** @type {Asked} */ (job), /** @type {Report} */ (this.about)]; // each where it is one
+    const date = isReport ? about.recording?.date ?? "" : dateOf(asked.file);
+    const shown = isReport ? about.recording?.name ?? name : name;
     this.bar.show(summary, job, { name: shown, date, hasDictionary: job.form !== "listing" });
-    element("title").textContent = isReport ? this.about.title : "Port 1";
+    element("title").textContent = isReport ? about.title : "Port 1";
     if (!isReport) {
       document.title = `${element("verdict-word").textContent}: ${name}, Port 1`;
-      const wires = job.channels.length > 0 ? { wires: job.channels.join(", ") } : {};
-      this.showRecording({ name, date, size: grouped(job.file.size), form: job.form, ...wires });
+      /** @type {Record<string, string>} */
+      const wires = asked.channels.length > 0 ? { wires: asked.channels.join(", ") } : {};
+      this.showRecording({ name, date, size: grouped(asked.file.size), form: job.form, ...wires });
     }
-    element("command").textContent = isReport ? this.about.command : commandOf(job, name);
+    element("command").textContent = isReport ? about.command : commandOf(asked, name);
   }
 
-  /** Where nothing is judged, because there is no dictionary, the way to one. */
+  /**
+   * Where nothing is judged, because there is no dictionary, the way to one.
+   * @param {Summary["verdict"]} verdict
+   * @param {Asked|Embedded} job
+   */
   offerDraft({ lacks }, job) {
     const lack = element("lacks").querySelector(".is-dictionary");
     if (!lack || job.dictionary.trim() || !this.engine || lacks.length === 0) return;
@@ -319,7 +426,8 @@ class Page {
   }
 
   async search(top = 0) {
-    const [text, kind, station, type] = ["text", "kind", "station", "type"].map((id) => element(`query-${id}`).value);
+    const names = /** @type {const} */ (["text", "kind", "station", "type"]);
+    const [text, kind, station, type] = names.map((id) => element(`query-${id}`).value);
     const found = await this.desk.choose({ text, kind, station, type, isBusy: !element("query-idle").checked });
     if (!found) return;
     const { count, idle } = found;
@@ -329,30 +437,43 @@ class Page {
     this.lines.reset(count, top);
   }
 
-  /** A line was chosen: the timeline marks where it is. */
+  /**
+   * A line was chosen: the timeline marks where it is.
+   * @param {number} row
+   */
   async pickLine(row) {
     this.showChosen(await this.desk.placesOf(row));
   }
 
-  /** The chosen line was chosen again: the timeline shows it large, with its bits. */
+  /**
+   * The chosen line was chosen again: the timeline shows it large, with its bits.
+   * @param {number} row
+   */
   async openLine(row) {
     const { first, upTo } = await this.desk.placesOf(row);
     this.timeline.reveal(first, upTo);
   }
 
-  /** A mark was chosen: the listing shows its line. */
+  /**
+   * A mark was chosen: the listing shows its line.
+   * @param {number} row
+   */
   async pickMark(row) {
     this.showChosen(await this.desk.placesOf(row));
     await this.showLine(row);
   }
 
-  /** One station was chosen, or all: timeline and listing show it. */
+  /**
+   * One station was chosen, or all: timeline and listing show it.
+   * @param {number|null} station
+   */
   async narrow(station) {
     this.timeline.narrowTo(station);
     element("query-station").value = station === null ? "" : String(station);
     await this.search();
   }
 
+  /** @param {number} row */
   async showLine(row) {
     if (element("pane-listing").hidden) this.tabs.open("listing");
     let position = await this.desk.positionOf(row);
@@ -367,11 +488,15 @@ class Page {
     this.lines.reveal(position, row);
   }
 
-  /** A place of a sentence was chosen: timeline and listing show it. */
+  /**
+   * A place of a sentence was chosen: timeline and listing show it.
+   * @param {import("./sentences.js").Goal} place
+   */
   async go(place) {
     const row = place.row < 0 ? await this.desk.rowFrom(place.first) : place.row;
     const about = await this.desk.placesOf(row);
-    const stretch = { first: place.first, past: place.past, upTo: place.past, text: place.short, reply: null };
+    const text = /** @type {string} */ (place.short); // which a stretch has
+    const stretch = { first: place.first, past: place.past, upTo: place.past, text, reply: null };
     const shown = place.isStretch ? { ...about, ...stretch } : about;
     const length = place.isStretch ? place.past - place.first : (ABOUT_SECONDS / 2) * this.rate;
     const middle = (shown.first + shown.past) / 2;
@@ -384,27 +509,37 @@ class Page {
     await this.showLine(row);
   }
 
-  /** What a warning asks for: to take other edges, to invert a line, to choose other wires, or to show a second. */
+  /**
+   * What a warning asks for: to take other edges, to invert a line, to choose other wires, or to show a second.
+   * @param {import("./banners.js").Act} act
+   * @param {Warning} [warning] which all have but a guess of the wires
+   */
   async mend(act, warning) {
     if (act === "wires") this.toggleSettings(true);
-    if (act === "second") await this.goTo(warning.second);
+    if (act === "second") await this.goTo(/** @type {{ second: number }} */ (warning).second);
     if (act === "wires" || act === "second") return;
-    const tick = element(act === "edge" ? "falling" : `inverted-${warning.line}`);
+    const tick = element(act === "edge" ? "falling" : `inverted-${/** @type {{ line: number }} */ (warning).line}`);
     tick.checked = !tick.checked;
     await this.read();
   }
 
+  /** @param {number} second */
   async goTo(second) {
     const place = Math.round(second * this.rate);
-    await this.go({ row: await this.desk.rowFrom(place), first: place, past: place + 1 });
+    const row = await this.desk.rowFrom(place);
+    if (row >= 0) await this.go({ row, first: place, past: place + 1 });
   }
 
   async goToSecond() {
     const { value } = element("query-second");
-    if (value !== "") await this.pickMark(await this.desk.rowFrom(Math.round(Number(value) * this.rate)));
+    const row = value === "" ? -1 : await this.desk.rowFrom(Math.round(Number(value) * this.rate));
+    if (row >= 0) await this.pickMark(row);
   }
 
-  /** What a number of the verdict counts. */
+  /**
+   * What a number of the verdict counts.
+   * @param {import("./verdict.js").Counted} name
+   */
   async showKind(name) {
     if (name === "gap") this.sentences.visitStretch();
     if (name === "damage") this.tabs.open("damage");
@@ -415,7 +550,10 @@ class Page {
     await this.search();
   }
 
-  /** Says what is chosen, and marks it in the timeline. */
+  /**
+   * Says what is chosen, and marks it in the timeline.
+   * @param {import("../worker/desk.js").Places} place
+   */
   showChosen(place) {
     const { first, past, text, reply } = place;
     const after = reply === null || reply === undefined ? "" : `, its answer after ${duration(reply, this.rate)}`;
@@ -426,7 +564,10 @@ class Page {
     this.timeline.choose(place);
   }
 
-  /** What is known of the recording's file. */
+  /**
+   * What is known of the recording's file.
+   * @param {Record<string, string>} facts
+   */
   showRecording(facts) {
     const items = Object.entries(facts).flatMap(([name, value]) => [make("dt", NAMES[name]), make("dd", value)]);
     element("recording").replaceChildren(...items);
@@ -435,10 +576,12 @@ class Page {
   /** Shows the listing that a report has in it. */
   async showEmbedded() {
     if (!element("listing-data")) return;
-    const { title, rate, dictionary, recording, notes = [], bits: end } = this.about;
+    const { title, rate, dictionary, recording, notes = [], bits: end } = /** @type {Report} */ (this.about);
     document.title = title;
     for (const id of ["choice", "actions", "dictionary-box"]) element(id).hidden = true;
-    for (const part of document.querySelectorAll("[data-report]")) part.textContent = part.dataset.report;
+    /** @type {NodeListOf<HTMLElement & { dataset: { report: string } }>} */
+    const parts = document.querySelectorAll("[data-report]");
+    for (const part of parts) part.textContent = part.dataset.report;
     element("dictionary-shown").hidden = dictionary === "";
     element("dictionary-text").textContent = dictionary;
     this.showRecording(recording ?? {});
@@ -451,9 +594,13 @@ class Page {
 /** How a warning begins among the notes of a recording. */
 const WARNING = "warning: ";
 
-/** What is said of a recording's file. */
+/**
+ * What is said of a recording's file.
+ * @type {Record<string, string>}
+ */
 const NAMES = { name: "File", date: "Date", size: "Octets", form: "Form", wires: "Wires", sha256: "SHA-256" };
 
+/** @param {File} file */
 function dateOf(file) {
   if (!file.lastModified) return "";
   const date = new Date(file.lastModified);
@@ -463,5 +610,5 @@ function dateOf(file) {
 const worker = new Worker(URL.createObjectURL(new Blob([element("worker").textContent], { type: "text/javascript" })));
 const desk = callerOf(worker, (event) => page.hear(event));
 const page = new Page(desk);
-self.page1 = page; // for tests and for the console
+/** @type {{ page1?: Page }} */ (self).page1 = page; // for tests and for the console
 page.showEmbedded().catch((fault) => page.say(fault.message, true));

@@ -1,9 +1,39 @@
 import { axisBottom } from "d3-axis";
 import { scaleLinear } from "d3-scale";
-import { lengthOf } from "../../../scripts/modules/findings/causes.js";
+import { lengthOf } from "../../../scripts/modules/statistics/causes.js";
 import { drawDigits, heightOfDigits } from "./digits.js";
 import { SIGNS } from "./signs.js";
 import { seconds } from "./units.js";
+
+/** @typedef {import("d3-scale").Scale} Scale */
+/** @typedef {import("d3-selection").Selection<SVGGElement>} Group */
+/** @typedef {import("d3-selection").Selection<SVGSVGElement>} Svg */
+/** @typedef {import("../../../scripts/modules/findings/findings.js").Finding} Finding */
+/** @typedef {import("../../../scripts/modules/findings/findings.js").Stretch} Stretch */
+/** @typedef {import("../worker/lanes.js").Lane} Lane */
+/** @typedef {import("../worker/lanes.js").Mark} Mark */
+/** @typedef {import("../worker/lanes.js").Track} Track */
+
+/**
+ * A part of the recording, in places.
+ * @typedef {{ first: number, past: number }} Part
+ */
+
+/**
+ * A sign: of one mark, or of those of a bin, and where it is in the picture.
+ * @typedef {{ count: number, x: number } & (Mark|{ row: number, text?: undefined })} Sign
+ */
+
+/**
+ * What is drawn, and how.
+ * @typedef {object} Told
+ * @property {Lane[]} lanes
+ * @property {import("./digits.js").Digits[]} digits
+ * @property {Scale} scale
+ * @property {number} rate
+ * @property {number} width
+ * @property {Part|null} chosen
+ */
 
 /** Below this width there is room for short names alone. */
 export const NARROW = 560;
@@ -19,9 +49,18 @@ const CHARACTER = 7; // the width of one, about
 
 /** Draws the lanes of a timeline. */
 export class Picture {
-  /** @param {object} svg a selection of d3 @param {(row: number) => void} pick what to do where a mark is chosen */
+  // Until it is drawn, it has none of these.
+  scale = /** @type {Scale} */ (/** @type {unknown} */ (undefined));
+  root = /** @type {Group} */ (/** @type {unknown} */ (undefined));
+  drawn = /** @type {{ lane: Lane, top: number, height: number }[]} */ (/** @type {unknown} */ (undefined));
+  rate = NaN;
+  width = NaN;
+
+  /** @param {Svg} svg @param {(row: number) => void} pick what to do where a mark is chosen */
   constructor(svg, pick) {
-    Object.assign(this, { svg, pick });
+    this.svg = svg;
+    this.pick = pick;
+    /** @type {Set<EventTarget|null>} */
     this.touched = new Set(); // what fingers touch
     const node = svg.node();
     node.addEventListener("touchstart", ({ target }) => this.touched.add(target), { passive: true });
@@ -30,15 +69,16 @@ export class Picture {
 
   /** A new picture in place of the old one, which stays hidden while a finger is on it: it gets the events. */
   begin() {
-    const isTouched = (node) => [...this.touched].some((target) => node.contains(target));
-    for (const node of [...this.svg.node().children]) {
+    /** @param {Element} node */
+    const isTouched = (node) => [...this.touched].some((target) => node.contains(/** @type {Node|null} */ (target)));
+    for (const node of /** @type {SVGGElement[]} */ ([...this.svg.node().children])) {
       if (isTouched(node)) node.style.display = "none";
       else node.remove();
     }
     return this.svg.append("g");
   }
 
-  /** @param {object} told lanes, bits, what is chosen, stretches through all lanes, and by which scale */
+  /** @param {Told & { stretches: Finding[] }} told stretches are drawn through all lanes */
   draw({ lanes, digits, scale, rate, width, chosen, stretches }) {
     Object.assign(this, { scale, rate, width });
     const stations = lanes.filter(({ isStation }) => isStation).length;
@@ -63,7 +103,11 @@ export class Picture {
     this.svg.attr("viewBox", `0 0 ${width} ${top}`);
   }
 
-  /** The seconds below the lanes, which may be scrolled; what is chosen, and where the recording is doubtful. */
+  /**
+   * The seconds below the lanes, which may be scrolled; what is chosen, and where the recording is doubtful.
+   * @param {Svg} axis
+   * @param {Told & { warnings: import("../../../scripts/modules/recording/doubts.js").Warning[] }} told
+   */
   drawAxis(axis, { scale, rate, width, chosen, warnings }) {
     const [left, right] = scale.range();
     const times = scaleLinear().domain(scale.domain().map((place) => place / rate)).range([left, right]);
@@ -71,6 +115,7 @@ export class Picture {
     axis.selectAll("*").remove();
     axis.append("g").call(axisBottom(times).ticks(Math.max(3, Math.min(10, Math.floor((right - left) / 90)))));
     axis.append("text").attr("x", 4).attr("y", 17).attr("class", "about").text("seconds");
+    /** @param {number} place @param {string} className @param {string} title */
     const flag = (place, className, title) => {
       const x = scale(place);
       if (x < left || x > right) return;
@@ -81,30 +126,48 @@ export class Picture {
     if (chosen) flag(chosen.first, "chosen-flag", "");
   }
 
-  /** The mark nearest to a point, and how far it is. @returns {{ row: number, away: number }|null} */
+  /**
+   * The mark nearest to a point, and how far it is.
+   * @param {number} x
+   * @param {number} y
+   */
   nearest(x, y) {
     const { scale } = this;
     const found = this.drawn.find(({ top, height }) => y >= top && y < top + height);
     if (!found) return null;
     const { lane, top, height } = found;
     const isAbove = y < top + height / 2;
+    /** @param {Track} track */
     const isOfCommands = ({ id }) => id === "command" || id === "other";
+    /** @param {Track} track */
     const isOfAnswers = ({ id, isSign }) => isSign || id !== "command";
     const isThere = lane.isStation ? (isAbove ? isOfCommands : isOfAnswers) : () => true;
+    /** @param {Mark} mark */
     const awayOf = ({ row, first, past }) => ({ row, away: Math.max(0, scale(first) - x, x - scale(past)) });
     const marks = lane.tracks.filter(isThere).flatMap((track) => track.marks ?? []);
-    return marks.map(awayOf).reduce((best, mark) => (best && best.away <= mark.away ? best : mark), null);
+    const none = /** @type {{ row: number, away: number }|null} */ (null);
+    return marks.map(awayOf).reduce((best, mark) => (best && best.away <= mark.away ? best : mark), none);
   }
 
+  /** @param {Group} group @param {string} text @param {number} x @param {number} y */
   words(group, text, x, y, className = "") {
     return group.append("text").attr("x", x).attr("y", y).attr("class", className).text(text);
   }
 
+  /**
+   * @param {Group} group
+   * @param {string} className
+   * @param {number} x
+   * @param {number} y
+   * @param {number} width
+   * @param {number} height
+   */
   box(group, className, x, y, width, height) {
     const made = group.append("rect").attr("class", className).attr("x", x).attr("y", y);
     return made.attr("width", Math.max(0, width)).attr("height", height);
   }
 
+  /** @param {Lane} lane @param {number} top @param {number} height @param {boolean} isEven */
   drawLane(lane, top, height, isEven) {
     const group = this.root.append("g").attr("transform", `translate(0,${top})`);
     if (isEven) this.box(group, "lane-ground", 0, 0, this.width, height);
@@ -121,7 +184,12 @@ export class Picture {
     for (const track of lane.tracks.filter(({ isSign }) => isSign)) this.drawSigns(group, track, 2 + half * 1.5);
   }
 
-  /** The name of a lane, and below or beside it how much is wrong, or else what is sent to the station. */
+  /**
+   * The name of a lane, and below or beside it how much is wrong, or else what is sent to the station.
+   * @param {Group} group
+   * @param {Lane} lane
+   * @param {number} height
+   */
   drawName(group, { name, about, isStation, tracks }, height) {
     const isNarrow = this.width < NARROW;
     const long = isStation && name !== "others" ? `Station ${name}` : name;
@@ -136,13 +204,21 @@ export class Picture {
     this.words(group, below.length > most ? `${below.slice(0, most - 1)}\u2026` : below, x, y, "about");
   }
 
-  /** Begin and end of a stretch in the picture. */
+  /**
+   * Begin and end of a stretch in the picture.
+   * @param {Part} stretch
+   */
   ends({ first, past }) {
     const [left, right] = this.scale.range();
     return [Math.max(left, this.scale(first)), Math.min(right, this.scale(past))];
   }
 
-  /** A time without the commands that usually come: hatched. */
+  /**
+   * A time without the commands that usually come: hatched.
+   * @param {Group} group
+   * @param {Stretch} gap
+   * @param {number} height
+   */
   drawGap(group, gap, height) {
     const [begin, end] = this.ends(gap);
     if (end - begin < 1) return;
@@ -150,7 +226,12 @@ export class Picture {
     group.append("g").attr("class", "hatch").append("path").attr("d", hatching(begin, end, 1.5, height - 1.5));
   }
 
-  /** The length of a gap, within it or beside it. */
+  /**
+   * The length of a gap, within it or beside it.
+   * @param {Group} group
+   * @param {Stretch} gap
+   * @param {number} height
+   */
   nameGap(group, gap, height) {
     const [left, right] = this.scale.range();
     const [begin, end] = this.ends(gap);
@@ -166,7 +247,11 @@ export class Picture {
     }
   }
 
-  /** Times without anything, through all lanes. */
+  /**
+   * Times without anything, through all lanes.
+   * @param {Finding[]} stretches
+   * @param {number} height
+   */
   drawStretches(stretches, height) {
     const group = this.root.append("g");
     for (const { sort, places } of stretches) {
@@ -179,8 +264,10 @@ export class Picture {
     }
   }
 
+  /** @param {Group} group @param {import("../worker/lanes.js").MarkedTrack} track @param {number} y @param {number} height */
   drawMarks(group, { id, marks }, y, height) {
     const [left, right] = this.scale.range();
+    /** @param {Mark} mark */
     const begin = (mark) => Math.max(left, this.scale(mark.first));
     group
       .selectAll(`rect.${id}`)
@@ -197,7 +284,13 @@ export class Picture {
       .text((mark) => `${seconds(mark.first, this.rate, this.rate / 1000)} s: ${mark.text}`);
   }
 
-  /** Bins as one picture: there are too many for an element each. */
+  /**
+   * Bins as one picture: there are too many for an element each.
+   * @param {Group} group
+   * @param {import("../worker/lanes.js").BinnedTrack} track
+   * @param {number} y
+   * @param {number} height
+   */
   drawBins(group, { id, counts, leaders }, y, height) {
     const most = counts.reduce((one, other) => Math.max(one, other), 1);
     const [left] = this.scale.range();
@@ -216,13 +309,21 @@ export class Picture {
     });
   }
 
-  /** Signs of what is wrong, where the answer should be. */
+  /**
+   * Signs of what is wrong, where the answer should be.
+   * @param {Group} group
+   * @param {Track} track
+   * @param {number} middle
+   */
   drawSigns(group, track, middle) {
     const [left, right] = this.scale.range();
-    const placeOf = (bin) => left + ((bin + 0.5) * (right - left)) / track.counts.length;
+    /** @param {number} bin */
+    const placeOf = (bin) => left + ((bin + 0.5) * (right - left)) / /** @type {Uint32Array} */ (track.counts).length;
+    /** @type {Sign[]} */
     const binned = track.counts
       ? Array.from(track.counts, (count, bin) => ({ count, row: track.leaders[bin], x: placeOf(bin) }))
       : track.marks.map((mark) => ({ ...mark, count: 1, x: Math.max(left, this.scale(mark.past)) }));
+    /** @param {Mark} mark */
     const when = ({ first }) => `${seconds(first, this.rate, this.rate / 1000)} s`;
     group
       .selectAll(`path.${track.id}`)
@@ -238,7 +339,11 @@ export class Picture {
       .text((mark) => (mark.text ? `${when(mark)}: ${mark.text}` : `${mark.count} ${track.id}`));
   }
 
-  /** What is chosen, through all lanes. */
+  /**
+   * What is chosen, through all lanes.
+   * @param {Part} chosen
+   * @param {number} height
+   */
   drawChosen(chosen, height) {
     const [left, right] = this.scale.range();
     const [begin, end] = [this.scale(chosen.first), this.scale(chosen.past)];
@@ -253,12 +358,21 @@ export class Picture {
   }
 }
 
-/** What d3 hands to a listener: first the datum, or first the event. */
+/**
+ * What d3 hands to a listener: first the datum, or first the event.
+ * @param {((Event & { row?: undefined })|{ row: number })[]} words
+ */
 function markOf(words) {
-  return words.find((word) => word && word.row !== undefined);
+  return /** @type {{ row: number }} */ (words.find((word) => word && word.row !== undefined));
 }
 
-/** Slanting lines that fill a box. */
+/**
+ * Slanting lines that fill a box.
+ * @param {number} left
+ * @param {number} right
+ * @param {number} top
+ * @param {number} bottom
+ */
 function hatching(left, right, top, bottom) {
   const height = bottom - top;
   let path = "";

@@ -4,6 +4,23 @@ import { select } from "d3-selection";
 import { element, make } from "./dom.js";
 import { duration, grouped } from "./units.js";
 
+/** @typedef {import("d3-scale").Scale} Scale */
+
+/**
+ * How long answers took in bits, and how many did so.
+ * @typedef {[bits: number, count: number][]} Times
+ */
+
+/**
+ * The times to answers of a kind of commands.
+ * @typedef {{ name: string, inTime: Times, late: Times }} KindTimes
+ */
+
+/**
+ * What a bar has, and which it is.
+ * @typedef {{ bar: number, answered: number, late: number }} Bar
+ */
+
 const WIDTH = { least: 280, most: 480 };
 const HEIGHT = 128;
 const EDGE = { left: 34, right: 10, top: 16, bottom: 32 };
@@ -13,11 +30,17 @@ const LEAST_BAR = 3; // so that one late answer among thousands is seen
 
 /** The histogram of reply times, of all commands or of one kind. */
 export class Replies {
+  width = NaN; // until it is drawn
+  x = /** @type {Scale} */ (/** @type {unknown} */ (undefined)); // until it is drawn
+  isJudged = false; // whether a reply can be late
+  rate = NaN;
+
   constructor() {
     this.box = element("replies");
     this.choice = make("select");
     this.choice.setAttribute("aria-label", "Reply times of which commands");
     this.words = make("p", "", "small");
+    /** @type {KindTimes[]} */
     this.kinds = [];
     this.svg = select(this.box).append("svg").attr("role", "img");
     this.box.prepend(this.choice);
@@ -31,11 +54,9 @@ export class Replies {
     return Math.max(WIDTH.least, Math.min(WIDTH.most, this.box.clientWidth));
   }
 
-  /**
-   * @param {{ name: string, inTime: [number, number][], late: [number, number][] }[]} kinds times in bits, and counts
-   */
+  /** @param {KindTimes[]} kinds @param {number} rate @param {boolean} isJudged */
   reset(kinds, rate, isJudged) {
-    this.isJudged = isJudged; // whether a reply can be late
+    this.isJudged = isJudged;
     const all = { name: "all commands", inTime: kinds.flatMap((kind) => kind.inTime), late: kinds.flatMap((kind) => kind.late) };
     this.kinds = kinds.length === 1 ? kinds : [all, ...kinds];
     this.rate = rate;
@@ -60,7 +81,11 @@ export class Replies {
     this.describe(inTime, late, width);
   }
 
-  /** A word above the late ones: colour is not alone. */
+  /**
+   * A word above the late ones: colour is not alone.
+   * @param {Times} late
+   * @param {number} width
+   */
   nameLate(late, width) {
     if (late.length === 0) return;
     const least = late.reduce((one, [bits]) => Math.min(one, bits), Infinity);
@@ -76,6 +101,12 @@ export class Replies {
       .text(`${grouped(count)} late`);
   }
 
+  /**
+   * @param {Map<number, number>} inTime
+   * @param {Map<number, number>} late
+   * @param {number} width
+   * @param {number} most
+   */
   drawBars(inTime, late, width, most) {
     const bars = [...new Set([...inTime.keys(), ...late.keys()])].map((bar) => ({
       bar,
@@ -98,6 +129,15 @@ export class Replies {
     this.drawAxes(x, y);
   }
 
+  /**
+   * @param {Bar} bar
+   * @param {number} count
+   * @param {number} below
+   * @param {string} className
+   * @param {Scale} x
+   * @param {Scale} y
+   * @param {number} width
+   */
   drawBar({ bar }, count, below, className, x, y, width) {
     if (count === 0) return;
     this.svg
@@ -111,6 +151,7 @@ export class Replies {
       .text(`${className}: ${count}`);
   }
 
+  /** @param {Scale} x @param {Scale} y */
   drawAxes(x, y) {
     this.svg
       .append("g")
@@ -130,6 +171,7 @@ export class Replies {
       .text("milliseconds from the end of a command to its answer");
   }
 
+  /** @param {Times} inTime @param {Times} late @param {number} width */
   describe(inTime, late, width) {
     const [answered, tardy] = [inTime, late].map((times) => times.reduce((sum, [, count]) => sum + count, 0));
     const bar = `a bar is ${duration(width, this.rate)} wide`;
@@ -141,8 +183,13 @@ export class Replies {
   }
 }
 
-/** How many times lie in each bar. */
+/**
+ * How many times lie in each bar.
+ * @param {Times} times
+ * @param {number} width
+ */
 function barsOf(times, width) {
+  /** @type {Map<number, number>} */
   const bars = new Map();
   for (const [bits, count] of times) {
     const bar = Math.floor(bits / width);
@@ -151,7 +198,10 @@ function barsOf(times, width) {
   return bars;
 }
 
-/** A count in few characters. */
+/**
+ * A count in few characters.
+ * @param {number} count
+ */
 function short(count) {
   if (count < 1000) return String(count);
   return count < 1000000 ? `${count / 1000}k` : `${count / 1000000}M`;

@@ -1,16 +1,23 @@
 import { counted } from "../../../scripts/modules/statistics/units.js";
 import { element, fillList, make } from "./dom.js";
 
+/** @typedef {import("../../../scripts/modules/statistics/table.js").Head} Head */
+/** @typedef {import("../../../scripts/modules/findings/findings.js").Finding} Finding */
+/** @typedef {ReturnType<typeof import("../../../scripts/modules/statistics/table.js").tableOf>} Table */
+/** @typedef {ReturnType<typeof import("../../../scripts/modules/statistics/damage.js").damageOf>} Damage */
+
 /** The columns that are bad where they are not 0, and those of a gap that is reported. */
 const BAD = new Set(["late", "missing", "spoilt"]);
 const OF_GAP = new Set(["longest", "from s"]);
 
 /**
  * The table of stations and types.
- * @param {import("../../../scripts/modules/findings/findings.js").Finding[]} findings
+ * @param {Table} table
+ * @param {Finding[]} findings
  */
 export function showTable({ heads, rows }, findings) {
-  const gaps = findings.filter(({ sort }) => sort === "gap").map(({ kind }) => kind);
+  const ofGaps = findings.filter(({ sort }) => sort === "gap").map(({ kind }) => kind);
+  const gaps = /** @type {NonNullable<Finding["kind"]>[]} */ (ofGaps);
   const head = make("tr");
   head.append(...heads.map(headCell));
   const lines = rows.map(({ cells, kind }) => {
@@ -25,7 +32,10 @@ export function showTable({ heads, rows }, findings) {
   element("table").replaceChildren(top, body);
 }
 
-/** The head of a column, with the word that stands above it and those after it in the summary as text. */
+/**
+ * The head of a column, with the word that stands above it and those after it in the summary as text.
+ * @param {Head} head
+ */
 function headCell({ group, name, isLeft }) {
   const cell = make("th", "", isLeft ? "text-cell" : "");
   if (group) cell.append(make("span", `${group} `, "group"));
@@ -34,12 +44,17 @@ function headCell({ group, name, isLeft }) {
   return cell;
 }
 
+/** @param {string} text @param {Head} head @param {boolean} hasGap */
 function cellOf(text, { name, isLeft }, hasGap) {
   const isBad = (BAD.has(name) && text !== "0" && text !== "-") || (hasGap && OF_GAP.has(name));
   return make("td", text, isLeft ? "text-cell" : isBad ? "bad" : "");
 }
 
-/** The damage by its cause, and where most of it lies. */
+/**
+ * The damage by its cause, and where most of it lies.
+ * @param {Damage} damage
+ * @param {number} count
+ */
 export function showDamage({ sentence, where, stretches }, count) {
   element("damage").textContent = sentence ? `${sentence} ${where}` : "Nothing is damaged.";
   const told = stretches.map(({ text, pieces, share }) => `${text}: ${counted(pieces, "piece")}, ${share.toFixed(0)} % of all`);

@@ -1,33 +1,48 @@
 import { element, make } from "./dom.js";
 import { signOf } from "./signs.js";
 
+/** @typedef {import("../../../scripts/modules/findings/findings.js").Finding} Finding */
+/** @typedef {import("../../../scripts/modules/statistics/rests.js").Place} Place */
+
 /** Of a file that is shorter than so many seconds, times have six decimals. */
 const SHORT = 0.1;
 
 /** How many places of a sentence are shown as buttons. */
 const MOST_TIMES = 6;
 
+/** @type {Partial<Record<string, number>>} */
 const STEPS = { ArrowRight: 1, ArrowDown: 1, ArrowLeft: -1, ArrowUp: -1 };
 
 /**
- * The sentences, each with the times of its places.
- * @typedef {import("../../../scripts/modules/findings/findings.js").Finding} Finding
+ * A place to go to: of a stretch with what is said of it.
+ * @typedef {Place & { isStretch?: boolean, short?: string }} Goal
  */
+
+/**
+ * A place of a sentence, the sentence's item, and the button of its time, if it has one.
+ * @typedef {Place & { isStretch: boolean, short: string, item: HTMLElement, button: HTMLButtonElement|null }} Stop
+ */
+
+/** The sentences, each with the times of its places. */
 export class Sentences {
   /**
-   * @param {(place: object) => void} go what to do where a place is chosen
+   * @param {(place: Goal) => void} go what to do where a place is chosen
    * @param {() => void} more what to do where a sentence refers to the table
    */
   constructor(go, more) {
-    Object.assign(this, { go, more });
+    this.go = go;
+    this.more = more;
+    /** @type {Stop[]} */
     this.stops = []; // the places of the sentences, in their order, with what marks them
+    this.rate = 1;
+    this.digits = 3;
     this.at = -1;
   }
 
   /**
    * @param {Finding[]} findings
    * @param {string[]} well what is said where there are none
-   * @param {object[]} lacks what was not judged, and notes
+   * @param {import("../../../scripts/modules/statistics/verdict.js").Said[]} lacks what was not judged, and notes
    * @param {{ rate: number, length: number }} file its rate, and how many bits it has
    */
   show(findings, well, lacks, { rate, length }) {
@@ -37,11 +52,14 @@ export class Sentences {
     const isWell = findings.length === 0;
     element("findings-head").textContent = isWell ? "What was found" : "What is wrong, the most serious first";
     element("sentences").replaceChildren(...findings.map((finding) => this.sentence(finding)));
-    const told = [...(isWell ? well.map((text) => ({ sort: "well", text })) : []), ...lacks];
-    element("lacks").replaceChildren(...told.map(({ sort, text }) => make("li", text, `is-${sort}`)));
+    const told = [...(isWell ? well.map((shown) => ({ sort: "well", shown })) : []), ...lacks];
+    element("lacks").replaceChildren(...told.map(({ sort, shown }) => make("li", shown, `is-${sort}`)));
   }
 
-  /** A sentence, whose words lead to its first place, with the times of its places. */
+  /**
+   * A sentence, whose words lead to its first place, with the times of its places.
+   * @param {Finding} finding
+   */
   sentence(finding) {
     const item = make("li", "", `is-${finding.level}`);
     const words = make("button", finding.text, "jump");
@@ -55,7 +73,11 @@ export class Sentences {
     return item;
   }
 
-  /** The times as buttons: one of them is reached by Tab, the others by the arrows. */
+  /**
+   * The times as buttons: one of them is reached by Tab, the others by the arrows.
+   * @param {Finding} finding
+   * @param {HTMLElement} item
+   */
   times({ places, isStretch, count, short }, item) {
     const box = make("div", "", "times");
     places.forEach((place, at) => {
@@ -66,11 +88,13 @@ export class Sentences {
     });
     const rest = places.length > MOST_TIMES ? count - MOST_TIMES : 0;
     if (rest > 0) box.append(this.button(`${rest} more`, this.stops.length - places.length + MOST_TIMES, "more"));
-    [...box.children].forEach((button, at) => (button.tabIndex = at === 0 ? 0 : -1));
+    const buttons = /** @type {HTMLElement[]} */ ([...box.children]);
+    buttons.forEach((button, at) => (button.tabIndex = at === 0 ? 0 : -1));
     box.addEventListener("keydown", (event) => moveWithin(box, event));
     return box;
   }
 
+  /** @param {string} text @param {number} at */
   button(text, at, className = "") {
     const button = make("button", text, className);
     button.type = "button";
@@ -78,7 +102,10 @@ export class Sentences {
     return button;
   }
 
-  /** Goes to a place of a sentence. */
+  /**
+   * Goes to a place of a sentence.
+   * @param {number} at
+   */
   visit(at) {
     if (this.stops.length === 0) return;
     this.at = (at + this.stops.length) % this.stops.length;
@@ -93,7 +120,10 @@ export class Sentences {
     this.go(stop);
   }
 
-  /** Goes some places on. */
+  /**
+   * Goes some places on.
+   * @param {number} by
+   */
   step(by) {
     this.visit(this.at < 0 && by < 0 ? -1 : this.at + by);
   }
@@ -104,12 +134,14 @@ export class Sentences {
   }
 }
 
+/** @param {HTMLElement} box @param {KeyboardEvent} event */
 function moveWithin(box, event) {
   const step = STEPS[event.key];
   if (!step) return;
   event.preventDefault();
-  const buttons = [...box.children];
-  const next = buttons[(buttons.indexOf(event.target) + step + buttons.length) % buttons.length];
+  const buttons = /** @type {HTMLElement[]} */ ([...box.children]);
+  const at = buttons.indexOf(/** @type {HTMLElement} */ (event.target));
+  const next = buttons[(at + step + buttons.length) % buttons.length];
   for (const button of buttons) button.tabIndex = button === next ? 0 : -1;
   next.focus();
 }

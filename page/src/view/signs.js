@@ -1,4 +1,7 @@
-/** Signs of what is wrong, each of its own form, in a square of 16: colour is never alone. */
+/**
+ * Signs of what is wrong, each of its own form, in a square of 16: colour is never alone.
+ * @type {Record<string, string>}
+ */
 export const SIGNS = {
   missing: "M3 1 8 6 13 1 15 3 10 8 15 13 13 15 8 10 3 15 1 13 6 8 1 3Z",
   late: "M8 1A7 7 0 1 1 7.9 1ZM7 3.5V8.6L11 11 12 9.5 9 7.7V3.5Z",
@@ -28,7 +31,10 @@ export const VERDICTS = {
 
 const SPACE = "http://www.w3.org/2000/svg";
 
-/** A sign as a picture. */
+/**
+ * A sign as a picture.
+ * @param {string} sort
+ */
 export function signOf(sort) {
   const picture = document.createElementNS(SPACE, "svg");
   picture.setAttribute("viewBox", "0 0 16 16");

@@ -8,6 +8,13 @@ import { Overview } from "./overview.js";
 import { NARROW, Picture } from "./picture.js";
 import { duration, grouped, seconds } from "./units.js";
 
+/** @typedef {import("d3-scale").Scale} Scale */
+/** @typedef {import("./digits.js").Digits} Digits */
+/** @typedef {import("../worker/desk.js").FarDesk} Desk */
+/** @typedef {import("../worker/desk.js").Summary} Summary */
+/** @typedef {import("../worker/lanes.js").Lane} Lane */
+/** @typedef {import("./picture.js").Part} Part */
+
 const RIGHT = 16;
 const BIN = 2; // the width of a bin in pixels
 const LEAST_BITS = 32; // in view, at least
@@ -24,7 +31,14 @@ const STACKED = matchMedia("(max-width: 67.99rem)");
 const [LEFTWARDS, RIGHTWARDS] = ["\u2190", "\u2192"];
 const MOVE = 0.4; // the share of what is in view by which it moves
 
-/** An act by its keys, how the help shows them, the name of its button, if it has one, and what it does. */
+/**
+ * An act by its keys, how the help shows them, the name of its button, if it has one, and what it does.
+ * @param {string[]} keys
+ * @param {string} shown
+ * @param {string} name
+ * @param {string} words
+ * @param {(timeline: Timeline) => void} does
+ */
 const act = (keys, shown, name, words, does) => ({ keys, shown, name, words, act: does });
 
 /** The keys of the timeline, for the help. */
@@ -41,19 +55,35 @@ export const TIMELINE_KEYS = [
 
 /** A timeline with a lane for each station: commands above, answers below, and signs where something is wrong. */
 export class Timeline {
+  stations = make("select", "", "screen");
+  where = make("p", "", "small where");
+  // Until a file is shown, it has none of these.
+  summary = /** @type {Summary} */ (/** @type {unknown} */ (undefined));
+  whole = /** @type {Scale} */ (/** @type {unknown} */ (undefined));
+  zoom = /** @type {import("d3-zoom").Zoom} */ (/** @type {unknown} */ (undefined));
+  rate = NaN;
+  width = NaN;
+
   /**
-   * @param {object} desk
+   * @param {Desk} desk
    * @param {object} acts
    * @param {(row: number) => void} acts.pick what to do where a mark is chosen
    * @param {(step: number) => void} acts.walk what to do to choose the line so many further on
    * @param {(station: number|null) => void} acts.narrow what to do where one station is chosen, or all
    */
   constructor(desk, { pick, walk, narrow }) {
-    Object.assign(this, { desk, pick, walk, chosen: null, station: null });
+    this.desk = desk;
+    this.pick = pick;
+    this.walk = walk;
+    /** @type {Part|null} */
+    this.chosen = null;
+    /** @type {number|null} */
+    this.station = null;
     this.box = element("timeline");
     this.scroll = make("div", "", "scroll");
     this.scroll.tabIndex = -1; // Firefox would stop there, before the picture in it
-    this.svg = select(this.scroll).append("svg").attr("tabindex", 0).attr("role", "img");
+    const svg = select(this.scroll).append("svg").attr("tabindex", 0).attr("role", "img");
+    this.svg = /** @type {import("d3-selection").Selection<import("d3-zoom").Zoomed<SVGSVGElement>>} */ (svg);
     this.picture = new Picture(this.svg, pick);
     this.box.append(this.tools(narrow), this.scroll);
     this.overview = new Overview(this.box, (first, past) => this.showStretch(first, past));
@@ -61,7 +91,7 @@ export class Timeline {
     this.axis = select(this.box).append("svg").attr("class", "axis").attr("aria-hidden", "true");
     this.listen();
     this.ask = latest(
-      (first, past) => this.contents(first, past),
+      (/** @type {number} */ first, /** @type {number} */ past) => this.contents(first, past),
       (contents) => this.draw(contents),
     );
     const observer = new ResizeObserver(() => this.summary && this.lay());
@@ -69,6 +99,7 @@ export class Timeline {
     observer.observe(this.svg.node()); // a bar to scroll makes it narrower
   }
 
+  /** @param {(station: number|null) => void} narrow */
   tools(narrow) {
     const tools = make("div", "", "tools");
     for (const { name, words, act } of TIMELINE_KEYS.filter((key) => key.name)) {
@@ -79,11 +110,9 @@ export class Timeline {
       button.addEventListener("click", () => act(this));
       tools.append(button);
     }
-    this.stations = make("select", "", "screen");
     this.stations.setAttribute("aria-label", "Stations that are shown");
     const chosen = () => (this.stations.value === "" ? null : Number(this.stations.value));
     this.stations.addEventListener("change", () => narrow(chosen()));
-    this.where = make("p", "", "small where");
     this.where.setAttribute("aria-live", "polite");
     tools.append(this.stations, this.where);
     return tools;
@@ -96,6 +125,7 @@ export class Timeline {
     this.scroll.addEventListener("wheel", (event) => this.turned(event), { capture: true, passive: true });
   }
 
+  /** @param {KeyboardEvent} event */
   pressed(event) {
     const found = TIMELINE_KEYS.find(({ keys }) => keys.includes(event.key));
     if (!found || isOther(event)) return;
@@ -104,26 +134,37 @@ export class Timeline {
     found.act(this);
   }
 
-  /** Where the page itself is scrolled, a wheel zooms only once the picture was chosen. */
+  /**
+   * Where the page itself is scrolled, a wheel zooms only once the picture was chosen.
+   * @param {WheelEvent} event
+   */
   turned(event) {
     if (STACKED.matches && document.activeElement !== this.svg.node()) event.stopPropagation();
   }
 
-  /** Shows a file; where it is the one that was shown, what is in view stays. */
+  /**
+   * Shows a file; where it is the one that was shown, what is in view stays.
+   * @param {Summary} summary
+   * @param {number} rate
+   * @param {boolean} isSame
+   */
   reset(summary, rate, isSame) {
-    const kept = isSame && this.whole ? this.scale.domain() : null;
+    const kept = isSame && /** @type {Scale|null} */ (this.whole) ? this.scale.domain() : null;
     Object.assign(this, { summary, rate, whole: null });
     if (!isSame) Object.assign(this, { chosen: null, station: null });
     this.stations.replaceChildren(...[null, ...summary.stations].map(optionOf));
-    this.stations.value = this.station ?? "";
+    this.stations.value = String(this.station ?? "");
     this.lay();
     if (kept) this.showStretch(...kept);
   }
 
-  /** Shows one station, or all. */
+  /**
+   * Shows one station, or all.
+   * @param {number|null} station
+   */
   narrowTo(station) {
     this.station = station;
-    this.stations.value = station ?? "";
+    this.stations.value = String(station ?? "");
     this.show();
   }
 
@@ -137,8 +178,9 @@ export class Timeline {
     // Where there are many lanes, they have a bar to scroll, which overview and axis have not.
     const width = Math.max(300, this.scroll.clientWidth);
     for (const part of [this.overview.svg, this.axis]) part.style("width", `${this.scroll.clientWidth}px`);
-    if (width === this.width && this.whole) return;
-    const kept = this.whole ? this.scale.domain() : null;
+    const whole = /** @type {Scale|null} */ (this.whole);
+    if (width === this.width && whole) return;
+    const kept = whole ? this.scale.domain() : null;
     this.width = width;
     this.whole = scaleLinear().range([this.left, width - RIGHT]);
     this.setWhole();
@@ -174,18 +216,26 @@ export class Timeline {
     this.svg.call(this.zoom.transform, zoomIdentity);
   }
 
+  /** @param {number} factor */
   zoomBy(factor) {
     this.svg.call(this.zoom.scaleBy, factor);
   }
 
-  /** Moves by a share of what is in view. */
+  /**
+   * Moves by a share of what is in view.
+   * @param {number} share
+   */
   moveBy(share) {
     const { k } = this.svg.node().__zoom;
     const [left, right] = this.whole.range();
     this.svg.call(this.zoom.translateBy, (-share * (right - left)) / k, 0);
   }
 
-  /** Brings a stretch into view, and nothing else. */
+  /**
+   * Brings a stretch into view, and nothing else.
+   * @param {number} first
+   * @param {number} past
+   */
   showStretch(first, past) {
     const [begin, end] = this.whole.domain();
     const [left, right] = this.whole.range();
@@ -198,7 +248,11 @@ export class Timeline {
     this.svg.call(this.zoom.transform, transform);
   }
 
-  /** Shows a stretch large, with what is about it. */
+  /**
+   * Shows a stretch large, with what is about it.
+   * @param {number} first
+   * @param {number} past
+   */
   reveal(first, past) {
     this.showStretch(first - (past - first), past + (past - first));
   }
@@ -208,7 +262,10 @@ export class Timeline {
     if (this.chosen) this.reveal(this.chosen.first, this.chosen.past);
   }
 
-  /** Marks a stretch as chosen. Moves only where it is out of view, so that the eye keeps its place. */
+  /**
+   * Marks a stretch as chosen. Moves only where it is out of view, so that the eye keeps its place.
+   * @param {Part & { upTo?: number }} chosen up to the end of its answer, if it has one
+   */
   choose(chosen) {
     this.chosen = { ...chosen, past: chosen.upTo ?? chosen.past };
     const [from, to] = this.scale.domain();
@@ -218,7 +275,10 @@ export class Timeline {
     else this.show();
   }
 
-  /** Brings a place into the middle. */
+  /**
+   * Brings a place into the middle.
+   * @param {number} middle
+   */
   showAround(middle) {
     const [from, to] = this.scale.domain();
     this.showStretch(middle - (to - from) / 2, middle + (to - from) / 2);
@@ -229,6 +289,7 @@ export class Timeline {
     this.ask(first, past);
   }
 
+  /** @param {number} first @param {number} past */
   async contents(first, past) {
     const [left, right] = this.whole.range();
     const lanes = await this.desk.timeline(first, past, Math.floor((right - left) / BIN), this.station);
@@ -236,20 +297,28 @@ export class Timeline {
     return { lanes, digits: hasDigits ? await this.digits(lanes, first, past) : [], first, past };
   }
 
-  /** The bits in view, of each line, and what they are. */
+  /**
+   * The bits in view, of each line, and what they are.
+   * @param {Lane[]} lanes
+   * @param {number} first
+   * @param {number} past
+   * @returns {Promise<Digits[]>}
+   */
   async digits(lanes, first, past) {
     const numbers = this.summary.isOfTwo ? [1, 2] : [1];
     const from = Math.max(0, Math.floor(first));
-    const texts = await Promise.all(numbers.map((line) => this.desk.bitsBetween(line - 1, from, Math.ceil(past))));
+    const bits = await Promise.all(numbers.map((line) => this.desk.bitsBetween(line - 1, from, Math.ceil(past))));
+    /** @param {import("../worker/lanes.js").Track} track */
     const ofFrames = ({ isSign, id }) => !isSign && id !== "damage";
     const marks = lanes.flatMap(({ tracks }) => tracks.filter(ofFrames).flatMap((track) => track.marks ?? []));
     const structures = await this.desk.structures(marks.map(({ row }) => row));
     return numbers.map((line, at) => ({
       name: numbers.length > 1 ? `Bits, line ${line}` : "Bits",
-      ...{ text: texts[at], from, structures: structures.filter((some) => some.line === line) },
+      ...{ bits: bits[at], structures: structures.filter((some) => some.line === line) },
     }));
   }
 
+  /** @param {Part & { lanes: Lane[], digits: Digits[] }} contents */
   draw({ lanes, digits, first, past }) {
     const scale = scaleLinear().domain([first, past]).range(this.whole.range());
     const { findings, warnings } = this.summary;
@@ -267,16 +336,24 @@ export class Timeline {
     element("timeline-print").replaceChildren(...copies);
   }
 
-  /** Ticks are narrow: beside one, the nearest of its lane is taken. */
+  /**
+   * Ticks are narrow: beside one, the nearest of its lane is taken.
+   * @param {MouseEvent} event
+   */
   pickNear(event) {
-    if (event.target.classList.contains("mark")) return;
+    if (/** @type {Element} */ (event.target).classList.contains("mark")) return;
     const { left, top, width } = this.svg.node().getBoundingClientRect();
     const [x, y] = [event.clientX - left, event.clientY - top].map((pixels) => (pixels * this.width) / width);
     const nearest = this.picture.nearest(x, y);
     if (nearest !== null && nearest.away <= NEAR) this.pick(nearest.row);
   }
 
-  /** Says in words what is in view. */
+  /**
+   * Says in words what is in view.
+   * @param {Lane[]} lanes
+   * @param {number} first
+   * @param {number} past
+   */
   describe(lanes, first, past) {
     const stretch = past - first;
     const [from, to] = [first, past].map((place) => seconds(place, this.rate, stretch));
@@ -291,9 +368,12 @@ export class Timeline {
   }
 }
 
-/** A station to choose, or all. */
+/**
+ * A station to choose, or all.
+ * @param {number|null} station
+ */
 function optionOf(station) {
   const option = make("option", station === null ? "all stations" : `station ${station}`);
-  option.value = station ?? "";
+  option.value = String(station ?? "");
   return option;
 }

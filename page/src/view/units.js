@@ -1,17 +1,29 @@
-/** A place as seconds, with as many digits as a stretch of so many bits needs. */
+/**
+ * A place as seconds, with as many digits as a stretch of so many bits needs.
+ * @param {number} place
+ * @param {number} rate
+ * @param {number} stretch
+ */
 export function seconds(place, rate, stretch) {
   const digits = Math.min(9, Math.max(3, Math.ceil(3 - Math.log10(stretch / rate))));
   return (place / rate).toFixed(digits);
 }
 
-/** A length in bits as a time, in a unit that suits it. */
+/**
+ * A length in bits as a time, in a unit that suits it.
+ * @param {number} bits
+ * @param {number} rate
+ */
 export function duration(bits, rate) {
   const time = bits / rate;
   if (time >= 1) return `${time.toFixed(3)} s`;
   return time >= 0.001 ? `${(time * 1000).toFixed(3)} ms` : `${(time * 1e6).toFixed(1)} µs`;
 }
 
-/** A number with its digits in groups of three. */
+/**
+ * A number with its digits in groups of three.
+ * @param {number} number
+ */
 export function grouped(number) {
   return number.toLocaleString("en").replaceAll(",", " ");
 }

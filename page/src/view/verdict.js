@@ -1,6 +1,9 @@
 import { element, make } from "./dom.js";
 import { VERDICTS } from "./signs.js";
 
+/** @typedef {import("./page.js").Summary} Summary */
+/** @typedef {keyof typeof COUNTS} Counted */
+
 /** The word of a verdict, which is read from afar. */
 const WORDS = { fault: "Fault", doubt: "Look closer", well: "No fault found", unknown: "Not all judged" };
 
@@ -17,7 +20,10 @@ const COUNTS = {
   damage: ["damaged", "damaged"],
 };
 
-/** Counts that need no dictionary. */
+/**
+ * Counts that need no dictionary.
+ * @type {Set<Counted>}
+ */
 const ALWAYS = new Set(["gap", "damage"]);
 
 /** The most findings that the verdict names. */
@@ -25,24 +31,32 @@ const MOST_TOLD = 2;
 
 /** The verdict: a sign, a word, the worst in short, and how many there are of each. */
 export class Verdict {
-  /** @param {(name: string) => void} pick what to do where a number is chosen */
+  /** @param {(name: Counted) => void} pick what to do where a number is chosen */
   constructor(pick) {
     this.pick = pick;
   }
 
+  /** @param {Summary} summary */
   show({ verdict, findings, counts, frames, warnings, fault }) {
     const section = element("verdict");
     section.className = `${verdict.level}-level`;
-    section.querySelector("path").setAttribute("d", VERDICTS[verdict.level]);
+    /** @type {SVGPathElement} */ (section.querySelector("path")).setAttribute("d", VERDICTS[verdict.level]);
     element("verdict-word").textContent = wordOf(verdict, frames);
     element("verdict-short").textContent = shortOf(verdict, findings, doubtsOf(fault, warnings));
+    /** @param {Counted} name */
     const isJudged = (name) => ALWAYS.has(name) || (name === "late" ? verdict.isLateJudged : verdict.isJudged);
+    /** @param {Counted} name */
     const isKnown = (name) => counts[name] > 0 || (frames > 0 && isJudged(name));
+    /** @param {Counted} name */
     const countOf = (name) => this.count(name, isKnown(name) ? counts[name] : null);
-    element("counts").replaceChildren(...Object.keys(COUNTS).map(countOf));
+    element("counts").replaceChildren(.../** @type {Counted[]} */ (Object.keys(COUNTS)).map(countOf));
   }
 
-  /** A number, which leads to what it counts; a dash where that was not judged. */
+  /**
+   * A number, which leads to what it counts; a dash where that was not judged.
+   * @param {Counted} name
+   * @param {number|null} count
+   */
   count(name, count) {
     const item = make("li", "", count ? "" : "none");
     const button = make("button");
@@ -55,12 +69,14 @@ export class Verdict {
   }
 }
 
+/** @param {Summary["verdict"]} verdict @param {number} frames */
 function wordOf({ level, isJudged }, frames) {
   if (level !== "unknown") return WORDS[level];
   if (frames === 0) return NO_FRAMES;
   return isJudged ? WORDS.unknown : NOT_JUDGED;
 }
 
+/** @param {Summary["fault"]} fault @param {Summary["warnings"]} warnings */
 function doubtsOf(fault, warnings) {
   return [...(fault ? ["The file has a fault"] : []), ...(warnings.length > 0 ? ["The recording is doubtful"] : [])];
 }
@@ -68,11 +84,14 @@ function doubtsOf(fault, warnings) {
 /**
  * The worst in short, and how many more there are, or else what was not judged. A doubtful recording comes after the
  * worst fault, and before anything else.
+ * @param {Summary["verdict"]} verdict
+ * @param {Summary["findings"]} findings
+ * @param {string[]} doubts
  */
 function shortOf({ level, lacks }, findings, doubts) {
   if (level === "well") return WELL;
   const own = findings.map(({ short }) => short).filter((short) => short);
-  if (own.length + doubts.length === 0) return lacks[0]?.text ?? "";
+  if (own.length + doubts.length === 0) return lacks[0]?.shown ?? "";
   const all = level === "fault" ? [...own.slice(0, 1), ...doubts, ...own.slice(1)] : [...doubts, ...own];
   const rest = doubts.length + findings.length - Math.min(MOST_TOLD, all.length);
   return all.slice(0, MOST_TOLD).join(" \u00b7 ") + (rest > 0 ? `, and ${rest} more` : "");

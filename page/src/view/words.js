@@ -4,9 +4,12 @@
 
 const ON = "Is it the right channel, and is its probe on?";
 const INVERTED = "Its two wires may be exchanged, or the analyser inverts it.";
-const PROBES = "Check the probe and its ground, and record again.";
 const SLOWER = "If the analyser dropped samples, record at a lower rate, or for a shorter time.";
 
+/**
+ * Of a channel with a name: what is said, how to mend it, and what the page can do.
+ * @type {Record<string, (name: string) => [said: string, cure?: string, act?: Words["act"]]>}
+ */
 const WARNINGS = {
   cut: () => [
     "The file ends in the middle of a line: it was cut off, or is still being written. All before that is shown.",
@@ -17,14 +20,10 @@ const WARNINGS = {
   still: (name) => [`${name} never changes, but a clock is expected there.`, ON, "wires"],
   rising: (name) => [`The data changes just where a bit is taken, at the rising edges of ${name}.`, INVERTED, "edge"],
   falling: (name) => [`The data changes just where a bit is taken, at the falling edges of ${name}.`, "", "edge"],
-  glitch: (name) => [`${name} has pulses far shorter than a clock's; they were left out.`, PROBES, "second"],
-  shortData: (name) => [`The data of ${name} has pulses shorter than half a bit.`, PROBES, "second"],
-  shortClock: (name) => [`${name} has pulses shorter than half a bit can be.`, PROBES, "second"],
-  early: (name) => [`${name} has edges that come too early.`, SLOWER, "second"],
-  gap: () => ["The controller's clock (TXC) stops; the bits there were taken from its data alone.", SLOWER, "second"],
-  stop: () => ["The stations' clock (RXC) stops within a frame, or an edge of it is lacking.", SLOWER, "second"],
-  drift: () => ["Answers stand some bits off their places: reply times there are not exact.", SLOWER, "second"],
-  beyond: () => ["The stations' line goes on after the controller's ends, and is cut off there.", ""],
+  own: (name) => [`${name} does not change with the clock: it has a clock of its own.`, "Say which channel that is.", "wires"],
+  gap: (name) => [`${name} stops, and places with it.`, "Is that the controller, or its wire?", "second"],
+  end: (name) => [`${name} stops, and does not go on until the recording ends.`, "Is that the controller, or its wire?", "second"],
+  lost: (name) => [`The edges of ${name} jump: samples may have been lost.`, SLOWER, "second"],
 };
 
 /** @param {import("../../../scripts/modules/recording/doubts.js").Warning} warning @returns {Words} */
@@ -35,7 +34,10 @@ export function wordsOf({ sort, name, count, second, text }) {
   return { text: said + when, cure, act: act === "second" && second === null ? "" : act };
 }
 
-/** What a file is that has a fault, by port1's text for it. */
+/**
+ * What a file is that has a fault, by port1's text for it.
+ * @type {[RegExp, string][]}
+ */
 const FAULTS = [
   [/^capture: short head$/, "The file is cut off within its first 16 octets"],
   [/^capture: short body$/, "The file is cut off: it has fewer bits than it says"],
@@ -46,6 +48,15 @@ const FAULTS = [
   [/^the archive|in the archive/, "The session is cut off or damaged: save it again"],
   [/has no known level$/, "The data has no known level there"],
 ];
+
+/**
+ * What keeps a file from being read, in the page's words where it has any.
+ * @param {string} fault
+ */
+export function whyNot(fault) {
+  const [, words] = FAULTS.find(([pattern]) => pattern.test(fault)) ?? [null, fault];
+  return words;
+}
 
 /** @param {string} fault @param {boolean} hasLines whether something stands before it */
 export function faultWords(fault, hasLines) {

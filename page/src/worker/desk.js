@@ -3,11 +3,10 @@ import { readDictionary } from "../../../scripts/modules/dictionary/dictionary.j
 import { draftOf } from "../../../scripts/modules/dictionary/draft.js";
 import { Fault } from "../../../scripts/modules/fault.js";
 import { findingsOf as findingsOfBus } from "../../../scripts/modules/findings/findings.js";
-import { verdictOf, wellOf } from "../../../scripts/modules/findings/verdict.js";
 import { FRAME, isUnfit, KINDS } from "../../../scripts/modules/listing/kinds.js";
 import { NO_HEAD } from "../../../scripts/modules/listing/listing.js";
 import { octetsOf } from "../../../scripts/modules/octets.js";
-import { channelsOf } from "../../../scripts/modules/recording/bits.js";
+import { channelsOf } from "../../../scripts/modules/recording/forms.js";
 import { warningOf } from "../../../scripts/modules/recording/doubts.js";
 import { sessionOf } from "../../../scripts/modules/recording/session.js";
 import { isWholeHead } from "../../../scripts/modules/recording/signals.js";
@@ -16,12 +15,88 @@ import { damageOf } from "../../../scripts/modules/statistics/damage.js";
 import { report } from "../../../scripts/modules/statistics/report.js";
 import { repliesOf } from "../../../scripts/modules/statistics/replies.js";
 import { tableOf } from "../../../scripts/modules/statistics/table.js";
+import { verdictOf } from "../../../scripts/modules/statistics/verdict.js";
 import { found } from "./filter.js";
 import { formOf, HEAD } from "./forms.js";
 import { Lanes } from "./lanes.js";
 import { warningsOfLevels } from "./levels.js";
 import { isRecording, read } from "./source.js";
 import { structureOf } from "./structure.js";
+
+/** @typedef {import("../../../scripts/modules/dictionary/dictionary.js").Entry} Entry */
+/** @typedef {import("../../../scripts/modules/listing/listing.js").Listing} Listing */
+/** @typedef {import("../../../scripts/modules/recording/doubts.js").Warning} Warning */
+/** @typedef {import("../../../scripts/modules/statistics/wrong.js").Known} Known */
+/** @typedef {import("./lanes.js").Lane} Lane */
+/** @typedef {import("./lanes.js").Mark} Mark */
+/** @typedef {import("./lanes.js").Track} Track */
+/** @typedef {import("./main.js").Task} Task */
+/** @typedef {import("./source.js").Bits} Bits */
+/** @typedef {import("./source.js").RecordingSource} RecordingSource */
+/** @typedef {import("./structure.js").Structure} Structure */
+
+/**
+ * What the page asks to be read: what is read and how, the rate in bits a second, the text of the dictionary or
+ * nothing, and where a report has the listing, the warnings of its recording.
+ * @typedef {import("./source.js").Source & { rate: number, dictionary: string, told?: string[] }} Job
+ */
+
+/**
+ * What a file is, and the channels of a recording.
+ * @typedef {import("./forms.js").Found & { channels: string[] }} Found
+ */
+
+/** @typedef {Record<"gap"|"missing"|"late"|"spoilt"|"damage", number>} Counts that the verdict shows */
+
+/**
+ * The times to answers of a kind of commands, in bits, each with how often it came.
+ * @typedef {{ name: string, inTime: [number, number][], late: [number, number][] }} Times
+ */
+
+/**
+ * What is known of a file that was read.
+ *
+ * @typedef {object} Summary
+ * @property {number} count of lines of the listing
+ * @property {number} frames
+ * @property {number} damaged
+ * @property {boolean} isOfTwo whether the bus has two lines
+ * @property {Warning[]} warnings
+ * @property {number} first the place where the file begins, and the one just after its end
+ * @property {number} past
+ * @property {boolean} hasBits
+ * @property {import("../../../scripts/modules/findings/findings.js").Finding[]} findings
+ * @property {number[]} stations
+ * @property {import("../../../scripts/modules/statistics/verdict.js").Verdict} verdict
+ * @property {Counts} counts
+ * @property {ReturnType<typeof tableOf>} table
+ * @property {ReturnType<typeof damageOf>} damage
+ * @property {Times[]} replies
+ * @property {string|null} fault at which reading stopped
+ * @property {string[]} notes on a recording, its warnings among them
+ */
+
+/**
+ * Where a line is on the bus.
+ *
+ * @typedef {object} Places
+ * @property {number} row its number in the listing
+ * @property {number} first the place of its first bit
+ * @property {number} past the place just after its last bit
+ * @property {number} upTo the same, with the time to the answer of a command that has one
+ * @property {number|null} reply bits to that answer
+ * @property {string} text as `port1 list` writes it
+ * @property {string} derived of a frame that no dictionary names, what its octets say; else empty
+ */
+
+/** @typedef {Places & { kind: import("../../../scripts/modules/listing/kinds.js").LineKind }} Line */
+
+/** @typedef {{ progress: number }} Progress the share of a file that was read */
+
+/**
+ * The desk, as the page has it: each answer is a promise.
+ * @typedef {{ [Name in Task]: (...words: Parameters<Desk[Name]>) => Promise<Awaited<ReturnType<Desk[Name]>>> }} FarDesk
+ */
 
 /** How many lines of text are made at once. */
 const STRIDE = 50000;
@@ -33,15 +108,30 @@ const CUT_HEAD = "a value change dump that is cut off within its definitions: sa
 
 /** What the worker has of the file that is shown, and all that the page asks of it. */
 export class Desk {
-  /** @param {(event: object) => void} tell the page of progress */
+  // What is known of a file, which is not asked for until one was read.
+  listing = /** @type {Listing} */ (/** @type {unknown} */ (null));
+  bus = /** @type {Bus} */ (/** @type {unknown} */ (null));
+  lanes = /** @type {Lanes} */ (/** @type {unknown} */ (null));
+  known = /** @type {Known} */ (/** @type {unknown} */ (null));
+  /** @type {Bits|null} */
+  bits = null;
+  /** @type {number|null} of the recording in bits */
+  end = null;
+
+  /** @param {(event: Progress) => void} tell the page of progress */
   constructor(tell) {
     this.tell = tell;
-    this.listing = null;
+    /** @type {Uint32Array|null} */
     this.rows = null; // of the listing, where a query chose some
+    /** @type {Promise<unknown>} */
     this.loading = Promise.resolve(); // until the last file is read
   }
 
-  /** What a file is, and the channels of a recording. */
+  /**
+   * What a file is, and the channels of a recording.
+   * @param {Blob} file
+   * @returns {Promise<Found>}
+   */
   async lookAt(file) {
     const head = await octetsOf(file.slice(0, HEAD));
     const form = formOf(head);
@@ -53,14 +143,17 @@ export class Desk {
     return { ...form, channels: channelsOf(definitions, "vcd") };
   }
 
-  /** Reads a file, when those before it are read, and answers what is known of it. */
+  /**
+   * Reads a file, when those before it are read, and answers what is known of it.
+   * @param {Job} job
+   */
   load(job) {
     const read = () => this.readNow(job);
     this.loading = this.loading.then(read, read);
-    return this.loading;
+    return /** @type {Promise<Summary>} */ (this.loading);
   }
 
-  /** @param {import("./source.js").Job} job */
+  /** @param {Job} job @returns {Promise<Summary>} */
   async readNow(job) {
     const entries = entriesOf(job);
     const { listing, bits, fault, notes, warnings } = await read({ ...job, entries }, (done, size) =>
@@ -70,22 +163,27 @@ export class Desk {
     this.bus = new Bus(job.rate);
     this.bus.takeAll(listing.rows());
     const told = (job.told ?? []).map(warningOf);
-    const ofLevels = isRecording(job) ? warningsOfLevels(job.channels, bits, listing) : [];
-    return { ...this.summary(entries, [...ofLevels, ...warnings, ...told], fault), fault, notes };
+    const ofLevels = isRecording(job)
+      ? warningsOfLevels(/** @type {RecordingSource} */ (job).channels, /** @type {Bits} */ (bits), listing)
+      : [];
+    /** @param {Warning} warning */
+    const isNew = ({ sort, name }) => !warnings.some((warning) => warning.sort === sort && warning.name === name);
+    return { ...this.summary(entries, [...ofLevels.filter(isNew), ...warnings, ...told], fault), fault, notes };
   }
 
+  /** @param {Entry[]|null} entries @param {Warning[]} warnings @param {string|null} fault */
   summary(entries, warnings, fault) {
     const { bus, listing, end } = this;
-    const windows = new Map((entries ?? []).map(({ type, window }) => [type, window > 0]));
-    const found = findingsOfBus(bus, listing, end, (type) => windows.get(type) === true);
+    this.known = { end, entries };
+    const found = findingsOfBus(bus, listing, this.known);
     this.lanes = new Lanes(listing, found.gaps, namesOf(bus));
     const [first, past] = this.lanes.range;
-    const verdict = verdictOf(bus, found, entries, warnings.length > 0 || fault !== null);
+    const verdict = verdictOf(bus, this.known, found.findings, warnings.length > 0 || fault !== null);
     return {
       ...{ count: listing.length, frames: bus.frames, damaged: bus.damaged, isOfTwo: this.lanes.isOfTwo, warnings },
       ...{ first: end === null ? first : 0, past: Math.max(past, end ?? 0), hasBits: this.bits !== null },
       ...{ findings: found.findings, stations: this.lanes.stations },
-      ...{ verdict, well: wellOf(bus, verdict) },
+      verdict,
       counts: countsOf(bus, found.gapCount),
       table: tableOf(bus),
       damage: damageOf(bus),
@@ -95,10 +193,14 @@ export class Desk {
 
   /** The summary as text, as `bus-summary` writes it. */
   summaryText() {
-    return report(this.bus);
+    return report(this.bus, this.known);
   }
 
-  /** What is found in a dictionary, as `check-dictionary` tells it. */
+  /**
+   * What is found in a dictionary, as `check-dictionary` tells it.
+   * @param {string} text
+   * @param {import("../../../scripts/modules/dictionary/schema.js").Schema} schema
+   */
   check(text, schema) {
     return findingsOf(text, schema);
   }
@@ -108,22 +210,33 @@ export class Desk {
     return draftOf(this.listing.rows());
   }
 
+  /** @param {number} first @param {number} past @param {number} bins @param {number|null} station */
   timeline(first, past, bins, station) {
     return this.lanes.between(first, past, bins, station);
   }
 
-  /** What the bits of some frames are. */
+  /**
+   * What the bits of some frames are.
+   * @param {number[]} rows
+   */
   structures(rows) {
-    return this.bits ? rows.map((row) => structureOf(this.listing, this.bits, row)) : [];
+    const { listing, bits } = this;
+    return bits ? rows.map((row) => structureOf(listing, bits, row)) : [];
   }
 
-  /** The bits of a line, counted from 0. */
+  /**
+   * The bits of a line, counted from 0.
+   * @param {number} line
+   * @param {number} first
+   * @param {number} past
+   */
   bitsBetween(line, first, past) {
-    return this.bits ? this.bits.text(line, first, past) : "";
+    return this.bits ? this.bits.between(line, first, past) : [];
   }
 
   /**
    * Chooses lines of the listing.
+   * @param {import("./filter.js").Query} query
    * @returns {Promise<{ count: number, idle: number }|null>} how many were found, and idle lines left out; null where
    *   another query came meanwhile
    */
@@ -135,9 +248,14 @@ export class Desk {
     return { count: chosen.rows ? chosen.rows.length : this.listing.length, idle: chosen.idle };
   }
 
-  /** Some of the chosen lines. */
+  /**
+   * Some of the chosen lines.
+   * @param {number} from
+   * @param {number} count
+   */
   lines(from, count) {
     const most = this.rows ? this.rows.length : this.listing.length;
+    /** @type {Line[]} */
     const lines = [];
     for (let at = from; at < Math.min(from + count, most); at++) {
       const row = this.rows ? this.rows[at] : at;
@@ -146,7 +264,10 @@ export class Desk {
     return lines;
   }
 
-  /** Where a line stands among those chosen: its place, or that of the next one. */
+  /**
+   * Where a line stands among those chosen: its place, or that of the next one.
+   * @param {number} row
+   */
   positionOf(row) {
     if (!this.rows) return row;
     let [low, high] = [0, this.rows.length];
@@ -158,7 +279,11 @@ export class Desk {
     return low;
   }
 
-  /** Where a line is on the bus. */
+  /**
+   * Where a line is on the bus.
+   * @param {number} row
+   * @returns {Places}
+   */
   placesOf(row) {
     const { listing } = this;
     const text = listing.text(row);
@@ -169,7 +294,10 @@ export class Desk {
     return { row, first, past, upTo: past + (reply ?? 0), reply, text, derived };
   }
 
-  /** The first line that begins at a place or after it. */
+  /**
+   * The first line that begins at a place or after it.
+   * @param {number} place
+   */
   rowFrom(place) {
     const { firsts, length } = this.listing;
     let best = -1;
@@ -179,7 +307,7 @@ export class Desk {
     return best < 0 ? length - 1 : best;
   }
 
-  /** The whole listing, as `port1 list` writes it. @returns {Blob} */
+  /** The whole listing, as `port1 list` writes it. */
   text() {
     const texts = [];
     for (let from = 0; from < this.listing.length; from += STRIDE) {
@@ -189,7 +317,10 @@ export class Desk {
   }
 }
 
-/** The entries of the dictionary, if there is one. One beside a listing only says what was judged. */
+/**
+ * The entries of the dictionary, if there is one. One beside a listing only says what was judged.
+ * @param {Job} job
+ */
 function entriesOf({ dictionary, form }) {
   try {
     return dictionary ? readDictionary(dictionary) : null;
@@ -199,8 +330,12 @@ function entriesOf({ dictionary, form }) {
   }
 }
 
-/** What is sent to each station, by the names that the dictionary gives. @returns {Map<number, string>} */
+/**
+ * What is sent to each station, by the names that the dictionary gives.
+ * @param {Bus} bus
+ */
 function namesOf(bus) {
+  /** @type {Map<number, string>} */
   const names = new Map();
   for (const [{ station, type }, { name }] of bus.commands.sorted()) {
     const own = name && !isUnfit(name) ? name : `type ${type}`;
@@ -209,16 +344,25 @@ function namesOf(bus) {
   return names;
 }
 
-/** The numbers that the verdict shows. */
+/**
+ * The numbers that the verdict shows.
+ * @param {Bus} bus
+ * @param {number} gap
+ * @returns {Counts}
+ */
 function countsOf(bus, gap) {
   const counts = { gap, missing: 0, late: 0, spoilt: 0 };
   for (const [, { verdicts }] of bus.commands.sorted()) {
-    for (const name of ["missing", "late", "spoilt"]) counts[name] += verdicts[name];
+    for (const name of /** @type {const} */ (["missing", "late", "spoilt"])) counts[name] += verdicts[name];
   }
   return { ...counts, damage: bus.damaged };
 }
 
-/** The times to answers of each kind of commands, as pairs of a time and how often it came. */
+/**
+ * The times to answers of each kind of commands, as pairs of a time and how often it came.
+ * @param {ReturnType<typeof repliesOf>} replies
+ * @returns {Times[]}
+ */
 function timesOf({ kinds }) {
   return kinds.map(({ kind, name, inTime, late }) => ({
     name: `station ${kind.station} type ${kind.type}${name ? ` ${name}` : ""}`,

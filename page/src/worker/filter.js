@@ -1,5 +1,7 @@
 import { FRAME, IDLE, KINDS } from "../../../scripts/modules/listing/kinds.js";
 
+/** @typedef {import("../../../scripts/modules/listing/listing.js").Listing} Listing */
+
 /** How many lines are looked at before the worker may do something else. */
 const STRIDE = 100000;
 
@@ -8,21 +10,28 @@ const STRIDE = 100000;
  * @typedef {{ text: string, kind: string, station: string, type: string, isBusy: boolean }} Query
  */
 
+/** @param {Query} query */
 function demandOf({ text, kind, station, type, isBusy }) {
   return {
     text: text.trim().toLowerCase(),
-    kind: kind ? KINDS.indexOf(kind) : -1,
+    kind: kind ? KINDS.indexOf(/** @type {import("../../../scripts/modules/listing/kinds.js").LineKind} */ (kind)) : -1,
     isBusy: isBusy && !kind,
     station: station === "" ? -1 : Number(station),
     type: type === "" ? -1 : Number(type),
   };
 }
 
+/** @param {Listing} listing @param {number} at */
 function hasStation(listing, at) {
   return listing.kinds[at] === FRAME || listing.types[at] >= 0;
 }
 
-/** Whether a line agrees with all that is asked; as with `port1 list`, one without a station or type agrees with none. */
+/**
+ * Whether a line agrees with all that is asked; as with `port1 list`, one without a station or type agrees with none.
+ * @param {Listing} listing
+ * @param {number} at
+ * @param {ReturnType<typeof demandOf>} demand
+ */
 function agrees(listing, at, demand) {
   if (demand.kind >= 0 && listing.kinds[at] !== demand.kind) return false;
   if (demand.type >= 0 && listing.types[at] !== demand.type) return false;
@@ -32,7 +41,7 @@ function agrees(listing, at, demand) {
 
 /**
  * The lines that a query finds, all where it asks for nothing, and how many idle lines it left out.
- * @param {import("../../../scripts/modules/listing/listing.js").Listing} listing
+ * @param {Listing} listing
  * @param {Query} query
  * @param {() => boolean} isOver whether another query came
  * @returns {Promise<{ rows: Uint32Array|null, idle: number }>}

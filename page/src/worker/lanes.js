@@ -1,6 +1,42 @@
 import { ABORT, DAMAGED, FRAME, KINDS, OVERLONG } from "../../../scripts/modules/listing/kinds.js";
 import { ANSWER } from "../../../scripts/modules/port1.js";
 
+/** @typedef {import("../../../scripts/modules/findings/findings.js").Stretch} Stretch */
+/** @typedef {import("../../../scripts/modules/listing/kinds.js").LineKind} LineKind */
+/** @typedef {import("../../../scripts/modules/listing/listing.js").Listing} Listing */
+
+/** @typedef {"command"|"answer"|"other"|LineKind|"damage"} TrackName */
+
+/**
+ * What is said of a lane, and the times without a kind of commands.
+ * @typedef {{ id: string, name: string, about: string, isStation: boolean, gaps: Stretch[] }} LaneHead
+ */
+
+/** @typedef {LaneHead & { stations: number[], tracks: WholeTrack[] }} WholeLane with all of its lines */
+/** @typedef {LaneHead & { tracks: Track[] }} Lane as far as it is in view */
+
+/**
+ * The lines of a track, in the order of their first bits, and those that are long.
+ * @typedef {{ id: TrackName, isSign: boolean, rows: Uint32Array, long: Uint32Array }} WholeTrack
+ */
+
+/** @typedef {Uint32Array|null} Rows of a track, if it has any */
+/** @typedef {{ row: number, first: number, past: number, text: string }} Mark */
+
+/**
+ * How many marks begin in each bin, and the first row of each.
+ * @typedef {{ counts: Uint32Array, leaders: Uint32Array }} Bins
+ */
+
+/**
+ * A track, how many of its lines begin in view, and how many it has in all.
+ * @typedef {{ id: TrackName, isSign: boolean, count: number, total: number }} TrackHead
+ */
+
+/** @typedef {TrackHead & { marks: Mark[], counts?: undefined, leaders?: undefined }} MarkedTrack */
+/** @typedef {TrackHead & Bins & { marks?: undefined }} BinnedTrack where there are too many marks in view */
+/** @typedef {MarkedTrack|BinnedTrack} Track */
+
 /** When there are more ticks than this in view, in all lanes, they are counted in bins. */
 const MOST_MARKS = 1500;
 
@@ -16,7 +52,10 @@ const MOST_STATIONS = 24;
 /** How many bins of a track of ticks one of a track of signs is wide. */
 const SIGN_BINS = 5;
 
-/** The tracks of a station: three of ticks, the rest of signs. */
+/**
+ * The tracks of a station: three of ticks, the rest of signs.
+ * @type {TrackName[]}
+ */
 const TRACKS = ["command", "answer", "other", "late", "missing", "spoilt", "stray", "pending"];
 const [COMMAND, OF_ANSWERS, OTHER] = [0, 1, 2];
 const FIRST_SIGN = 3;
@@ -29,7 +68,11 @@ const DAMAGE = STATIONS * TRACKS.length;
 const SIGN_OF_KIND = Int8Array.from(KINDS, (name) => TRACKS.indexOf(name, FIRST_SIGN));
 const IS_DAMAGE = Uint8Array.from(KINDS, (_, kind) => Number([DAMAGED, OVERLONG, ABORT].includes(kind)));
 
-/** The number of the track to which a line of a listing belongs, or -1. */
+/**
+ * The number of the track to which a line of a listing belongs, or -1.
+ * @param {Listing} listing
+ * @param {number} at
+ */
 function trackOf({ kinds, lines, stations, types }, at) {
   const kind = kinds[at];
   if (IS_DAMAGE[kind]) return DAMAGE + lines[at];
@@ -37,12 +80,18 @@ function trackOf({ kinds, lines, stations, types }, at) {
   return own < 0 ? -1 : TRACKS.length * stations[at] + own;
 }
 
+/** @param {number} type */
 function trackOfFrame(type) {
   if (type < 0) return OTHER;
   return type >= ANSWER ? OF_ANSWERS : COMMAND;
 }
 
-/** How many of a track's lines begin before a place. */
+/**
+ * How many of a track's lines begin before a place.
+ * @param {Float64Array} firsts
+ * @param {Uint32Array} rows
+ * @param {number} place
+ */
 function countBefore(firsts, rows, place) {
   let [low, high] = [0, rows.length];
   while (low < high) {
@@ -53,7 +102,10 @@ function countBefore(firsts, rows, place) {
   return low;
 }
 
-/** The lines of a listing by the numbers of their tracks, each in the order of its first bits. */
+/**
+ * The lines of a listing by the numbers of their tracks, each in the order of its first bits.
+ * @param {Listing} listing
+ */
 function sorted(listing) {
   const counts = new Uint32Array(DAMAGE + 3);
   for (let at = 0; at < listing.length; at++) {
@@ -64,13 +116,17 @@ function sorted(listing) {
   counts.fill(0);
   for (let at = 0; at < listing.length; at++) {
     const track = trackOf(listing, at);
-    if (track >= 0) tracks[track][counts[track]++] = at;
+    if (track >= 0) /** @type {Uint32Array} */ (tracks[track])[counts[track]++] = at;
   }
   for (const rows of tracks) if (rows !== null) putInOrder(listing, rows);
   return tracks;
 }
 
-/** Lines are in the order in which they were decided, which for most tracks is that of their first bits. */
+/**
+ * Lines are in the order in which they were decided, which for most tracks is that of their first bits.
+ * @param {Listing} listing
+ * @param {Uint32Array} rows
+ */
 function putInOrder({ firsts }, rows) {
   for (let at = 1; at < rows.length; at++) {
     if (firsts[rows[at]] < firsts[rows[at - 1]]) {
@@ -80,6 +136,7 @@ function putInOrder({ firsts }, rows) {
   }
 }
 
+/** @param {Listing} listing @param {Uint32Array[]} parts */
 function joined(listing, parts) {
   const rows = new Uint32Array(parts.reduce((sum, part) => sum + part.length, 0));
   parts.reduce((at, part) => (rows.set(part, at), at + part.length), 0);
@@ -87,22 +144,37 @@ function joined(listing, parts) {
   return rows;
 }
 
-/** The tracks of one station, or of several together. */
+/**
+ * The tracks of one station, or of several together.
+ * @param {Listing} listing
+ * @param {Rows[]} tracks
+ * @param {number[]} stations
+ */
 function tracksOf(listing, tracks, stations) {
   return TRACKS.flatMap((id, number) => {
-    const parts = stations.map((station) => tracks[TRACKS.length * station + number]).filter((part) => part !== null);
+    const parts = /** @type {Uint32Array[]} */ (
+      stations.map((station) => tracks[TRACKS.length * station + number]).filter((part) => part !== null)
+    );
     if (parts.length === 0) return [];
     return [{ id, isSign: number >= FIRST_SIGN, rows: parts.length === 1 ? parts[0] : joined(listing, parts) }];
   });
 }
 
-/** How many lines a station has. */
+/**
+ * How many lines a station has.
+ * @param {Rows[]} tracks
+ * @param {number} station
+ */
 function sizeOfStation(tracks, station) {
   const own = tracks.slice(TRACKS.length * station, TRACKS.length * (station + 1));
   return own.reduce((sum, rows) => sum + (rows?.length ?? 0), 0);
 }
 
-/** Stations by the lanes that they have: those with most lines each their own, the rest together. */
+/**
+ * Stations by the lanes that they have: those with most lines each their own, the rest together.
+ * @param {number[]} stations
+ * @param {(station: number) => number} sizeOf
+ */
 function shared(stations, sizeOf) {
   if (stations.length <= MOST_STATIONS) return stations.map((station) => [station]);
   const kept = new Set([...stations].sort((one, other) => sizeOf(other) - sizeOf(one)).slice(0, MOST_STATIONS - 1));
@@ -113,8 +185,8 @@ function shared(stations, sizeOf) {
 /** The timeline of a listing: a lane for each station, and one for the damage of each line. */
 export class Lanes {
   /**
-   * @param {import("../../../scripts/modules/listing/listing.js").Listing} listing
-   * @param {Map<number, object[]>} gaps of stations
+   * @param {Listing} listing
+   * @param {Map<number, Stretch[]>} gaps of stations
    * @param {Map<number, string>} names what is sent to them
    */
   constructor(listing, gaps, names) {
@@ -122,14 +194,20 @@ export class Lanes {
     this.isOfTwo = listing.length > 0 && listing.lines[0] !== 0;
     this.range = rangeOf(listing);
     const tracks = sorted(listing);
-    const sizeOf = (station) => sizeOfStation(tracks, station);
+    const sizeOf = (/** @type {number} */ station) => sizeOfStation(tracks, station);
     this.stations = Array.from({ length: STATIONS }, (_, station) => station).filter((station) => sizeOf(station) > 0);
     const ofStations = shared(this.stations, sizeOf).map((some) => this.ofStations(some, tracks, gaps, names));
     const ofDamage = [0, 1, 2].flatMap((line) => this.ofDamage(line, tracks[DAMAGE + line]));
     this.lanes = [...ofStations, ...ofDamage];
   }
 
-  /** The lane of a station, or of several. */
+  /**
+   * The lane of a station, or of several.
+   * @param {number[]} stations
+   * @param {Rows[]} tracks
+   * @param {Map<number, Stretch[]>} gaps
+   * @param {Map<number, string>} names
+   */
   ofStations(stations, tracks, gaps, names) {
     const [station, ...others] = stations;
     const name = others.length > 0 ? "others" : String(station);
@@ -138,21 +216,30 @@ export class Lanes {
     return this.lane({ id: name, name, about, isStation: true, stations, gaps: own }, tracksOf(this.listing, tracks, stations));
   }
 
-  /** The lane of the damage of a line, if there is any; line 0 is that of a listing of one line. */
+  /**
+   * The lane of the damage of a line, if there is any; line 0 is that of a listing of one line.
+   * @param {number} line
+   * @param {Rows} rows
+   */
   ofDamage(line, rows) {
     const about = line === 0 ? "" : `line ${line}`;
     const told = { id: `damage ${line}`, name: "Damage", about, isStation: false, stations: [], gaps: [] };
     return rows === null ? [] : [this.lane(told, [{ id: "damage", isSign: false, rows }])];
   }
 
+  /** @param {Omit<WholeLane, "tracks">} told @param {Omit<WholeTrack, "long">[]} tracks @returns {WholeLane} */
   lane(told, tracks) {
-    const isLong = (row) => this.listing.pasts[row] - this.listing.firsts[row] > LONG;
+    const isLong = (/** @type {number} */ row) => this.listing.pasts[row] - this.listing.firsts[row] > LONG;
     return { ...told, tracks: tracks.map((track) => ({ ...track, long: track.rows.filter(isLong) })) };
   }
 
   /**
    * What stands from one place to another: for each track its marks, or, if they are many, how many begin in each bin.
+   * @param {number} first
+   * @param {number} past
+   * @param {number} bins
    * @param {number|null} station the only one that is wanted, if not all are
+   * @returns {Lane[]}
    */
   between(first, past, bins, station = null) {
     const lanes = this.lanes.filter((lane) => station === null || !lane.isStation || lane.stations.includes(station));
@@ -164,13 +251,23 @@ export class Lanes {
     }));
   }
 
+  /** @param {WholeLane[]} lanes @param {number} first @param {number} past */
   ticksBetween(lanes, first, past) {
     const { firsts } = this.listing;
     const tracks = lanes.flatMap((lane) => lane.tracks.filter(({ isSign }) => !isSign));
+    /** @param {WholeTrack} track */
     const within = ({ rows }) => countBefore(firsts, rows, past) - countBefore(firsts, rows, first - LONG);
     return tracks.reduce((sum, track) => sum + within(track), 0);
   }
 
+  /**
+   * @param {WholeTrack} track
+   * @param {number} first
+   * @param {number} past
+   * @param {number} bins
+   * @param {boolean} areFew
+   * @returns {Track}
+   */
   trackBetween({ id, isSign, rows, long }, first, past, bins, areFew) {
     const { firsts } = this.listing;
     const [from, to] = [countBefore(firsts, rows, first - LONG), countBefore(firsts, rows, past)];
@@ -180,7 +277,13 @@ export class Lanes {
     return { ...told, ...this.bins(rows, first, past, isSign ? Math.ceil(bins / SIGN_BINS) : bins) };
   }
 
-  /** The marks of some lines that reach past a place, and of long ones that began well before it. */
+  /**
+   * The marks of some lines that reach past a place, and of long ones that began well before it.
+   * @param {Uint32Array} rows
+   * @param {Uint32Array} long
+   * @param {number} first
+   * @returns {Mark[]}
+   */
   marks(rows, long, first) {
     const { listing } = this;
     return [...Array.from(long).filter((row) => listing.firsts[row] < first - LONG), ...rows]
@@ -188,7 +291,14 @@ export class Lanes {
       .map((row) => ({ row, first: listing.firsts[row], past: listing.pasts[row], text: listing.text(row) }));
   }
 
-  /** How many marks begin in each bin, and the first of them. */
+  /**
+   * How many marks begin in each bin, and the first of them.
+   * @param {Uint32Array} rows
+   * @param {number} first
+   * @param {number} past
+   * @param {number} bins
+   * @returns {Bins}
+   */
   bins(rows, first, past, bins) {
     const { firsts } = this.listing;
     const counts = new Uint32Array(bins);
@@ -204,7 +314,10 @@ export class Lanes {
   }
 }
 
-/** The first place of a listing and the one just after its last bit. */
+/**
+ * The first place of a listing and the one just after its last bit.
+ * @param {Listing} listing
+ */
 function rangeOf(listing) {
   if (listing.length === 0) return [0, 1];
   let [first, past] = [Infinity, 0];

@@ -2,7 +2,11 @@ import { octetsOf } from "../../../scripts/modules/octets.js";
 
 const PIECE = 1 << 22;
 
-/** A file piece by piece, with word of how much was read. */
+/**
+ * A file piece by piece, with word of how much was read.
+ * @param {Blob} file
+ * @param {import("./source.js").Heard} heard
+ */
 export async function* piecesOf(file, heard) {
   for (let from = 0; from < file.size || from === 0; from += PIECE) {
     yield await octetsOf(file.slice(from, from + PIECE));
@@ -10,7 +14,10 @@ export async function* piecesOf(file, heard) {
   }
 }
 
-/** A file without what stands after its last line end; the file itself where nothing does. */
+/**
+ * A file without what stands after its last line end; the file itself where nothing does.
+ * @param {Blob} file
+ */
 export async function inWholeLines(file) {
   const from = Math.max(0, file.size - PIECE);
   const past = (await octetsOf(file.slice(from))).lastIndexOf(10) + 1;

@@ -1,37 +1,59 @@
-import { PackedReader, Packer, TextReader } from "../engine/capture.js";
-import { Decoder } from "../engine/decoder.js";
+import { Arrivals, KeptArrivals } from "../engine/arrivals.js";
 import { KeptBits } from "../engine/bits.js";
+import { PackedReader, Packer, TextReader } from "../engine/capture.js";
+import { ClockedDecoder, Decoder } from "../engine/decoder.js";
 import { libraryOf } from "../engine/library.js";
 import { Fault } from "../../../scripts/modules/fault.js";
 import { ListingReader } from "../../../scripts/modules/listing/read.js";
-import { bitsOf } from "../../../scripts/modules/recording/bits.js";
+import { doubtsOf, edgesOf } from "../../../scripts/modules/recording/doubts.js";
+import { Moments } from "../../../scripts/modules/recording/moments.js";
+import { recordingOf } from "../../../scripts/modules/recording/recording.js";
+import { Sampler } from "../../../scripts/modules/recording/sampler.js";
+import { samplingOf } from "../../../scripts/modules/recording/sampling.js";
 import { sessionOf } from "../../../scripts/modules/recording/session.js";
 import { inWholeLines, piecesOf } from "./pieces.js";
 
+/** @typedef {import("../../../scripts/modules/recording/doubts.js").Warning} Warning */
+/** @typedef {import("../engine/capture.js").Sink} Sink */
+/** @typedef {import("./forms.js").Kind} Kind */
+
 /**
- * What is to be read, and how.
+ * A file that has bits, and how they are read.
  *
- * @typedef {object} Job
+ * @typedef {object} BitsSource
  * @property {Blob} file
- * @property {"text"|"packed"|"listing"|"vcd"|"csv"|"session"} form
- * @property {1|2} lines of the bus, in a capture
+ * @property {"text"|"packed"|"vcd"|"csv"|"session"} form
+ * @property {Kind} kind of a capture
  * @property {string[]} channels of a recording: clock and data of one line, or as recording-to-bits takes them
  * @property {boolean} rising whether bits are taken at rising edges of the clock
  * @property {number} [inverted] which lines' data is inverted: 1, 2, or 3 for both
- * @property {number} [end] of the recording in bits, where a report says so of its listing
- * @property {object[]|null} entries of the dictionary, if there is one
  * @property {Uint8Array|null} engine the decoder's module
+ * @property {undefined} [end] which its bits tell
  */
+
+/**
+ * A listing, the decoder's module, which it does not need, and the recording's end in bits where a report says so.
+ * @typedef {{ file: Blob, form: "listing", engine: Uint8Array|null, end?: number }} ListingSource
+ */
+
+/** @typedef {ListingSource|BitsSource} Source what is to be read, and how */
+/** @typedef {BitsSource & { form: import("../../../scripts/modules/recording/forms.js").Form }} RecordingSource */
+
+/** @typedef {import("../../../scripts/modules/dictionary/dictionary.js").Entry[]|null} Entries of a dictionary */
+/** @typedef {Source & { entries: Entries }} Job with the entries of the dictionary, if there is one */
+
+/** @typedef {(read: number, size: number) => void} Heard */
+/** @typedef {KeptBits|KeptArrivals} Bits */
 
 /**
  * What was read.
  *
  * @typedef {object} Read
  * @property {import("../../../scripts/modules/listing/listing.js").Listing} listing
- * @property {KeptBits|null} bits
+ * @property {Bits|null} bits
  * @property {string|null} fault at which reading stopped
  * @property {string[]} notes on a recording, its warnings among them
- * @property {import("../../../scripts/modules/recording/doubts.js").Warning[]} warnings
+ * @property {Warning[]} warnings
  */
 
 /** Forms that have lines, so that the end of a file that was cut off is known. */
@@ -43,11 +65,11 @@ const CUT = { sort: "cut", name: "", count: 1, second: null, text: "the file end
  * Reads a file to its end, or to its first fault. Where the fault is that the file ends within a line, all before that
  * is read.
  * @param {Job} job
- * @param {(read: number, size: number) => void} heard
+ * @param {Heard} heard
  * @returns {Promise<Read>}
  */
 export async function read(job, heard) {
-  let [first, refused] = [null, null];
+  let [first, refused] = /** @type {[Read|null, Fault|null]} */ ([null, null]);
   try {
     first = await readOnce(job, heard);
     if (first.fault === null) return first;
@@ -62,24 +84,46 @@ export async function read(job, heard) {
     if (again.fault === null) return { ...again, warnings: [CUT, ...again.warnings] };
   }
   if (refused !== null) throw refused;
-  return first;
+  return /** @type {Read} */ (first);
 }
 
-/** Reads a file to its end, or to its first fault. @returns {Promise<Read>} */
-async function readOnce(job, heard) {
-  if (job.form === "listing") return readListing(job, heard);
-  if (!job.engine) throw new Fault("this browser cannot decode captures: it lacks 64-bit memory for WebAssembly");
-  const lines = linesOf(job);
+/**
+ * What takes the marks of a capture, keeps their bits and decodes them.
+ * @param {Kind} kind
+ * @param {import("../engine/library.js").Library} library
+ * @param {Entries} entries
+ */
+function roadOf(kind, library, entries) {
+  if (kind === "arrivals") {
+    const bits = new KeptArrivals();
+    const decoder = new ClockedDecoder(library, entries, bits.places);
+    return { bits, decoder, sink: new Arrivals(bits, (block) => decoder.takeBlock(block)) };
+  }
   const bits = new KeptBits();
-  const decoder = new Decoder(await libraryOf(job.engine), lines, job.entries);
+  const decoder = new Decoder(library, kind, entries);
+  /** @param {Uint8Array[]} octets @param {number} count */
   const hand = (octets, count) => {
     bits.take(octets, count);
     decoder.take(octets, count);
   };
-  const told = { notes: [], warnings: [] };
+  return { bits, decoder, sink: new Packer(kind, hand) };
+}
+
+/**
+ * Reads a file to its end, or to its first fault.
+ * @param {Job} job
+ * @param {Heard} heard
+ * @returns {Promise<Read>}
+ */
+async function readOnce(job, heard) {
+  if (job.form === "listing") return readListing(job, heard);
+  if (!job.engine) throw new Fault("this browser cannot decode captures: it lacks 64-bit memory for WebAssembly");
+  const kind = kindOf(job);
+  const { bits, decoder, sink } = roadOf(kind, await libraryOf(job.engine), job.entries);
+  const told = { notes: /** @type {string[]} */ ([]), warnings: /** @type {Warning[]} */ ([]) };
   try {
-    if (isRecording(job)) await takeRecording(job, new Packer(lines, hand), told, heard);
-    else await takeCapture(job, lines, hand, heard);
+    if (isRecording(job)) await takeRecording(/** @type {RecordingSource} */ (job), sink, told, heard);
+    else await takeCapture(job, kind, sink, heard);
   } catch (fault) {
     if (!(fault instanceof Fault)) throw fault;
     return { listing: decoder.listing, bits, fault: fault.message, ...told };
@@ -87,38 +131,62 @@ async function readOnce(job, heard) {
   return { listing: decoder.end(), bits, fault: null, ...told };
 }
 
-/** Whether a form is one of recordings. */
+/**
+ * Whether a form is one of recordings.
+ * @param {Source} source
+ */
 export function isRecording({ form }) {
   return form === "vcd" || form === "csv" || form === "session";
 }
 
-function linesOf(job) {
-  if (!isRecording(job)) return job.lines;
-  return job.channels.length === 2 ? 1 : 2;
+/**
+ * The kind of the capture that a file is, or that is taken from it.
+ * @param {BitsSource} job
+ */
+function kindOf(job) {
+  if (!isRecording(job)) return job.kind;
+  return job.channels.length === 2 ? 1 : "arrivals";
 }
 
+/** @param {ListingSource} job @param {Heard} heard @returns {Promise<Read>} */
 async function readListing(job, heard) {
   const reader = new ListingReader();
   for await (const piece of piecesOf(job.file, heard)) reader.take(piece);
   return { listing: reader.end(), bits: null, fault: null, notes: [], warnings: [] };
 }
 
-async function takeCapture(job, lines, hand, heard) {
-  const reader = job.form === "packed" ? new PackedReader(lines, hand) : new TextReader(lines, hand);
+/** @param {BitsSource} job @param {Kind} kind @param {Sink} sink @param {Heard} heard */
+async function takeCapture(job, kind, sink, heard) {
+  const reader = job.form === "packed" ? new PackedReader(kind, sink) : new TextReader(kind, sink);
   for await (const piece of piecesOf(job.file, heard)) reader.take(piece);
   reader.end();
 }
 
-/** Takes the bits of a recording; those before a fault are taken, too. */
-async function takeRecording({ file, form, channels, rising, inverted }, packer, { notes, warnings }, heard) {
-  const session = form === "session" ? await sessionOf(file) : null;
-  const pieces = session ? session.pieces(heard) : piecesOf(file, heard);
-  const taken = bitsOf(pieces, { form, channels, rising, inverted, session });
+/** Wires of clocks and of the data of either line, as the sampler has them. */
+const [CLOCKS, FIRST, SECOND] = [0b0101, 0b0010, 0b1000];
+
+/**
+ * Takes the bits of a recording; those before a fault are taken, too.
+ * @param {RecordingSource} source
+ * @param {Sink} sink
+ * @param {Pick<Read, "notes"|"warnings">} told
+ * @param {Heard} heard
+ */
+async function takeRecording({ file, form, channels, rising, inverted = 0 }, sink, { notes, warnings }, heard) {
+  const samples = form === "session" ? await sessionOf(file) : undefined;
+  const pieces = samples ? samples.pieces(heard) : piecesOf(file, heard);
+  const recording = await recordingOf(pieces, { form, channels, samples });
+  const turned = (rising ? 0 : CLOCKS) | (inverted & 1 ? FIRST : 0) | (inverted & 2 ? SECOND : 0);
+  /** @type {(line: number, bit: number) => void} */
+  const arrive =
+    channels.length === 2 ? (_, bit) => sink.add(bit) : (line, bit) => /** @type {Arrivals} */ (sink).push(line, bit);
+  const sampler = new Sampler(recording, samplingOf(recording), turned, arrive);
   try {
-    for await (const some of taken.marks) for (const mark of some) packer.add(mark);
+    for await (const piece of recording.pieces) sampler.take(piece);
   } finally {
-    packer.flush();
-    notes.push(...taken.told);
-    warnings.push(...taken.warnings);
+    sink.flush();
+    const when = new Moments(recording.ticks, recording.begin());
+    warnings.push(...doubtsOf(sampler.facts, recording.names, { rising, when }));
+    notes.push(edgesOf(sampler.facts, recording.names), ...warnings.map(({ text }) => `warning: ${text}`));
   }
 }

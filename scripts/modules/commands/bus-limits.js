@@ -12,16 +12,26 @@ import { misuse, positive, run, warn, wordsOf, writeText } from "./command.js";
 import { dateOf, piecesOf, sha256Of } from "./facts.js";
 import { rowsOfInput } from "./input.js";
 
+/** @typedef {import("../limits/judge.js").Unit} Unit */
+/** @typedef {import("../limits/limits.js").Statistics} Statistics */
+/** @typedef {(name: string) => Statistics} Baseline what an earlier run knows of a unit */
+
 /** How JSON begins: a listing begins with a digit. */
 const BRACE = 123;
 
-/** A tolerance, for an option. @param {string} text */
+/**
+ * A tolerance, for an option.
+ * @param {string} text
+ */
 function percentOf(text) {
   if (!/^[0-9]+(\.[0-9]+)?%?$/.test(text)) throw new Fault(`${JSON.stringify(text)} is no number of percent`);
   return Number(text.replace("%", ""));
 }
 
-/** The name, listing and recording of a unit. @param {string} word */
+/**
+ * The name, listing and recording of a unit.
+ * @param {string} word
+ */
 function unitOf(word) {
   const [name, listing, recording, more] = word.split("=");
   if (!name || !listing || recording === "" || more !== undefined) {
@@ -38,7 +48,11 @@ async function statisticsOf(file, rate) {
   return objectOf(bus);
 }
 
-/** The units of an earlier run. @param {string} file @returns {any[]} */
+/**
+ * The units of an earlier run.
+ * @param {string} file
+ * @returns {Unit[]}
+ */
 function unitsIn(file) {
   try {
     const { units } = JSON.parse(readFileSync(file, "utf8"));
@@ -49,7 +63,21 @@ function unitsIn(file) {
   throw new Fault(`${file} was not written by --json`);
 }
 
-/** What the earlier run knows of a unit, by its name. */
+/**
+ * Whether what JSON has of a unit can be compared.
+ * @param {Statistics|undefined} found
+ */
+function isComparable(found) {
+  const kinds = found?.kinds;
+  return Array.isArray(kinds) && kinds.every((kind) => kind?.replyMs && kind.gapMs);
+}
+
+/**
+ * What the earlier run knows of a unit, by its name.
+ * @param {string} file
+ * @param {number} rate
+ * @returns {Promise<Baseline>}
+ */
 async function baselineOf(file, rate) {
   const [head] = piecesOf(file, 1);
   if (head?.[0] !== BRACE) {
@@ -59,12 +87,17 @@ async function baselineOf(file, rate) {
   const units = unitsIn(file);
   return (name) => {
     const found = units.find((unit) => unit.name === name)?.statistics;
-    if (!Array.isArray(found?.kinds)) throw new Fault(`${file} has no statistics of ${name}`);
-    return found;
+    if (!isComparable(found)) throw new Fault(`${file} has no statistics of ${name}`);
+    return /** @type {Statistics} */ (found);
   };
 }
 
-/** A unit with all that is judged of it; its fault is said, and the next unit follows. */
+/**
+ * A unit with all that is judged of it; its fault is said, and the next unit follows.
+ * @param {ReturnType<typeof unitOf>} unit
+ * @param {{ limits: import("../limits/limits.js").Limits, rate: number, before: Baseline|null, within: number }} how
+ * @returns {Promise<Unit>}
+ */
 async function judged({ name, listing, recording }, { limits, rate, before, within }) {
   const unit = { name, source: { file: basename(recording ?? listing) }, judgements: [], worse: [] };
   try {
@@ -74,7 +107,7 @@ async function judged({ name, listing, recording }, { limits, rate, before, with
     const worse = before === null ? [] : worseThan(before(name), statistics, within);
     return { ...unit, source, statistics, judgements, worse };
   } catch (error) {
-    const fault = /** @type {any} */ (error);
+    const fault = /** @type {Error & { code?: string }} */ (error);
     if (!(fault instanceof Fault) && fault.code === undefined) throw error;
     warn(`${name}: ${fault.message}`);
     return { ...unit, fault: fault.message };

@@ -1,14 +1,26 @@
+import { readFileSync } from "node:fs";
+import { readDictionary } from "../dictionary/dictionary.js";
 import { RATE } from "../port1.js";
 import { Bus } from "../statistics/bus.js";
+import { DayTime } from "../statistics/day-time.js";
 import { objectOf } from "../statistics/object.js";
 import { report } from "../statistics/report.js";
 import { positive, run, wordsOf, writeText } from "./command.js";
 import { rowsOfInput } from "./input.js";
 
+/** @param {string} text */
+const begin = (text) => new DayTime(text);
+
+const NUMBERS = { rate: positive, bits: positive, begin };
+
+const OPTIONS = { ...NUMBERS, dictionary: String, json: /** @type {true} */ (true) };
+
 run(async () => {
-  const { rate = RATE, json } = wordsOf({ rate: positive, json: true }).values;
-  const bus = new Bus(rate);
+  const { rate = RATE, dictionary, bits: end = null, begin: dayTime = null, json } = wordsOf(OPTIONS).values;
+  const entries = dictionary === undefined ? null : readDictionary(readFileSync(dictionary, "utf8"));
+  const bus = new Bus(rate, dayTime);
   for await (const rows of rowsOfInput()) bus.takeSome(rows);
   bus.end();
-  writeText(json ? `${JSON.stringify(objectOf(bus), null, 2)}\n` : report(bus));
+  const known = { end, entries };
+  writeText(json ? `${JSON.stringify(objectOf(bus, known), null, 2)}\n` : report(bus, known));
 });

@@ -4,11 +4,14 @@ import { join } from "node:path";
 import { findingsOfFile } from "../dictionary/check.js";
 import { Fault } from "../fault.js";
 import { run, wordsOf, writeText } from "./command.js";
-import { TOP, port1 } from "./program.js";
+import { TOP, programNamed } from "./program.js";
 
-/** The fault that the program finds, as it says it; nothing where the dictionary is good. @param {string} text */
+/**
+ * The fault that the program finds, as it says it; nothing where the dictionary is good.
+ * @param {string} text
+ */
 function judgement(text) {
-  const program = port1();
+  const program = programNamed("port1");
   const words = ["check", "--bits", `--dict=${text}`];
   const { error, status, signal, stderr } = spawnSync(program, words, { stdio: ["ignore", "ignore", "pipe"] });
   if (error && "code" in error && error.code === "E2BIG") {

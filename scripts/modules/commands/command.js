@@ -3,13 +3,14 @@
  *
  * Help goes to standard output, with status 0. Of a wrong call, usage and reason go to standard error, with status 2.
  * Whatever else keeps a command from its work is one line on standard error, with status 2; where whoever read the
- * output has gone, as `head` does, nothing is said.
+ * output has gone, as `head` does, nothing is said. Signals are those of signals.js.
  */
 
 import { readFileSync, writeSync } from "node:fs";
 import { basename } from "node:path";
 import { parseArgs } from "node:util";
 import { Fault } from "../fault.js";
+import { catchSignals, endedBy, endBySignal } from "./signals.js";
 
 /** What the command is called. */
 export const name = basename(process.argv[1], ".js");
@@ -17,12 +18,17 @@ export const name = basename(process.argv[1], ".js");
 /** A wrong call. */
 class Misuse extends Error {}
 
-/** Writes all of some octets, also to a pipe that does not block. @param {Uint8Array} octets */
+/**
+ * Writes all of some octets, also to a pipe that does not block. Once a signal has ended the input, whoever read the
+ * output may have been ended too, and what is left to be said is said all the same.
+ * @param {Uint8Array} octets
+ */
 export function write(octets, to = 1) {
   for (let at = 0; at < octets.length; ) {
     try {
       at += writeSync(to, octets, at);
     } catch (error) {
+      if (isOfSystem(error, "EPIPE") && endedBy()) return;
       if (!isOfSystem(error, "EAGAIN")) throw error;
       Atomics.wait(new Int32Array(new SharedArrayBuffer(4)), 0, 0, 1);
     }
@@ -32,11 +38,21 @@ export function write(octets, to = 1) {
 /** @param {string} text */
 export const writeText = (text) => write(Buffer.from(text));
 
-/** Writes a line on standard error. @param {string} text */
+/**
+ * Writes a line on standard error.
+ * @param {string} text
+ */
 export const warn = (text) => write(Buffer.from(`${name}: ${text}\n`), 2);
 
-/** Whether an error comes from the system, with this code if one is given. @param {any} error @param {string} [code] */
-const isOfSystem = (error, code = error.code) => error.code !== undefined && error.code === code;
+/**
+ * Whether an error comes from the system, with this code if one is given.
+ * @param {unknown} error
+ * @param {string} [wanted]
+ */
+function isOfSystem(error, wanted) {
+  const { code } = /** @type {{ code?: string }} */ (error);
+  return code !== undefined && code === (wanted ?? code);
+}
 
 /** The text that --help writes: it begins with the usage, which ends with an empty line. */
 function help() {
@@ -44,7 +60,10 @@ function help() {
   return text.replace(/^usage: \S+/, `usage: ${name}`);
 }
 
-/** A wrong call, and why. @param {string} text */
+/**
+ * A wrong call, and why.
+ * @param {string} text
+ */
 export const misuse = (text) => new Misuse(`${help().split("\n\n")[0]}\n${name}: error: ${text}\n`);
 
 /**
@@ -53,13 +72,20 @@ export const misuse = (text) => new Misuse(`${help().split("\n\n")[0]}\n${name}:
  */
 
 /**
+ * What the options of a call say, those that were given.
+ * @template {Record<string, Option>} Options
+ * @typedef {{ [Name in keyof Options]?: Options[Name] extends (text: string) => infer Value ? Value : boolean }} Values
+ */
+
+/**
  * The words of a call: the values of its options by name, and its other words, of which there are so many.
- * @param {Record<string, Option>} [options]
+ * @template {Record<string, Option>} Options
+ * @param {Options} [options]
  * @param {string[]} [words] what each of the other words is
  * @param {number} [most] how many of them there may be
- * @returns {{ values: Record<string, any>, words: string[] }}
+ * @returns {{ values: Values<Options>, words: string[] }}
  */
-export function wordsOf(options = {}, words = [], most = words.length) {
+export function wordsOf(options = /** @type {Options} */ ({}), words = [], most = words.length) {
   const typed = Object.entries(options).map(([key, read]) => [key, { type: read === true ? "boolean" : "string" }]);
   const config = { options: { ...Object.fromEntries(typed), help: { type: "boolean", short: "h" } } };
   const found = parsed(config);
@@ -77,7 +103,7 @@ export function wordsOf(options = {}, words = [], most = words.length) {
   return { values: Object.fromEntries(values), words: others };
 }
 
-/** @param {any} config @returns {{ values: Record<string, any>, positionals: string[] }} */
+/** @param {{ options: Record<string, { type: string, short?: string }> }} config */
 function parsed(config) {
   try {
     return parseArgs({ ...config, allowPositionals: true });
@@ -101,29 +127,45 @@ export function wordOf(what, text, read) {
   }
 }
 
-/** A whole number above 0, for an option. @param {string} text */
+/**
+ * A whole number above 0, for an option.
+ * @param {string} text
+ */
 export function positive(text) {
   if (!/^[0-9]*[1-9][0-9]*$/.test(text)) throw new Fault(`${JSON.stringify(text)} is no whole number above 0`);
   return Number(text);
 }
 
-/** Says on standard error what keeps a command from its work. @param {unknown} error */
+/**
+ * A whole number, for an option.
+ * @param {string} text
+ */
+export function whole(text) {
+  if (!/^[0-9]+$/.test(text)) throw new Fault(`${JSON.stringify(text)} is no whole number`);
+  return Number(text);
+}
+
+/**
+ * Says on standard error what keeps a command from its work.
+ * @param {unknown} error
+ */
 function tell(error) {
   if (error instanceof Misuse) write(Buffer.from(error.message), 2);
   else if (error instanceof Fault || isOfSystem(error)) warn(/** @type {Error} */ (error).message);
   else throw error;
 }
 
-/** Runs a command, and ends with its status. @param {() => Promise<number|void>|number|void} main */
+/**
+ * Runs a command, and ends with its status.
+ * @param {() => Promise<number|void>|number|void} main
+ */
 export async function run(main) {
-  process.on("SIGINT", () => {
-    warn("interrupted");
-    process.exit(130);
-  });
+  catchSignals();
   try {
     process.exitCode = (await main()) ?? 0;
   } catch (error) {
     if (!isOfSystem(error, "EPIPE")) tell(error);
     process.exit(2);
   }
+  if (endedBy()) endBySignal();
 }

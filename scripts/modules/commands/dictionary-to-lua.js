@@ -12,10 +12,17 @@ const BEFORE_DATA = 3;
 
 /** @typedef {import("../dictionary/dictionary.js").Entry} Entry */
 
-/** A text of printable ASCII, as Lua reads it. @param {string} text */
+/**
+ * A text of printable ASCII, as Lua reads it.
+ * @param {string} text
+ */
 const quoted = (text) => JSON.stringify(text);
 
-/** The last part of the filter of each name of a bit: other names, other filters. @param {Entry[]} entries */
+/**
+ * The last part of the filter of each name of a bit: other names, other filters.
+ * @param {Entry[]} entries
+ * @returns {Map<string, string>}
+ */
 function filtersOf(entries) {
   const [filters, taken] = [new Map(), new Set()];
   for (const { name } of entries.flatMap(({ bits }) => bits)) {
@@ -38,7 +45,11 @@ function textOfEntry({ type, name, length, bits }, filters) {
   return `  [${type}] = {name = ${quoted(name)}, length = ${length}, bits = {\n${lines.join("")}  }},\n`;
 }
 
-/** What stands in the place of the dictionary. @param {Entry[]} entries @param {string} name */
+/**
+ * What stands in the place of the dictionary.
+ * @param {Entry[]} entries
+ * @param {string} name
+ */
 function textOf(entries, name) {
   const [title, short] = name === "port1" ? ["NEMA TS 2 Port 1", "Port 1"] : [`NEMA TS 2 Port 1, ${name}`, name];
   const filters = filtersOf(entries);

@@ -42,7 +42,11 @@ class Writer {
   }
 }
 
-/** A number with so many decimals at most. @param {number} value @param {number} decimals */
+/**
+ * A number with so many decimals at most.
+ * @param {number} value
+ * @param {number} decimals
+ */
 const rounded = (value, decimals) => value.toFixed(decimals).replace(/\.?0+$/, "");
 
 /** @param {Writer} writer @param {import("../listing/listing.js").Row} row @param {number} rate or 0 */

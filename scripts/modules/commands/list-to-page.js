@@ -1,5 +1,5 @@
 import { existsSync, readFileSync, statSync } from "node:fs";
-import { basename, join } from "node:path";
+import { basename } from "node:path";
 import { Readable } from "node:stream";
 import { createGzip } from "node:zlib";
 import { Fault } from "../fault.js";
@@ -9,10 +9,7 @@ import { RATE } from "../port1.js";
 import { positive, run, wordsOf, writeText } from "./command.js";
 import { dateOf, sha256Of } from "./facts.js";
 import { standardInput } from "./input.js";
-import { TOP } from "./program.js";
-
-/** Where the page is: in this repository, and where the scripts are installed. */
-const PAGES = ["page/out/port1.html", "page/port1.html"].map((page) => join(TOP, page));
+import { PAGES, page as builtPage } from "./program.js";
 
 const ENGINE = /<script type="application\/wasm\+base64" id="engine">.*?<\/script>/s;
 
@@ -27,7 +24,11 @@ function pageOf(file) {
   return readFileSync(file, "utf8");
 }
 
-/** What stands in the report before the listing, and after it. @param {string} page @param {{ title: string }} more */
+/**
+ * What stands in the report before the listing, and after it.
+ * @param {string} page
+ * @param {{ title: string }} more
+ */
 function partsOf(page, more) {
   const known = ABOUT.exec(page);
   if (!ENGINE.test(page) || known === null) throw new Fault("this is no page that `make page` built");
@@ -37,7 +38,10 @@ function partsOf(page, more) {
   return [`${titled}<script type="application/gzip+base64" id="listing-data">`, `</script>${after}`];
 }
 
-/** What the report has of the recording's file. @param {string} recording */
+/**
+ * What the report has of the recording's file.
+ * @param {string} recording
+ */
 function factsOf(recording) {
   const sha256 = sha256Of(recording);
   const { mtime, size } = statSync(recording);
@@ -71,7 +75,10 @@ async function writeAsBase64(pieces) {
   writeText(rest.toString("base64"));
 }
 
-/** The pieces as gzip. @param {AsyncIterable<Buffer>} pieces */
+/**
+ * The pieces as gzip.
+ * @param {AsyncIterable<Buffer>} pieces
+ */
 function packed(pieces) {
   const [source, gzip] = [Readable.from(pieces), createGzip()];
   source.on("error", (fault) => gzip.destroy(fault));
@@ -84,7 +91,7 @@ run(async () => {
   const { values, words: [title] } = wordsOf({ ...OPTIONS, bits: positive, page: String }, ["TITLE"]);
   const { rate = RATE, command = "", recording, notes, bits } = values;
   const dictionary = values.dictionary ? readFileSync(values.dictionary, "utf8") : "";
-  const page = pageOf(values.page ?? PAGES.find((file) => existsSync(file)) ?? PAGES[0]);
+  const page = pageOf(values.page ?? builtPage() ?? PAGES[0]);
   const [before, after] = partsOf(page, {
     ...{ title, rate, dictionary, command },
     ...(recording && { recording: factsOf(recording) }),

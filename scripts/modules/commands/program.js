@@ -6,11 +6,23 @@ import { Fault } from "../fault.js";
 /** The folder that has `examples`: of this repository, or where the scripts are installed. */
 export const TOP = fileURLToPath(new URL("../../..", import.meta.url));
 
-/** What the variable PORT1 says; else the program of this repository, if it is built; else `port1` on the path. */
-export function port1() {
-  const folders = (process.env.PATH ?? "").split(delimiter);
-  const places = [join(TOP, "crates/port1/out"), ...folders].map((folder) => join(folder, "port1"));
-  const found = process.env.PORT1 || places.find((place) => existsSync(place));
-  if (!found) throw new Fault("there is no program port1 on the path; the variable PORT1 may say where it is");
+/** Where the page is: in this repository, and where the scripts are installed. */
+export const PAGES = ["page/out/port1.html", "page/port1.html"].map((file) => join(TOP, file));
+
+/** The page, where it has been built. */
+export const page = () => PAGES.find((file) => existsSync(file)) ?? null;
+
+/**
+ * A program of this repository: what the variable of its name in capitals says, such as PORT1_SAMPLE; else the one that
+ * is built here; else the one on the path.
+ * @param {"port1"|"port1-sample"} name
+ */
+export function programNamed(name) {
+  const crate = name.replace("-", "_");
+  const variable = crate.toUpperCase();
+  const onPath = (process.env.PATH ?? "").split(delimiter).map((folder) => join(folder, name));
+  const places = [join(TOP, "crates", crate, "out", crate), ...onPath];
+  const found = process.env[variable] || places.find((place) => existsSync(place));
+  if (!found) throw new Fault(`there is no program ${name} on the path; the variable ${variable} may say where it is`);
   return found;
 }

@@ -3,6 +3,11 @@ import { readDictionary } from "./dictionary.js";
 import { faultsBySchema } from "./schema.js";
 import { TomlFault, readToml } from "./toml.js";
 
+/** @typedef {import("./schema.js").Asked} Asked */
+/** @typedef {import("./schema.js").Schema} Schema */
+/** @typedef {import("./toml/places.js").Place} Place */
+/** @typedef {import("./toml/tables.js").Table} Table */
+
 /**
  * A fault or a remark, and the line that it is about.
  * @typedef {{line: number, text: string, isFault: boolean}} Finding
@@ -28,12 +33,18 @@ const SHOWN = 60;
 // What the reader says of a dictionary: of an entry, by its number, or of a frame type.
 const JUDGEMENT = /^dictionary: ((?:frame (\d+)|type (\d+)( twice)?)?.*)/;
 
+/** @param {number} line @param {string} text @returns {Finding} */
 const fault = (line, text) => ({ line, text, isFault: true });
 
+/** @param {number} line @param {string} text @returns {Finding} */
 const remark = (line, text) => ({ line, text, isFault: false });
 
-/** A part of a dictionary, as `frame 2: bits 1: at: `. */
+/**
+ * A part of a dictionary, as `frame 2: bits 1: at: `.
+ * @param {readonly (string|number)[]} path
+ */
 function label(path) {
+  /** @type {string[]} */
   const texts = [];
   for (const part of path) {
     if (typeof part === "number" && texts.length > 0) {
@@ -45,20 +56,29 @@ function label(path) {
   return texts.map((text) => `${text}: `).join("");
 }
 
-/** A value as TOML writes it: 16.0 is no whole number. */
+/**
+ * A value as TOML writes it: 16.0 is no whole number.
+ * @param {unknown} value
+ * @returns {string}
+ */
 function valueText(value) {
   if (Array.isArray(value)) return `[${value.map(valueText).join(", ")}]`;
   if (value instanceof Map) return `{${[...value].map(([key, inner]) => `${key} = ${valueText(inner)}`).join(", ")}}`;
   if (typeof value === "string") return JSON.stringify(value);
-  return Number.isInteger(value) ? value.toFixed(1) : String(value);
+  return Number.isInteger(value) ? /** @type {number} */ (value).toFixed(1) : String(value);
 }
 
+/** @param {unknown} value */
 function shown(value) {
   const text = valueText(value);
   return text.length <= SHOWN ? text : `${text.slice(0, SHOWN)}..`;
 }
 
-/** How many letters are to be put in, left out or replaced to make one word another. */
+/**
+ * How many letters are to be put in, left out or replaced to make one word another.
+ * @param {string} one
+ * @param {string} other
+ */
 function editsBetween(one, other) {
   let row = Array.from({ length: other.length + 1 }, (_, at) => at);
   for (const letter of one) {
@@ -71,13 +91,20 @@ function editsBetween(one, other) {
   return row[other.length];
 }
 
-/** A known key that may be meant by an unknown one: fewer than half of their letters differ. */
+/**
+ * A known key that may be meant by an unknown one: fewer than half of their letters differ.
+ * @param {string} key
+ * @param {string[]} known
+ */
 function unknownKey(key, known) {
   const near = known.find((word) => 2 * editsBetween(key, word) < Math.max(key.length, word.length));
   return `unknown key \`${key}\`${near === undefined ? "" : `; is \`${near}\` meant?`}`;
 }
 
-/** What a fault by the schema means. */
+/**
+ * What a fault by the schema means.
+ * @type {{ [Keyword in keyof Schema]?: (found: import("./schema.js").SchemaFault<Asked[Keyword]>) => string }}
+ */
 const COMPLAINTS = {
   type: ({ value, asked }) => `${shown(value)} is no ${KINDS[asked]}`,
   minimum: ({ value, schema }) => `${shown(value)} is not ${schema.minimum} to ${schema.maximum}`,
@@ -85,32 +112,39 @@ const COMPLAINTS = {
   pattern: ({ value }) => `${shown(value)} is not 1 to 40 printable ASCII characters without spaces`,
   enum: ({ value, asked }) => `${shown(value)} is not ${asked.join(" or ")}`,
   required: ({ value, asked }) => {
-    const missing = asked.filter((key) => !value.has(key));
+    const missing = asked.filter((key) => !/** @type {Table} */ (value).has(key));
     return `there is no ${missing.map((key) => `\`${key}\``).join(" and no ")}`;
   },
   minItems: () => "there is no entry",
 };
 
+/** @param {Table} table @param {Place} place @param {Schema} schema */
 function findingsOfSchema(table, place, schema) {
   return faultsBySchema(table, schema).flatMap((found) => {
     const { keyword, path } = found;
-    const value = /** @type {any} */ (found.value);
+    const value = /** @type {Table} */ (found.value);
     if (keyword !== "additionalProperties") {
-      return [fault(place.lineOf(path), label(path) + COMPLAINTS[keyword](found))];
+      const complaint = /** @type {(found: import("./schema.js").SchemaFault) => string} */ (COMPLAINTS[keyword]);
+      return [fault(place.lineOf(path), label(path) + complaint(found))];
     }
-    const known = Object.keys(found.schema.properties);
+    const known = Object.keys(/** @type {import("./schema.js").Schemas} */ (found.schema.properties));
     const keys = [...value.keys()].filter((key) => !known.includes(key));
     return keys.map((key) => fault(place.lineOf([...path, key]), label(path) + unknownKey(key, known)));
   });
 }
 
-/** The entries that are tables at all, or empty tables in their places. */
+/**
+ * The entries that are tables at all, or empty tables in their places.
+ * @param {Table} table
+ * @returns {Table[]}
+ */
 function tablesOfFrames(table) {
   const frames = table.get("frame");
   const entries = Array.isArray(frames) ? frames : [];
   return entries.map((entry) => (entry instanceof Map ? entry : new Map()));
 }
 
+/** @param {Table} table @param {Place} place */
 function remarks(table, place) {
   const version = table.get("version");
   return tablesOfFrames(table).flatMap((entry, at) => {
@@ -129,8 +163,11 @@ function remarks(table, place) {
   });
 }
 
-/** The entry that a judgement speaks of; of a type that comes twice, the second one. */
-/** @param {string[]} judgement @param {Map<string, any>} table */
+/**
+ * The entry that a judgement speaks of; of a type that comes twice, the second one.
+ * @param {(string|undefined)[]} judgement
+ * @param {Table} table
+ */
 function pathOfJudgement([, , number, type, twice], table) {
   if (number !== undefined) {
     return ["frame", Number(number) - 1];
@@ -143,7 +180,10 @@ function pathOfJudgement([, , number, type, twice], table) {
   return ["frame", having[twice === undefined ? 0 : 1][0]];
 }
 
-/** The fault that the program's rules find, as it says it; nothing where the dictionary is good. */
+/**
+ * The fault that the program's rules find, as it says it; nothing where the dictionary is good.
+ * @param {string} text
+ */
 function judgement(text) {
   try {
     readDictionary(text);
@@ -156,6 +196,7 @@ function judgement(text) {
   }
 }
 
+/** @param {string} text @param {Table} table @param {Place} place @param {Judge} judge */
 function findingsOfProgram(text, table, place, judge) {
   const said = judge(text.replace(/\n+$/, ""));
   if (said === undefined) {
@@ -166,7 +207,10 @@ function findingsOfProgram(text, table, place, judge) {
   return [fault(place.lineOf(pathOfJudgement(found, table)), `port1 says: ${found[1]}${advice}`)];
 }
 
-/** In the order of the lines, and each only once. */
+/**
+ * In the order of the lines, and each only once.
+ * @param {Finding[]} findings
+ */
 function inOrder(findings) {
   const once = new Map(findings.map((finding) => [JSON.stringify(finding), finding]));
   return [...once.values()].sort((one, other) => one.line - other.line);
@@ -175,7 +219,7 @@ function inOrder(findings) {
 /**
  * What is found in the text of a dictionary, in the order of its lines.
  * @param {string} text
- * @param {any} schema examples/dictionary.schema.json
+ * @param {Schema} schema examples/dictionary.schema.json
  * @param {Judge} [judge]
  * @returns {Finding[]}
  */
@@ -197,7 +241,10 @@ export function findingsOf(text, schema, judge = judgement) {
   ]);
 }
 
-/** The first line that is no UTF-8; 0 where there is none. */
+/**
+ * The first line that is no UTF-8; 0 where there is none.
+ * @param {Uint8Array} octets
+ */
 function spoiltLine(octets) {
   const decoder = new TextDecoder("utf-8", { fatal: true });
   for (let [line, begin] = [1, 0]; begin <= octets.length; line += 1) {
@@ -216,7 +263,7 @@ function spoiltLine(octets) {
 /**
  * What is found in a file of a dictionary.
  * @param {Uint8Array} octets
- * @param {any} schema examples/dictionary.schema.json
+ * @param {Schema} schema examples/dictionary.schema.json
  * @param {Judge} [judge]
  * @returns {Finding[]}
  */

@@ -20,30 +20,53 @@ const LENGTHS = 254;
 const LEAST_WINDOW = 8n;
 const MOST_WINDOW = 1_048_576n;
 
+/** @param {string} text */
 const faultOf = (text) => new Fault(`dictionary: ${text}`);
 
-/** The value at a key, where it is in a table that has the key. */
+/**
+ * The value at a key, where it is in a table that has the key.
+ * @param {unknown} table
+ * @param {string} key
+ * @returns {unknown}
+ */
 const valueAt = (table, key) => (table instanceof Map ? table.get(key) : undefined);
 
-/** The integer at a key from 0 on, below a limit; else nothing. */
+/**
+ * The integer at a key from 0 on, below a limit; else nothing.
+ * @param {unknown} table
+ * @param {string} key
+ * @param {number} limit
+ */
 function numberAt(table, key, limit) {
   const value = valueAt(table, key);
   return typeof value === "bigint" && value >= 0n && value < limit ? Number(value) : undefined;
 }
 
-/** The name in a table; nothing where it is none. */
+/**
+ * The name in a table; nothing where it is none.
+ * @param {unknown} table
+ */
 function nameAt(table) {
   const value = valueAt(table, "name");
   return typeof value === "string" && NAME.test(value) ? value : undefined;
 }
 
-/** Whether frames of a type are to be answered; nothing where what is said of it is not allowed. */
+/**
+ * Whether frames of a type are to be answered; nothing where what is said of it is not allowed.
+ * @param {unknown} table
+ * @param {number} type
+ */
 function answeredAt(table, type) {
   const value = valueAt(table, "answered") ?? false;
   return typeof value !== "boolean" || (value && type >= ANSWER) ? undefined : value;
 }
 
-/** The window of an entry, or 0; nothing where what is said of it is not allowed. */
+/**
+ * The window of an entry, or 0; nothing where what is said of it is not allowed.
+ * @param {unknown} table
+ * @param {1n|2n} version
+ * @param {boolean} answered
+ */
 function windowAt(table, version, answered) {
   const value = valueAt(table, "window");
   if (value === undefined || version !== 2n) {
@@ -53,7 +76,11 @@ function windowAt(table, version, answered) {
   return isGood && answered ? Number(value) : undefined;
 }
 
-/** The bits of an entry by their places; nothing where what is said of them is not allowed. */
+/**
+ * The bits of an entry by their places; nothing where what is said of them is not allowed.
+ * @param {unknown} table
+ * @param {number} length
+ */
 function bitsAt(table, length) {
   const members = valueAt(table, "bits") ?? [];
   if (!Array.isArray(members)) {
@@ -65,7 +92,14 @@ function bitsAt(table, length) {
   return isGood && isOnce ? bits.sort((one, other) => Number(one.at) - Number(other.at)) : undefined;
 }
 
-/** What is good, or the fault that entry number so and so has a bad part. */
+/**
+ * What is good, or the fault that entry number so and so has a bad part.
+ * @template T
+ * @param {T|undefined} value
+ * @param {number} number
+ * @param {string} part
+ * @returns {T}
+ */
 function needed(value, number, part) {
   if (value === undefined) {
     throw faultOf(`frame ${number}: bad ${part}`);
@@ -73,13 +107,20 @@ function needed(value, number, part) {
   return value;
 }
 
+/**
+ * @param {unknown} table
+ * @param {number} number
+ * @param {1n|2n} version
+ * @param {Set<number>} types of the entries before
+ * @returns {Entry}
+ */
 function entryOf(table, number, version, types) {
   const type = needed(numberAt(table, "type", TYPES), number, "type");
   const name = needed(nameAt(table), number, "name");
   const length = needed(numberAt(table, "length", LENGTHS), number, "length");
   const answered = needed(answeredAt(table, type), number, "answered");
   const window = needed(windowAt(table, version, answered), number, "window");
-  const bits = needed(bitsAt(table, length), number, "bit");
+  const bits = /** @type {Entry["bits"]} */ (needed(bitsAt(table, length), number, "bit"));
   if (types.has(type)) {
     throw faultOf(`type ${type} twice`);
   }
@@ -87,7 +128,10 @@ function entryOf(table, number, version, types) {
   return { type, name, length, answered, window, bits };
 }
 
-/** The root table of a text. */
+/**
+ * The root table of a text.
+ * @param {string} text
+ */
 function tableOf(text) {
   try {
     return readToml(text).table;
@@ -112,6 +156,7 @@ export function readDictionary(text) {
   if (!Array.isArray(frames) || frames.length === 0) {
     throw faultOf("no frames");
   }
+  /** @type {Set<number>} */
   const types = new Set();
   const entries = frames.map((frame, at) => entryOf(frame, at + 1, version, types));
   const lacking = entries.find(({ type, answered }) => answered && !types.has(type + ANSWER));

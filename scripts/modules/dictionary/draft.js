@@ -29,7 +29,11 @@ const HEAD =
 /** @returns {Seen} */
 const nothingSeen = () => ({ frames: 0, lengths: new Map(), stations: new Set(), replies: 0, longest: 0 });
 
-/** Whether a typed frame answers what stood before it on the line. */
+/**
+ * Whether a typed frame answers what stood before it on the line.
+ * @param {Row} row
+ * @param {Row|null} before
+ */
 function isAnswer(row, before) {
   if (before === null || before.type === null || before.station === ALL_STATIONS) {
     return false;
@@ -87,8 +91,12 @@ export class Survey {
   }
 }
 
-/** Numbers in order, those without a gap between them put together. */
+/**
+ * Numbers in order, those without a gap between them put together.
+ * @param {number[]} numbers
+ */
 function ranges(numbers) {
+  /** @type {{ first: number, last: number }[]} */
   const runs = [];
   for (const number of numbers) {
     const run = runs.at(-1);
@@ -106,16 +114,26 @@ function ranges(numbers) {
   });
 }
 
-/** The first of these, and how many there are beside. */
+/**
+ * The first of these, and how many there are beside.
+ * @param {string[]} texts
+ */
 function named(texts) {
   const shown = texts.slice(0, MOST_NAMED).join(", ");
   return texts.length <= MOST_NAMED ? shown : `${shown} and ${texts.length - MOST_NAMED} more`;
 }
 
-/** The lengths of a type with their counts, the most frequent first, of several the longest. */
+/**
+ * The lengths of a type with their counts, the most frequent first, of several the longest.
+ * @param {Seen} seen
+ */
 const lengthsOf = (seen) => [...seen.lengths].sort((one, other) => other[1] - one[1] || other[0] - one[0]);
 
-/** What is to be said where the other half of command and answer was not seen. */
+/**
+ * What is to be said where the other half of command and answer was not seen.
+ * @param {number} type
+ * @param {Map<number, Seen>} types
+ */
 function remarksOnPair(type, types) {
   if (type < ANSWER && !types.has(type + ANSWER)) {
     return [`Not marked as answered: no frame of type ${type + ANSWER} was seen.`];
@@ -123,8 +141,9 @@ function remarksOnPair(type, types) {
   return type >= ANSWER && !types.has(type - ANSWER) ? [`No command of type ${type - ANSWER} was seen.`] : [];
 }
 
+/** @param {number} type @param {Map<number, Seen>} types */
 function remarks(type, types) {
-  const seen = types.get(type);
+  const seen = /** @type {Seen} */ (types.get(type));
   const way = type >= ANSWER ? "from" : "to";
   const stations = seen.stations.size === 1 ? "station" : "stations";
   const numbers = named(ranges([...seen.stations].sort((one, other) => one - other)));
@@ -136,7 +155,10 @@ function remarks(type, types) {
   ];
 }
 
-/** What helps to choose a window for a command that is answered. */
+/**
+ * What helps to choose a window for a command that is answered.
+ * @param {Seen} seen
+ */
 function windowLines({ replies, longest }) {
   if (replies === 0) {
     return ["# No answer came as the next thing after its command."];
@@ -147,9 +169,13 @@ function windowLines({ replies, longest }) {
   return longest <= MOST_WINDOW ? [told, `# window = ${Math.max(longest, LEAST_WINDOW)}`] : [told];
 }
 
-/** The entry of a type, with its comments. */
+/**
+ * The entry of a type, with its comments.
+ * @param {number} type
+ * @param {Map<number, Seen>} types
+ */
 function entryText(type, types) {
-  const seen = types.get(type);
+  const seen = /** @type {Seen} */ (types.get(type));
   const lines = [
     ...remarks(type, types).map((remark) => `# ${remark}`),
     ...["[[frame]]", `type = ${type}`, `name = "type${type}"`, `length = ${lengthsOf(seen)[0][0]}`],

@@ -10,10 +10,27 @@ export { TomlFault } from "./toml/source.js";
 /**
  * A document that has been read. Tables are maps in the order of the text; integers are BigInts and floats numbers, so
  * that 16.0 is no integer; dates and times are a DateTime.
- * @typedef {{table: Map<string, unknown>, place: Place}} Document
+ * @typedef {{table: Table, place: Place}} Document
  */
 
-/** Reads what stands in brackets, for which there has to be room. */
+/** @typedef {import("./toml/tables.js").Table} Table */
+
+/**
+ * The table into which pairs go, the head that names it, and where it stands.
+ * @typedef {{table: Table, head: string[], place: Place}} Section
+ */
+
+/**
+ * A value; what is within an array or a table has the same types.
+ * @typedef {string|boolean|bigint|number|import("./toml/scalars.js").DateTime|unknown[]|Table} Value
+ */
+
+/**
+ * Reads what stands in brackets, for which there has to be room.
+ * @template T
+ * @param {Source} source
+ * @param {() => T} read
+ */
 function nested(source, read) {
   if (source.room === 0) throw source.fault("brackets too deep in one another");
   source.room -= 1;
@@ -23,7 +40,9 @@ function nested(source, read) {
   return value;
 }
 
+/** @param {Source} source @param {Place} place */
 function readArray(source, place) {
+  /** @type {Value[]} */
   const values = [];
   source.skipLines();
   while (!source.takes("]")) {
@@ -40,7 +59,11 @@ function readArray(source, place) {
   return values;
 }
 
-/** A key, the line where it begins, and its value. */
+/**
+ * A key and its value.
+ * @param {Source} source
+ * @param {Place} place
+ */
 function readPair(source, place) {
   const line = source.lineAt(source.at);
   const key = readKey(source);
@@ -56,6 +79,7 @@ function readPair(source, place) {
   return { key, value: readValue(source, own) };
 }
 
+/** @param {Source} source @param {Place} place */
 function readInlineTable(source, place) {
   const tables = new Tables(source);
   source.skipLines();
@@ -76,6 +100,7 @@ function readInlineTable(source, place) {
   return tables.root;
 }
 
+/** @param {Source} source @param {Place} place @returns {Value} */
 function readValue(source, place) {
   switch (source.next()) {
     case '"':
@@ -90,7 +115,13 @@ function readValue(source, place) {
   }
 }
 
-/** The section that the head of a table begins. */
+/**
+ * The section that the head of a table begins.
+ * @param {Source} source
+ * @param {Tables} tables
+ * @param {Place} place of the document
+ * @returns {Section}
+ */
 function readHead(source, tables, place) {
   const line = source.lineAt(source.at);
   const isDouble = source.startsWith("[[");
@@ -104,7 +135,13 @@ function readHead(source, tables, place) {
   return { ...section, head: key };
 }
 
-/** Reads a head or a pair, and gives the section in which the next pair is. */
+/**
+ * Reads a head or a pair, and gives the section in which the next pair is.
+ * @param {Source} source
+ * @param {Tables} tables
+ * @param {Section} section
+ * @param {Place} place of the document
+ */
 function readStatement(source, tables, section, place) {
   if (source.next() === "[") {
     return readHead(source, tables, place);
@@ -117,12 +154,16 @@ function readStatement(source, tables, section, place) {
   return section;
 }
 
-/** Goes to the next statement, and says whether there is one. */
+/**
+ * Goes to the next statement, and says whether there is one.
+ * @param {Source} source
+ */
 function findStatement(source) {
   source.skipLines();
   return source.next() !== "";
 }
 
+/** @param {Source} source */
 function endStatement(source) {
   source.skipSpaces();
   source.skipComment();
@@ -141,6 +182,7 @@ export function readToml(text) {
   const source = new Source(text);
   const tables = new Tables(source);
   const place = new Place();
+  /** @type {Section} */
   let section = { table: tables.root, head: [], place };
   while (findStatement(source)) {
     section = readStatement(source, tables, section, place);

@@ -1,41 +1,50 @@
-import { ABORT, DAMAGED, FRAME, LATE, MISSING, OVERLONG, SPOILT, STRAY } from "../listing/kinds.js";
+import { ABORT, ANSWERED, DAMAGED, FRAME, LATE, MISSING, OVERLONG, SPOILT, STRAY } from "../listing/kinds.js";
 import { UNKNOWN, WRONG_LENGTH } from "../listing/listing.js";
 import { ANSWER } from "../port1.js";
-import { holes } from "../statistics/gaps.js";
-import { wrong } from "../statistics/sentences.js";
-import { deadEnd, lengthOf, noAnswers, quietBus, REST_SECONDS } from "./causes.js";
-import { Answers, Gaps, Rests, Rows, Waiting } from "./seekers.js";
-import { isSlow, SLOW_KINDS, slowOf } from "./slow.js";
+import { lengthOf } from "../statistics/causes.js";
+import { judgedBus } from "../statistics/wrong.js";
+import { Gaps, Rows } from "./seekers.js";
 import { survey } from "./survey.js";
+
+/** @typedef {import("../listing/listing.js").Listing} Listing */
+/** @typedef {import("../statistics/gaps.js").Hole} Hole */
+/** @typedef {import("../statistics/rests.js").Place} Place */
+/** @typedef {import("../statistics/sentences.js").Sort} Sort */
+/** @typedef {import("../statistics/wrong.js").Judged} Judged */
 
 /**
  * What is wrong, as the page shows it.
  * @typedef {object} Finding
- * @property {string} sort
+ * @property {Sort} sort
  * @property {"fault"|"doubt"} level
  * @property {string} text
  * @property {string} short for the verdict
  * @property {number} count
- * @property {import("./seekers.js").Place[]} places the first of them, in their order
- * @property {import("../statistics/kinds.js").Kind|null} kind
+ * @property {Place[]} places the first of them, in their order
+ * @property {import("../statistics/sentences.js").Sentence["kind"]} kind
  * @property {boolean} isStretch whether its places are stretches of time, not lines
  */
 
-/** The sorts that can put a cabinet into flash. */
-const FAULTS = new Set(["lines", "rest", "quiet", "mute", "gap", "silent"]);
+/**
+ * A stretch of time without a kind of commands.
+ * @typedef {{ first: number, past: number, text: string, short: string }} Stretch
+ */
 
-/** So many missing answers in a row, or one in so many commands, can, too. */
-const ROW = 3;
-const SHARE = 100;
-
-/** The sorts whose places are stretches of time. */
+/**
+ * The sorts whose places are stretches of time.
+ * @type {Set<Sort>}
+ */
 const STRETCHES = new Set(["rest", "quiet", "gap"]);
 
+/**
+ * The kinds of lines that a sentence is about, by its sort.
+ * @type {Partial<Record<Sort, number[]>>}
+ */
 const KINDS_OF = {
   silent: [MISSING],
   missing: [MISSING],
   late: [LATE],
-  slow: SLOW_KINDS,
+  slow: [ANSWERED],
   spoilt: [SPOILT],
   damage: [DAMAGED, OVERLONG, ABORT],
   length: [FRAME],
@@ -44,33 +53,37 @@ const KINDS_OF = {
   lines: [FRAME],
 };
 
-/** Whether a line is one that a sentence is about, of the kinds that its sort has. */
-function agreesOf(listing, sentence) {
+/**
+ * Whether a line is one that a sentence is about, of the kinds that its sort has.
+ * @param {Listing} listing
+ * @param {Judged} sentence
+ * @returns {(at: number) => boolean}
+ */
+function agreesOf(listing, { sort, kind, limit = Infinity }) {
   const { stations, types, lines, heads } = listing;
-  const { sort, kind } = sentence;
-  if (sort === "slow") return isSlow(listing, sentence);
   if (sort === "lines") return (at) => lines[at] === 2 && types[at] >= 0 && types[at] < ANSWER;
   if (sort === "length" || sort === "unknown") {
     const head = sort === "length" ? WRONG_LENGTH : UNKNOWN;
     return (at) => heads[at] === head;
   }
   if (!kind) return () => true;
-  return (at) => stations[at] === kind.station && (kind.type === null || types[at] === kind.type);
+  /** @param {number} at */
+  const isOfKind = (at) => stations[at] === kind.station && (kind.type === null || types[at] === kind.type);
+  return sort === "slow" ? (at) => isOfKind(at) && (listing.replyBits(at) ?? 0) > limit : isOfKind;
 }
 
-/** Whether answers are missing in such a number that a cabinet may go into flash. */
-function isSevere({ count, commands }) {
-  return commands.longestSilence.commands >= ROW || count * SHARE >= commands.decided;
-}
-
-function levelOf(sentence) {
-  if (sentence.sort === "missing") return isSevere(sentence) ? "fault" : "doubt";
-  return FAULTS.has(sentence.sort) ? "fault" : "doubt";
-}
-
+/** @param {number} count @param {string} what */
 const answers = (count, what) => `${count} ${count === 1 ? "answer" : "answers"} ${what}`;
 
-/** What the verdict says of a sentence. */
+/**
+ * What a short text is made of. Its kind is null where the sort has none, and that text does not ask for it.
+ * @typedef {{ kind: NonNullable<Finding["kind"]>, count: number, places: Place[], rate: number }} Facts
+ */
+
+/**
+ * What the verdict says of a sentence.
+ * @type {Record<Sort, (facts: Facts) => string>}
+ */
 const SHORT = {
   lines: () => "The two lines seem exchanged",
   rest: () => "The bus goes dead before the end",
@@ -90,80 +103,60 @@ const SHORT = {
   more: () => "",
 };
 
-/** @returns {Finding} */
-function findingOf(sentence, { places, count }, rate) {
-  const { sort, text, shown = text, kind = null } = sentence;
+/**
+ * @param {Judged} sentence
+ * @param {{ places: Place[], count: number }} where
+ * @param {number} rate
+ * @returns {Finding}
+ */
+function findingOf({ sort, level, text, shown = text, kind = null }, { places, count }, rate) {
   return {
-    ...{ sort, kind, count, places, level: levelOf(sentence), text: shown, isStretch: STRETCHES.has(sort) },
-    short: SHORT[sort]({ ...sentence, kind, count, places, rate }),
+    ...{ sort, kind, count, places, level, text: shown, isStretch: STRETCHES.has(sort) },
+    short: SHORT[sort]({ kind: /** @type {Facts["kind"]} */ (kind), count, places, rate }),
   };
 }
 
-/** The faults first; "and more" stays with the sentences of which there are more. */
-function bySeverity(findings) {
-  const levels = [];
-  findings.forEach(({ sort, level }, at) => levels.push(sort === "more" && at > 0 ? levels[at - 1] : level));
-  const withLevels = findings.map((finding, at) => ({ ...finding, level: levels[at] }));
-  return ["fault", "doubt"].flatMap((wanted) => withLevels.filter(({ level }) => level === wanted));
-}
+/** @param {number[]} counts */
+const sumOf = (counts) => counts.reduce((sum, count) => sum + count, 0);
 
 /**
  * All that is wrong, the most serious first, each with its places; the gaps of each station, and how many there are in
- * all; and whether the command that waits at the end waits longer than any answer took.
- *
+ * all.
  * @param {import("../statistics/bus.js").Bus} bus
- * @param {import("../listing/listing.js").Listing} listing
- * @param {number|null} end of the recording in bits, where it is known
- * @param {(type: number) => boolean} hasWindow
+ * @param {Listing} listing
+ * @param {import("../statistics/wrong.js").Known} known
  */
-export function findingsOf(bus, listing, end, hasWindow) {
-  const told = holes(bus);
-  const sentences = withSlow(wrong(bus, told), slowOf(bus, hasWindow));
-  const [gaps, rests, answered, waiting] = [
-    new Gaps(listing, told),
-    new Rests(listing, REST_SECONDS * bus.rate, bus.first),
-    new Answers(listing),
-    new Waiting(listing),
-  ];
-  const rowsOf = (sentence) => new Rows(listing, KINDS_OF[sentence.sort] ?? [], agreesOf(listing, sentence));
-  const rows = sentences.map(rowsOf);
-  survey(listing, [gaps, rests, answered, waiting, ...rows]);
-  const causes = [
-    ...deadEnd(bus, rests, end),
-    ...noAnswers(bus, answered, sentences, listing),
-    ...quietBus(bus, rests, sentences),
-  ];
-  const placesOf = (sentence, at) =>
-    sentence.hole ? { places: gaps.placesOf(sentence.hole), count: sentence.count } : rows[at];
-  const isTaken = (sentence) => causes.some(({ takes }) => takes(sentence));
-  const own = sentences.map((sentence, at) => findingOf(sentence, placesOf(sentence, at), bus.rate));
-  const left = own.filter((_, at) => !isTaken(sentences[at]));
-  const found = bySeverity([...causes.map((cause) => findingOf(cause, cause, bus.rate)), ...left]);
-  const shown = told.filter((hole) => !isTaken({ sort: "gap", hole }));
+export function findingsOf(bus, listing, known) {
+  const { sentences, gaps: holes } = judgedBus(bus, known);
+  const gaps = new Gaps(listing, holes);
+  const rows = sentences.map(
+    (sentence) => new Rows(listing, KINDS_OF[sentence.sort] ?? [], agreesOf(listing, sentence)),
+  );
+  survey(listing, [gaps, ...rows]);
+  /** @param {Judged} sentence @param {number} at */
+  const whereOf = ({ hole, places, count = 0 }, at) => {
+    if (hole) return { places: gaps.placesOf(hole), count };
+    return places ? { places, count } : rows[at];
+  };
+  const findings = sentences.map((sentence, at) => findingOf(sentence, whereOf(sentence, at), bus.rate));
+  const ofCauses = sentences.filter(({ sort, places }) => places && STRETCHES.has(sort));
   return {
-    findings: found,
-    gaps: gapsOfStations(shown, gaps, bus.rate),
-    gapCount: countOf(shown.map(({ others }) => 1 + others)) + countOf(stretchesOf(causes)),
-    isWaitingLong: isLong(waiting, bus, end),
+    findings,
+    gaps: gapsOfStations(holes, gaps, bus.rate),
+    gapCount: sumOf(holes.map(({ others }) => 1 + others)) + sumOf(ofCauses.map(({ count = 0 }) => count)),
   };
 }
 
-const countOf = (counts) => counts.reduce((sum, count) => sum + count, 0);
-
-/** How many stretches each cause has. */
-const stretchesOf = (causes) => causes.filter(({ sort }) => STRETCHES.has(sort)).map(({ count }) => count);
-
-/** Replies that stand far out come after the late ones. */
-function withSlow(sentences, slow) {
-  const after = ["spoilt", "damage", "length", "unknown", "stray"];
-  const at = sentences.findIndex(({ sort }) => after.includes(sort));
-  return at < 0 ? [...sentences, ...slow] : [...sentences.slice(0, at), ...slow, ...sentences.slice(at)];
-}
-
-/** The gaps of each station, as stretches with a text. @returns {Map<number, object[]>} */
-function gapsOfStations(told, gaps, rate) {
+/**
+ * The gaps of each station, as stretches with a text.
+ * @param {Hole[]} holes
+ * @param {Gaps} gaps
+ * @param {number} rate
+ */
+function gapsOfStations(holes, gaps, rate) {
+  /** @type {Map<number, Stretch[]>} */
   const found = new Map();
-  for (const hole of told) {
+  for (const hole of holes) {
     const { station, type } = hole.kind;
     const own = gaps.placesOf(hole).map(({ first, past }) => {
       const length = lengthOf(past - first, rate);
@@ -172,10 +165,4 @@ function gapsOfStations(told, gaps, rate) {
     found.set(station, [...(found.get(station) ?? []), ...own]);
   }
   return found;
-}
-
-/** Whether the last command waits for longer than any answer took. */
-function isLong({ past }, bus, end) {
-  const longest = Math.max(0, ...bus.commands.sorted().map(([, commands]) => commands.replies.most));
-  return past !== null && (end ?? bus.past) - past > longest;
 }

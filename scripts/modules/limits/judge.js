@@ -1,31 +1,66 @@
 import { Fault } from "../fault.js";
 import { BUS, KIND } from "./limits.js";
 
+/** @typedef {import("../statistics/kinds.js").Kind} Kind */
+/** @typedef {import("./limits.js").Statistics} Statistics */
+/** @typedef {import("./limits.js").KindStatistics} KindStatistics */
+
 /**
  * A limit, what was seen (null: nothing to judge), and whether the limit is kept.
  * @typedef {{ where: string, key: string, value: number|null, limit: number, isKept: boolean }} Judgement
  */
 
-/** What statistics say of a kind of which no command was seen. */
-const NONE = { sent: 0, decided: 0, name: "", replyMs: { percent99: null, longest: null }, gapMs: { longest: null } };
+/**
+ * What got worse: what is seen now (null: nothing any more), and what was before.
+ * @typedef {{ where: string, key: string, value: number|null, was: number }} Worse
+ */
 
+/**
+ * A unit with all that is judged of it, or with the fault for which nothing is.
+ * @typedef {object} Unit
+ * @property {string} name
+ * @property {{ file: string, sha256?: string }} source
+ * @property {Statistics} [statistics]
+ * @property {Judgement[]} judgements
+ * @property {Worse[]} worse
+ * @property {string} [fault]
+ */
+
+/** What statistics say of a kind of which no command was seen. */
+const NONE = /** @type {KindStatistics} */ (
+  { sent: 0, decided: 0, name: "", replyMs: { percent99: null, longest: null }, gapMs: { longest: null } }
+);
+
+/** @param {string} key @returns {import("./limits.js").Measure<Statistics|KindStatistics>} */
 export const measureOf = (key) => KIND[key] ?? BUS[key];
 
-/** @returns {Judgement} */
+/**
+ * @param {string} where
+ * @param {{ key: string, limit: number }} limit
+ * @param {Statistics|KindStatistics} seen
+ * @returns {Judgement}
+ */
 function judged(where, { key, limit }, seen) {
   const { of, isLeast } = measureOf(key);
   const value = of(seen);
   return { where, key, value, limit, isKept: value !== null && (isLeast ? value >= limit : value <= limit) };
 }
 
+/** @param {Statistics} statistics @param {Kind} kind */
 const kindIn = (statistics, { station, type }) =>
   statistics.kinds.find((kind) => kind.station === station && kind.type === type) ?? NONE;
 
-/** A station and type, with the name that the dictionary gives it. */
+/**
+ * A station and type, with the name that the dictionary gives it.
+ * @param {Kind} kind
+ * @param {{ name: string }} seen
+ */
 const whereOf = ({ station, type }, { name }) => `station ${station} type ${type}${name ? ` ${name}` : ""}`;
 
 /**
  * Holds statistics to limits. Where there is nothing to judge at all, that is a fault.
+ * @param {import("./limits.js").Limits} limits
+ * @param {Statistics} statistics
  * @returns {Judgement[]}
  */
 export function judge(limits, statistics) {
@@ -49,7 +84,15 @@ const EXACT = 1 + 1e-9;
 /** What is compared with an earlier run. */
 const COMPARED = ["bad_percent", "reply_99_ms", "reply_longest_ms", "gap_ms"];
 
-/** The measures of one place that are worse than before by more than a tolerance in percent. */
+/**
+ * The measures of one place that are worse than before by more than a tolerance in percent.
+ * @param {string} where
+ * @param {string[]} keys
+ * @param {Statistics|KindStatistics} now
+ * @param {Statistics|KindStatistics} before
+ * @param {number} within
+ * @returns {Worse[]}
+ */
 function worseAt(where, keys, now, before, within) {
   return keys.flatMap((key) => {
     const [value, was] = [measureOf(key).of(now), measureOf(key).of(before)];
@@ -58,7 +101,12 @@ function worseAt(where, keys, now, before, within) {
   });
 }
 
-/** What got worse since an earlier run, by more than a tolerance in percent. */
+/**
+ * What got worse since an earlier run, by more than a tolerance in percent.
+ * @param {Statistics} before
+ * @param {Statistics} now
+ * @param {number} within
+ */
 export function worseThan(before, now, within) {
   const kinds = before.kinds.flatMap((kind) => {
     return worseAt(whereOf(kind, kind), COMPARED, kindIn(now, kind), kind, within);

@@ -3,23 +3,27 @@ import { TomlFault } from "../dictionary/toml/source.js";
 import { Fault } from "../fault.js";
 import { ANSWER } from "../port1.js";
 
+/** @typedef {ReturnType<typeof import("../statistics/object.js").objectOf>} Statistics */
+/** @typedef {Statistics["kinds"][number]} KindStatistics */
+/** @typedef {(string|number)[]} Path of keys, and of places in arrays */
+
 /**
  * A limit: what it limits, what it reads of the statistics (null: nothing to judge), its unit, whether it is a least,
  * and whether it needs verdicts.
- * @typedef {object} Measure
- * @property {string} text
- * @property {(some: any) => number|null} of
- * @property {string} unit
- * @property {boolean} [isLeast]
- * @property {boolean} [isJudged]
+ * @template Seen
+ * @typedef {{ text: string, of(seen: Seen): number|null, unit: string, isLeast?: boolean, isJudged?: boolean }} Measure
  */
 
-/** @param {string} text @param {string} key @returns {Measure} */
+/**
+ * @param {string} text
+ * @param {"missing"|"late"|"spoilt"|"badPercent"} key
+ * @returns {Measure<KindStatistics>}
+ */
 const verdicts = (text, key) => {
   return { text, of: (kind) => (kind.decided > 0 ? kind[key] : null), unit: "", isJudged: true };
 };
 
-/** @type {Record<string, Measure>} */
+/** @type {Record<string, Measure<Statistics>>} */
 export const BUS = {
   frames: { text: "frames", of: ({ frames }) => frames, unit: "", isLeast: true },
   damaged: { text: "damaged pieces", of: ({ damaged }) => damaged, unit: "" },
@@ -27,7 +31,7 @@ export const BUS = {
   damaged_percent: { text: "share of damaged pieces", of: ({ damagedPercent }) => damagedPercent, unit: "%" },
 };
 
-/** @type {Record<string, Measure>} */
+/** @type {Record<string, Measure<KindStatistics>>} */
 export const KIND = {
   sent: { text: "commands", of: ({ sent }) => sent, unit: "", isLeast: true },
   missing: verdicts("missing answers", "missing"),
@@ -39,7 +43,10 @@ export const KIND = {
   gap_ms: { text: "longest gap between commands", of: ({ gapMs }) => gapMs.longest, unit: "ms" },
 };
 
-/** A number that is not below 0, as TOML has it, or nothing. */
+/**
+ * A number that is not below 0, as TOML has it, or nothing.
+ * @param {unknown} value
+ */
 function numberOf(value) {
   const number = typeof value === "bigint" ? Number(value) : value;
   return typeof number === "number" && Number.isFinite(number) && number >= 0 ? number : null;
@@ -47,21 +54,29 @@ function numberOf(value) {
 
 /** Reads tables of limits, and names what is wrong by its line and key. */
 class Reader {
+  /** @param {string} file @param {import("../dictionary/toml/places.js").Place} place */
   constructor(file, place) {
     this.file = file;
     this.place = place;
   }
 
+  /** @param {Path} path @param {string} text */
   fault(path, text) {
     return new Fault(`${this.file}:${this.place.lineOf(path)}: ${path.at(-1) ?? "limits"}: ${text}`);
   }
 
+  /** @param {unknown} value @param {Path} path @returns {Map<string, unknown>} */
   table(value, path) {
     if (!(value instanceof Map)) throw this.fault(path, "is no table");
     return value;
   }
 
-  /** The limits of a table, of these measures. */
+  /**
+   * The limits of a table, of these measures.
+   * @param {Iterable<[string, unknown]>} table
+   * @param {Path} path
+   * @param {Record<string, { unit: string }>} measures
+   */
   limits(table, path, measures) {
     return [...table].map(([key, value]) => {
       const own = [...path, key];
@@ -74,6 +89,7 @@ class Reader {
     });
   }
 
+  /** @param {Map<string, unknown>} table @param {Path} path @param {string} key @param {number} past */
   whole(table, path, key, past) {
     const value = table.get(key);
     const own = [...path, key];
@@ -83,7 +99,11 @@ class Reader {
     return Number(value);
   }
 
-  /** The limits of one station and type. */
+  /**
+   * The limits of one station and type.
+   * @param {unknown} value
+   * @param {Path} path
+   */
   kind(value, path) {
     const table = this.table(value, path);
     const station = this.whole(table, path, "station", 256);
@@ -95,6 +115,7 @@ class Reader {
   }
 }
 
+/** @param {string} file @param {string} text */
 function documentOf(file, text) {
   try {
     return readToml(text);
@@ -124,3 +145,5 @@ export function limitsOf(file, text) {
   if (bus.length + kinds.length === 0) throw reader.fault([], "there is no limit");
   return { bus, kinds };
 }
+
+/** @typedef {ReturnType<typeof limitsOf>} Limits */

@@ -1,5 +1,7 @@
 import { asHtml, brokenOf, keptText, sentenceOf, shown, verdictOf, worseText } from "./forms.js";
 
+/** @typedef {import("./judge.js").Unit} Unit */
+
 const STYLE = `
 :root { color-scheme: light dark; --ink: #1a1a1a; --back: #fff; --line: #888; --good: #0b5d1e; --bad: #a10e0e; }
 @media (prefers-color-scheme: dark) {
@@ -33,28 +35,36 @@ ul { margin: 0; padding-left: 1.1rem; }
 
 const HEADS = ["Unit", "Recording, SHA-256", "Verdict", "Longest reply", "Longest gap", "Damaged", "Limits"];
 
-/** The worst of the values that are known, as text. */
+/**
+ * The worst of the values that are known, as text.
+ * @param {(number|null)[]} values
+ * @param {string} key
+ */
 function worst(values, key) {
-  const known = values.filter((value) => value !== null);
+  const known = /** @type {number[]} */ (values.filter((value) => value !== null));
   return known.length === 0 ? "-" : shown(Math.max(...known), key);
 }
 
+/** @param {Unit} unit */
 function itemsOf(unit) {
   const texts = [...brokenOf(unit).map(sentenceOf), ...unit.worse.map((some) => `Worse: ${worseText(some)}`)];
   const items = texts.map((text) => `<li>${asHtml(text)}</li>`).join("");
   return `<div>${keptText(unit)}${items && `<ul>${items}</ul>`}</div>`;
 }
 
+/** @param {Unit} unit */
 function cellsOf({ statistics, ...unit }) {
   if (unit.fault) return ["-", "-", "-", asHtml(unit.fault)];
+  const { kinds, damaged } = /** @type {import("./limits.js").Statistics} */ (statistics);
   return [
-    worst(statistics.kinds.map(({ replyMs }) => replyMs.longest), "reply_longest_ms"),
-    worst(statistics.kinds.map(({ gapMs }) => gapMs.longest), "gap_ms"),
-    `${statistics.damaged}`,
+    worst(kinds.map(({ replyMs }) => replyMs.longest), "reply_longest_ms"),
+    worst(kinds.map(({ gapMs }) => gapMs.longest), "gap_ms"),
+    `${damaged}`,
     itemsOf(unit),
   ];
 }
 
+/** @param {Unit} unit */
 function rowOf(unit) {
   const { file, sha256 } = unit.source;
   const verdict = verdictOf(unit);
@@ -67,8 +77,14 @@ function rowOf(unit) {
   return `<tr>${texts.join("")}</tr>\n`;
 }
 
-/** One page with a row for each unit. It needs nothing else. */
+/**
+ * One page with a row for each unit. It needs nothing else.
+ * @param {Unit[]} units
+ * @param {string} date
+ * @param {{ file: string, sha256: string }} limits
+ */
 export function pageOf(units, date, limits) {
+  /** @param {"PASS"|"FAIL"|"FAULT"} wanted */
   const count = (wanted) => units.filter((unit) => verdictOf(unit) === wanted).length;
   const counts = `${units.length} units: ${count("PASS")} PASS, ${count("FAIL")} FAIL, ${count("FAULT")} FAULT.`;
   return `<!DOCTYPE html>

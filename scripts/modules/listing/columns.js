@@ -9,7 +9,7 @@ export const FIRST_CAPACITY = 1024;
  * @returns {Numbers}
  */
 export function widened(numbers, capacity) {
-  const wider = new /** @type {any} */ (numbers).constructor(capacity);
+  const wider = new (/** @type {new (count: number) => Numbers} */ (numbers.constructor))(capacity);
   wider.set(numbers);
   return wider;
 }
@@ -36,7 +36,11 @@ export class OctetHeap {
     return begin;
   }
 
-  /** Drops all octets but so many from one on. @param {number} from @param {number} count */
+  /**
+   * Drops all octets but so many from one on.
+   * @param {number} from
+   * @param {number} count
+   */
   keep(from, count) {
     this.octets.copyWithin(0, from, from + count);
     this.length = count;

@@ -52,7 +52,10 @@ export class Cursor {
     return word;
   }
 
-  /** Whether a word comes next, which is then passed. */
+  /**
+   * Whether a word comes next, which is then passed.
+   * @param {string} word
+   */
   skip(word) {
     for (let at = 0; at < word.length; at++) {
       if (this.octets[this.at + at] !== word.charCodeAt(at)) return false;
@@ -62,7 +65,11 @@ export class Cursor {
     return true;
   }
 
-  /** Octets, as pairs of hexadecimal digits, put into some memory. @returns {number} how many */
+  /**
+   * Octets, as pairs of hexadecimal digits, put into some memory.
+   * @param {Uint8Array} into
+   * @returns {number} how many
+   */
   hex(into) {
     let count = 0;
     while (this.at + 1 < this.end && count < into.length) {

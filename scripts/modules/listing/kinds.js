@@ -1,6 +1,14 @@
 import { AROUND, CONTROL } from "../port1.js";
 
-/** What a line of a listing is about. The numbers are places in this list. */
+/**
+ * @typedef {"frame"|"damaged"|"overlong"|"abort"|"idle"|"answered"|"late"|"missing"|"spoilt"|"stray"|"open"|"pending"}
+ *   LineKind
+ */
+
+/**
+ * What a line of a listing is about. The numbers are places in this list.
+ * @type {LineKind[]}
+ */
 export const KINDS = [
   "frame",
   "damaged",
@@ -42,7 +50,12 @@ export const DAMAGE = Object.freeze(["damaged", "overlong", "abort"]);
  */
 export const isUnfit = (name) => name === "unknown" || name === "length";
 
-/** The type of a frame that has some of these octets, its check among them, or -1. */
+/**
+ * The type of a frame that has some of these octets, its check among them, or -1.
+ * @param {Uint8Array} octets
+ * @param {number} from
+ * @param {number} count
+ */
 export function typeOf(octets, from, count) {
   return count >= AROUND && octets[from + 1] === CONTROL ? octets[from + 2] : -1;
 }

@@ -21,7 +21,10 @@ const DIGITS = Array.from({ length: 256 }, (_, octet) => octet.toString(16).padS
  */
 const LINES = [null, 1, 2];
 
-/** Octets in hexadecimal. @param {Uint8Array} octets */
+/**
+ * Octets in hexadecimal.
+ * @param {Uint8Array} octets
+ */
 export function hexOf(octets) {
   let digits = "";
   for (let at = 0; at < octets.length; at++) digits += DIGITS[octets[at]];
@@ -35,7 +38,7 @@ export function hexOf(octets) {
  * @property {1|2|null} line of the bus, in a listing of two lines
  * @property {number} first the place of its first bit
  * @property {number} past the place just after its last bit
- * @property {string} kind
+ * @property {import("./kinds.js").LineKind} kind
  * @property {Uint8Array|null} octets of a frame, the two of its check at the end
  * @property {number|null} station
  * @property {number|null} type
@@ -67,7 +70,10 @@ export class Listing {
     return [firsts, pasts, begins, counts, kinds, causes, lines, stations, types, heads];
   }
 
-  /** Makes room for so many lines. @param {number} count */
+  /**
+   * Makes room for so many lines.
+   * @param {number} count
+   */
   reserve(count) {
     if (count <= this.firsts.length) return;
     const capacity = Math.max(count, 2 * this.firsts.length);
@@ -78,24 +84,36 @@ export class Listing {
     [this.types, this.heads] = [widened(this.types, capacity), widened(this.heads, capacity)];
   }
 
-  /** Adds a line of zeros. @returns {number} its number */
+  /**
+   * Adds a line of zeros.
+   * @returns {number} its number
+   */
   add() {
     this.reserve(this.length + 1);
     return this.length++;
   }
 
-  /** Drops the lines from one on. @param {number} from */
+  /**
+   * Drops the lines from one on.
+   * @param {number} from
+   */
   drop(from) {
     for (const column of this.columns()) column.fill(0, from, this.length);
     this.length = from;
   }
 
-  /** The number that stands for a name, which may come for the first time. */
+  /**
+   * The number that stands for a name, which may come for the first time.
+   * @param {string} name
+   */
   head(name) {
     return this.numbers.get(name) ?? this.addName(name);
   }
 
-  /** A new number for a name, which need not differ from all others: a dictionary may call a type `unknown`. */
+  /**
+   * A new number for a name, which need not differ from all others: a dictionary may call a type `unknown`.
+   * @param {string} name
+   */
   addName(name) {
     const number = this.names.length;
     this.names.push(name);
@@ -103,7 +121,14 @@ export class Listing {
     return number;
   }
 
-  /** Adds a line about a piece that is no frame, without a station. */
+  /**
+   * Adds a line about a piece that is no frame, without a station.
+   * @param {number} line
+   * @param {number} first
+   * @param {number} past
+   * @param {number} kind
+   * @param {number} cause
+   */
   addPiece(line, first, past, kind, cause) {
     const at = this.add();
     this.place(at, line, first, past, kind);
@@ -111,7 +136,16 @@ export class Listing {
     this.types[at] = -1;
   }
 
-  /** Adds the line of a frame, which has some of these octets. */
+  /**
+   * Adds the line of a frame, which has some of these octets.
+   * @param {number} line
+   * @param {number} first
+   * @param {number} past
+   * @param {Uint8Array} octets
+   * @param {number} from
+   * @param {number} count
+   * @param {number} head
+   */
   addFrame(line, first, past, octets, from, count, head) {
     const at = this.add();
     this.place(at, line, first, past, FRAME);
@@ -122,7 +156,15 @@ export class Listing {
     this.heads[at] = head;
   }
 
-  /** Adds a line with a station and a type: a verdict, a stray, or a command that waits. */
+  /**
+   * Adds a line with a station and a type: a verdict, a stray, or a command that waits.
+   * @param {number} line
+   * @param {number} first
+   * @param {number} past
+   * @param {number} kind
+   * @param {number} station
+   * @param {number} type
+   */
   addStation(line, first, past, kind, station, type) {
     const at = this.add();
     this.place(at, line, first, past, kind);
@@ -130,6 +172,7 @@ export class Listing {
     this.types[at] = type;
   }
 
+  /** @param {number} at @param {number} line @param {number} first @param {number} past @param {number} kind */
   place(at, line, first, past, kind) {
     this.lines[at] = line;
     this.firsts[at] = first;
@@ -137,18 +180,25 @@ export class Listing {
     this.kinds[at] = kind;
   }
 
+  /** @param {number} at */
   octetsOf(at) {
     return this.heap.octets.subarray(this.begins[at], this.begins[at] + this.counts[at]);
   }
 
-  /** A line as `port1 list` writes it, without its end. */
+  /**
+   * A line as `port1 list` writes it, without its end.
+   * @param {number} at
+   */
   text(at) {
     const line = this.lines[at];
     const places = `${this.firsts[at]} ${this.pasts[at]} ${KINDS[this.kinds[at]]}`;
     return (line ? `${line} ${places}` : places) + this.rest(at);
   }
 
-  /** What stands after the kind. */
+  /**
+   * What stands after the kind.
+   * @param {number} at
+   */
   rest(at) {
     const kind = this.kinds[at];
     if (kind === FRAME) return ` ${this.hex(at)}${this.headText(at)}`;
@@ -156,10 +206,12 @@ export class Listing {
     return this.types[at] < 0 ? "" : ` station ${this.stations[at]} type ${this.types[at]}`;
   }
 
+  /** @param {number} at */
   hex(at) {
     return hexOf(this.octetsOf(at));
   }
 
+  /** @param {number} at */
   headText(at) {
     const head = this.heads[at];
     if (head === NO_HEAD) return "";
@@ -168,7 +220,10 @@ export class Listing {
     return ` station ${this.stations[at]} type ${this.types[at]} ${this.names[head]}`;
   }
 
-  /** The time from a command to its answer in bits, for a verdict on it: the answer is the line before. */
+  /**
+   * The time from a command to its answer in bits, for a verdict on it: the answer is the line before.
+   * @param {number} at
+   */
   replyBits(at) {
     const kind = this.kinds[at];
     if ((kind !== ANSWERED && kind !== LATE) || at === 0 || this.kinds[at - 1] !== FRAME) return null;
@@ -176,7 +231,7 @@ export class Listing {
     return answers ? this.firsts[at - 1] - this.pasts[at] : null;
   }
 
-  /** @returns {Row} */
+  /** @param {number} at @returns {Row} */
   row(at) {
     const isFrame = this.kinds[at] === FRAME;
     const type = this.types[at];
@@ -209,7 +264,11 @@ export class Listing {
     for (let at = from; at < this.length; at++) yield this.row(at);
   }
 
-  /** The text of some lines, each with its end. */
+  /**
+   * The text of some lines, each with its end.
+   * @param {number} from
+   * @param {number} past
+   */
   textOf(from, past) {
     let text = "";
     for (let at = from; at < past; at++) text += `${this.text(at)}\n`;

@@ -13,7 +13,10 @@ const MOST_OCTETS = 1024;
 
 const NUMBERS = new Map(KINDS.map((kind, number) => [kind, number]));
 
-/** Whether this is the beginning of a listing: its first line is one. @param {Uint8Array} head */
+/**
+ * Whether this is the beginning of a listing: its first line is one.
+ * @param {Uint8Array} head
+ */
 export function isListing(head) {
   const end = head.indexOf(LINE_END);
   return new LineReader(new Listing()).take(head, 0, end < 0 ? head.length : end);
@@ -21,12 +24,18 @@ export function isListing(head) {
 
 /** Reads lines into a listing. A line that `port1 list` would write otherwise is none of a listing. */
 class LineReader {
+  /** @param {Listing} listing */
   constructor(listing) {
     this.listing = listing;
     this.frame = new Uint8Array(MOST_OCTETS);
   }
 
-  /** Whether these octets are a line, which is then in the listing. */
+  /**
+   * Whether these octets are a line, which is then in the listing.
+   * @param {Uint8Array} octets
+   * @param {number} begin
+   * @param {number} end
+   */
   take(octets, begin, end) {
     const cursor = new Cursor(octets, begin, end);
     let line = 0;
@@ -38,10 +47,11 @@ class LineReader {
       [line, first, past] = [first, past, cursor.number()];
       if (line < 1 || line > 2 || past < 0 || !cursor.space()) return false;
     }
-    const kind = NUMBERS.get(cursor.word());
+    const kind = NUMBERS.get(/** @type {import("./kinds.js").LineKind} */ (cursor.word()));
     return kind !== undefined && this.takeRest(cursor, line, first, past, kind) && cursor.isAtEnd;
   }
 
+  /** @param {Cursor} cursor @param {number} line @param {number} first @param {number} past @param {number} kind */
   takeRest(cursor, line, first, past, kind) {
     if (kind === FRAME) return this.takeFrame(cursor, line, first, past);
     if (kind >= ANSWERED && kind !== OPEN) return this.takeStation(cursor, line, first, past, kind);
@@ -51,6 +61,7 @@ class LineReader {
     return true;
   }
 
+  /** @param {Cursor} cursor @param {number} line @param {number} first @param {number} past @param {number} kind */
   takeStation(cursor, line, first, past, kind) {
     const station = cursor.skip(" station ") ? cursor.number() : -1;
     const type = cursor.skip(" type ") ? cursor.number() : -1;
@@ -59,20 +70,27 @@ class LineReader {
     return true;
   }
 
+  /** @param {Cursor} cursor @param {number} line @param {number} first @param {number} past */
   takeFrame(cursor, line, first, past) {
     if (!cursor.space()) return false;
     const count = cursor.hex(this.frame);
-    const head = count > 0 ? this.headOf(cursor, this.frame, typeOf(this.frame, 0, count)) : -1;
+    const head = count > 0 ? this.headOf(cursor, this.frame, count) : -1;
     if (head < 0) return false;
     this.listing.addFrame(line, first, past, this.frame, 0, count, head);
     return true;
   }
 
-  /** The number of what stands after the octets of a frame, or -1 where that is not to be. */
-  headOf(cursor, octets, type) {
+  /**
+   * The number of what stands after the octets of a frame, or -1 where that is not to be.
+   * @param {Cursor} cursor
+   * @param {Uint8Array} octets
+   * @param {number} count
+   */
+  headOf(cursor, octets, count) {
     if (cursor.isAtEnd) return NO_HEAD;
     if (cursor.skip(" untyped")) return UNTYPED;
-    if (cursor.skip(" control ")) return cursor.number() === octets[1] ? OTHER_CONTROL : -1;
+    if (cursor.skip(" control ")) return count > 1 && cursor.number() === octets[1] ? OTHER_CONTROL : -1;
+    const type = typeOf(octets, 0, count);
     const agrees =
       cursor.skip(" station ") && cursor.number() === octets[0] && cursor.skip(" type ") && cursor.number() === type;
     const name = agrees && cursor.space() ? cursor.word() : "";
@@ -102,7 +120,10 @@ export class ListingReader {
     this.given = this.listing.length;
   }
 
-  /** Takes the next octets. */
+  /**
+   * Takes the next octets.
+   * @param {Uint8Array} piece
+   */
   take(piece) {
     const octets = this.rest.length > 0 ? joined(this.rest, piece) : piece;
     let begin = 0;
@@ -119,6 +140,7 @@ export class ListingReader {
     return this.listing;
   }
 
+  /** @param {Uint8Array} octets @param {number} begin @param {number} end */
   takeLine(octets, begin, end) {
     const { length } = this.listing;
     if (this.lines.take(octets, begin, end)) return;
@@ -129,6 +151,7 @@ export class ListingReader {
   }
 }
 
+/** @param {Uint8Array} one @param {Uint8Array} other */
 function joined(one, other) {
   const both = new Uint8Array(one.length + other.length);
   both.set(one);

@@ -3,9 +3,6 @@ import { Fault } from "../fault.js";
 /** How many channels are followed at most: bit k of a level is channel k, bit k + MOST says that it is unknown. */
 export const MOST = 4;
 
-/** The levels before a recording begins. */
-export const ALL_UNKNOWN = 0xff;
-
 /**
  * @typedef {object} Changes
  * @property {Float64Array} times in ascending order, whole numbers of ticks
@@ -14,9 +11,11 @@ export const ALL_UNKNOWN = 0xff;
  */
 
 /**
- * @typedef {object} Recording
+ * A recording that has changes.
+ * @typedef {object} Changed
  * @property {number|null} ticks in a second, where the recording says so
  * @property {AsyncGenerator<Changes>} changes
+ * @property {number[]} positions of the channels, the same for channels that are one
  */
 
 /** Changes, one added after the other. */
@@ -61,14 +60,26 @@ export class ChangeList {
 }
 
 /**
- * Whether a channel goes from one known level to the other.
- * @param {number} before levels
- * @param {number} after levels
- * @param {number} channel
- * @returns {boolean}
+ * What reads changes.
+ * @typedef {object} Reader
+ * @property {(octets: Uint8Array, begin: number, past: number) => void} read
+ * @property {() => Changes} changes that were read
+ * @property {() => Changes} end those, and how long the last levels stand at least
  */
-export function toggles(before, after, channel) {
-  return ((before ^ after) & (1 << channel)) !== 0 && ((before | after) & (1 << (channel + MOST))) === 0;
+
+/**
+ * The changes in some octets; those before a fault come before it is thrown.
+ * @param {Reader} reader
+ * @param {Uint8Array} octets
+ */
+export function* changesIn(reader, octets, begin = 0, past = octets.length) {
+  try {
+    reader.read(octets, begin, past);
+  } catch (fault) {
+    yield reader.end();
+    throw fault;
+  }
+  yield reader.changes();
 }
 
 /**

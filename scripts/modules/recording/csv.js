@@ -1,7 +1,8 @@
 import { Fault } from "../fault.js";
-import { ChangeList, MOST, safeTime } from "./changes.js";
+import { ChangeList, MOST, changesIn, safeTime } from "./changes.js";
 import { positionOf } from "./channels.js";
 import { TableHead } from "./csv-head.js";
+import { DayTimes } from "./day.js";
 import { floatOf, plainDecimal } from "./numbers.js";
 import { decoded } from "./text.js";
 import { beginOfWord, endOfWord } from "./words.js";
@@ -17,8 +18,10 @@ export class RowReader {
    * @param {number[]} columns of the channels
    * @param {boolean} hasTimes whether the first column has them
    * @param {number} scale ticks of one unit of these times
+   * @param {boolean} [areOfDay] whether they are times of day
    */
-  constructor(columns, hasTimes, scale) {
+  constructor(columns, hasTimes, scale, areOfDay = false) {
+    this.day = areOfDay ? new DayTimes() : null;
     this.width = Math.max(...columns) + 1; // the columns that a row needs at least
     this.put = bitsOfColumns(columns, this.width);
     this.hasTimes = hasTimes;
@@ -32,20 +35,35 @@ export class RowReader {
   }
 
   /**
-   * The changes in whole rows.
+   * Reads rows.
    * @param {Uint8Array} octets
-   * @returns {import("./changes.js").Changes}
+   * @param {number} begin
+   * @param {number} past
    */
-  read(octets) {
+  read(octets, begin, past) {
     this.length = 0;
-    let at = 0;
-    while (at < octets.length) {
+    let at = begin;
+    while (at < past) {
       at = this.row(octets, at);
     }
+  }
+
+  /** The changes that were read. */
+  changes() {
     return this.list.take(this.time);
   }
 
-  /** Reads a row, and returns where the next one begins. */
+  /** What stands in the last row. */
+  end() {
+    this.time += 1;
+    return this.changes();
+  }
+
+  /**
+   * Reads a row, and returns where the next one begins.
+   * @param {Uint8Array} octets
+   * @param {number} begin
+   */
   row(octets, begin) {
     this.number += 1;
     const cells = this.hasTimes ? this.afterTime(octets, begin) : begin;
@@ -56,6 +74,7 @@ export class RowReader {
     return cells + this.length;
   }
 
+  /** @param {Uint8Array} octets @param {number} begin @param {number} cells */
   learn(octets, begin, cells) {
     const past = endOf(octets, cells, LINE_END);
     this.known = cells;
@@ -67,7 +86,11 @@ export class RowReader {
     }
   }
 
-  /** Reads the time, and returns where the other cells begin. */
+  /**
+   * Reads the time, and returns where the other cells begin.
+   * @param {Uint8Array} octets
+   * @param {number} begin
+   */
   afterTime(octets, begin) {
     const past = endOfTime(octets, begin);
     const time = this.timeOf(octets, begin, past);
@@ -82,13 +105,26 @@ export class RowReader {
     return past + 1;
   }
 
+  /** @param {Uint8Array} octets @param {number} begin @param {number} past */
   timeOf(octets, begin, past) {
-    const plain = plainDecimal(octets, begin, past);
-    const value = Number.isNaN(plain) ? floatOf(decoded(octets.subarray(begin, past))) : plain;
-    const time = Math.round(value * this.scale);
+    const { day } = this;
+    const time = day === null ? this.countOf(octets, begin, past) : day.of(decoded(octets.subarray(begin, past)));
     return Number.isSafeInteger(time) ? time : this.faultOf(time, octets.subarray(begin, past));
   }
 
+  /**
+   * Ticks of a time in the table's unit.
+   * @param {Uint8Array} octets
+   * @param {number} begin
+   * @param {number} past
+   */
+  countOf(octets, begin, past) {
+    const plain = plainDecimal(octets, begin, past);
+    const value = Number.isNaN(plain) ? floatOf(decoded(octets.subarray(begin, past))) : plain;
+    return Math.round(value * this.scale);
+  }
+
+  /** @param {number} time @param {Uint8Array} cell */
   faultOf(time, cell) {
     const told = `row ${this.number}: ${JSON.stringify(decoded(cell).trim())}`;
     if (!Number.isFinite(time)) {
@@ -97,6 +133,7 @@ export class RowReader {
     return safeTime(time, told);
   }
 
+  /** @param {Uint8Array} octets @param {number} begin @param {number} past */
   levelOf(octets, begin, past) {
     let level = 0;
     let column = 0;
@@ -110,13 +147,19 @@ export class RowReader {
       cell = end + 1;
     }
     if (column < this.width) {
-      throw new Fault(`row ${this.number} has ${column} columns`);
+      const isCut = past === octets.length;
+      const row = `row ${this.number}`;
+      throw new Fault(isCut ? `the recording ends within ${row}` : `${row} has ${column} columns`);
     }
     return level;
   }
 }
 
-/** The bits that each value sets in the levels, for each column. */
+/**
+ * The bits that each value sets in the levels, for each column.
+ * @param {number[]} columns
+ * @param {number} width
+ */
 function bitsOfColumns(columns, width) {
   const put = new Uint8Array(3 * width);
   columns.forEach((column, channel) => {
@@ -126,6 +169,7 @@ function bitsOfColumns(columns, width) {
   return put;
 }
 
+/** @param {Uint8Array} octets @param {number} at @param {number} wanted */
 function endOf(octets, at, wanted) {
   while (at < octets.length && octets[at] !== wanted) {
     at += 1;
@@ -133,6 +177,7 @@ function endOf(octets, at, wanted) {
   return at;
 }
 
+/** @param {Uint8Array} octets @param {number} at */
 function endOfTime(octets, at) {
   while (at < octets.length && octets[at] !== COMMA && octets[at] !== LINE_END) {
     at += 1;
@@ -140,6 +185,7 @@ function endOfTime(octets, at) {
   return at;
 }
 
+/** @param {Uint8Array} octets @param {number} at @param {number} past */
 function endOfCell(octets, at, past) {
   while (at < past && octets[at] !== COMMA) {
     at += 1;
@@ -147,7 +193,13 @@ function endOfCell(octets, at, past) {
   return at;
 }
 
-/** Whether octets that have stood before, so many, stand there again. */
+/**
+ * Whether octets that have stood before, so many, stand there again.
+ * @param {Uint8Array} octets
+ * @param {number} at
+ * @param {number} known
+ * @param {number} length
+ */
 function isRepeated(octets, at, known, length) {
   if (length === 0 || at + length > octets.length) {
     return false;
@@ -160,6 +212,7 @@ function isRepeated(octets, at, known, length) {
   return true;
 }
 
+/** @param {Uint8Array} octets @param {number} begin @param {number} past @returns {number} */
 function valueOf(octets, begin, past) {
   if (past - begin !== 1) {
     return valueOfCell(octets, begin, past);
@@ -167,7 +220,12 @@ function valueOf(octets, begin, past) {
   return octets[begin] === ONE ? HIGH : octets[begin] === ZERO ? LOW : UNKNOWN;
 }
 
-/** The value of a cell with spaces around it, or with some other text. */
+/**
+ * The value of a cell with spaces around it, or with some other text.
+ * @param {Uint8Array} octets
+ * @param {number} begin
+ * @param {number} past
+ */
 function valueOfCell(octets, begin, past) {
   const first = beginOfWord(octets, begin, past);
   const end = endOfWord(octets, first, past);
@@ -177,6 +235,7 @@ function valueOfCell(octets, begin, past) {
   return valueOf(octets, first, end);
 }
 
+/** @param {string} text */
 function valueOfText(text) {
   return text === "1" ? HIGH : text === "0" ? LOW : UNKNOWN;
 }
@@ -185,10 +244,9 @@ function valueOfText(text) {
  * A table with commas (CSV): sigrok writes a row for each sample, Logic of Saleae one for each change.
  * @param {import("./source.js").Source} source
  * @param {string[]} names
- * @param {number} size octets of the lines that are read at a time
- * @returns {Promise<import("./changes.js").Recording>}
+ * @returns {Promise<import("./changes.js").Changed>}
  */
-export async function tableOf(source, names, size) {
+export async function tableOf(source, names) {
   const head = new TableHead();
   let line = await source.line();
   while (line.length > 0 && !head.ends(line)) {
@@ -197,17 +255,22 @@ export async function tableOf(source, names, size) {
   const table = head.table();
   const hasTimes = table.unit !== null;
   const columns = names.map((name) => positionOf(name, table.names) + (hasTimes ? 1 : 0));
-  // Seconds have a fraction of nine digits, other units are counted.
-  const scale = table.unit === 1 ? 1e9 : 1;
+  // Times have a fraction, down to nanoseconds.
+  const scale = table.unit === null ? 1 : Math.max(1, 1e9 / table.unit);
   const ticks = table.unit === null ? table.ticks : table.unit * scale;
-  return { ticks, changes: changesOf(source, size, new RowReader(columns, hasTimes, scale), line) };
+  const changes = changesOf(source, new RowReader(columns, hasTimes, scale, table.areOfDay), line);
+  return { ticks, changes, positions: columns };
 }
 
-async function* changesOf(source, size, rows, first) {
-  yield rows.read(first);
-  for (let lines = await source.lines(size); lines.length > 0; lines = await source.lines(size)) {
-    yield rows.read(lines);
+/**
+ * @param {import("./source.js").Source} source
+ * @param {RowReader} rows
+ * @param {Uint8Array} first
+ */
+async function* changesOf(source, rows, first) {
+  yield* changesIn(rows, first);
+  for (let lines = await source.wholeLines(); lines.length > 0; lines = await source.wholeLines()) {
+    yield* changesIn(rows, lines);
   }
-  rows.time += 1;
-  yield rows.read(new Uint8Array(0));
+  yield rows.end();
 }

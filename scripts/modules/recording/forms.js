@@ -1,5 +1,6 @@
 import { Fault } from "../fault.js";
 import { TableHead } from "./csv-head.js";
+import { otherForm } from "./others.js";
 import { namesOf, signalsOf } from "./signals.js";
 import { Words, characters } from "./words.js";
 
@@ -34,6 +35,9 @@ export function formOf(head) {
 /** How an archive begins (PKWARE's APPNOTE.TXT, 4.3). */
 const ARCHIVE = Uint8Array.from([80, 75, 3, 4]);
 
+/** An archive whose first files are those of a session of sigrok, or of which no more has come. */
+export const SESSION = /^PK\x03\x04([^]{26}(version|metadata)|[^]{0,30}$)/;
+
 /** Words and blanks in what is printed: so samples do not begin, whose higher bits hardly change. */
 const PRINTED = /^(?=[^]*[A-Za-z]{3})(?=[^]*[ \n])[\t\r\n -~]{16,}$/;
 
@@ -43,9 +47,12 @@ const PRINTED = /^(?=[^]*[A-Za-z]{3})(?=[^]*[ \n])[\t\r\n -~]{16,}$/;
  * @returns {Form|"binary"}
  */
 export function formOfRecording(head) {
-  if (ARCHIVE.every((octet, at) => head[at] === octet)) return "session";
-  const form = formOf(head);
-  if (form === null && PRINTED.test(characters(head))) {
+  if (head.length === 0) throw new Fault("the recording is empty");
+  const [form, text] = [formOf(head), characters(head)];
+  if (SESSION.test(text)) return "session";
+  const other = form === null || ARCHIVE.every((octet, at) => head[at] === octet) ? otherForm(text) : null;
+  if (other !== null) throw new Fault(`this is ${other}`);
+  if (form === null && PRINTED.test(text)) {
     throw new Fault("this is text, and neither a VCD nor a CSV with commas; if it is samples, say --format binary");
   }
   return form ?? "binary";
@@ -67,9 +74,14 @@ export function channelsOf(head, form) {
   return names.map((name, at) => (shared.has(name) && !all.has(String(at)) ? String(at) : name));
 }
 
-/** The names that more than one column has. */
+/**
+ * The names that more than one column has.
+ * @param {string[]} names
+ */
 function sharedNames(names) {
+  /** @type {Set<string>} */
   const known = new Set();
+  /** @type {Set<string>} */
   const shared = new Set();
   for (const name of names) {
     (known.has(name) ? shared : known).add(name);
@@ -77,6 +89,7 @@ function sharedNames(names) {
   return shared;
 }
 
+/** @param {Uint8Array} octets */
 function namesOfTable(octets) {
   const head = new TableHead();
   let begin = 0;

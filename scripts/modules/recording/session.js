@@ -3,9 +3,18 @@ import { PIECE } from "./source.js";
 import { hertz } from "./units.js";
 import { inflated, membersOf, piecesOfMember } from "./zip.js";
 
+/** @typedef {import("../octets.js").Part} Part */
+
+/** @typedef {import("./zip.js").Member} Member */
+
 /** The file of an archive that says what the recording is, and its section of the logic analyser. */
 const METADATA = "metadata";
 const DEVICE = "device 1";
+
+/**
+ * Hears how many octets of the samples were read, and how many there are.
+ * @typedef {(read: number, size: number) => void} Heard
+ */
 
 /**
  * A session of sigrok, which PulseView saves: an archive with the samples, and what they are.
@@ -13,11 +22,11 @@ const DEVICE = "device 1";
  * @property {string[]} names of the channels
  * @property {number} width octets of a sample
  * @property {number} ticks samples a second
- * @property {(heard: (read: number, size: number) => void) => AsyncGenerator<Uint8Array>} pieces
+ * @property {(heard: Heard) => AsyncGenerator<Uint8Array>} pieces
  */
 
 /**
- * @param {Blob} blob
+ * @param {Part} blob
  * @param {typeof inflated} [inflate] what unpacks
  * @returns {Promise<Session>}
  */
@@ -27,18 +36,20 @@ export async function sessionOf(blob, inflate = inflated) {
   if (!metadata) throw new Fault("the archive is no session of PulseView: it has no metadata");
   const device = sectionOf(await textOf(blob, metadata, inflate), DEVICE);
   const ofProbes = [...device].filter(([key]) => /^probe\d+$/.test(key));
+  /** @type {[number, string][]} */
   const probes = ofProbes.map(([key, name]) => [Number(key.slice("probe".length)) - 1, name]);
   const [width, prefix, rate] = ["unitsize", "capturefile", "samplerate"].map((key) => device.get(key));
-  if (probes.length === 0 || !(Number(width) > 0) || !prefix || !rate) {
+  if (probes.length === 0 || !(Number.isInteger(Number(width)) && Number(width) > 0) || !prefix || !rate) {
     throw new Fault("the session has no logic channels: it lacks their names, their width or their sample rate");
   }
   const names = Array.from({ length: Math.max(...probes.map(([at]) => at)) + 1 }, (_, at) => `(${at})`);
   for (const [at, name] of probes) names[at] = name;
   const samples = membersOfSamples(members, prefix);
-  const pieces = (/** @type {(read: number, size: number) => void} */ heard) => piecesOf(blob, samples, heard, inflate);
+  const pieces = (/** @type {Heard} */ heard) => piecesOf(blob, samples, heard, inflate);
   return { names, width: Number(width), ticks: hertz(rate), pieces };
 }
 
+/** @param {Part} blob @param {Member} member @param {typeof inflated} inflate */
 async function textOf(blob, member, inflate) {
   const decoder = new TextDecoder();
   let text = "";
@@ -47,8 +58,13 @@ async function textOf(blob, member, inflate) {
   return text;
 }
 
-/** The keys of a section of an INI file, with their values. */
+/**
+ * The keys of a section of an INI file, with their values.
+ * @param {string} text
+ * @param {string} wanted
+ */
 function sectionOf(text, wanted) {
+  /** @type {Map<string, string>} */
   const found = new Map();
   let section = "";
   for (const line of text.split(/\r?\n/)) {
@@ -60,9 +76,13 @@ function sectionOf(text, wanted) {
   return found;
 }
 
-/** The files with the samples: one of this name, or several with numbers. */
+/**
+ * The files with the samples: one of this name, or several with numbers.
+ * @param {Member[]} members
+ * @param {string} prefix
+ */
 function membersOfSamples(members, prefix) {
-  const numberOf = ({ name }) => {
+  const numberOf = (/** @type {Member} */ { name }) => {
     const rest = name.startsWith(prefix) ? name.slice(prefix.length) : "?";
     return rest === "" ? 0 : Number(/^-(\d+)$/.exec(rest)?.[1] ?? -1);
   };
@@ -70,6 +90,7 @@ function membersOfSamples(members, prefix) {
   return own.sort((one, other) => numberOf(one) - numberOf(other));
 }
 
+/** @param {Part} blob @param {Member[]} members @param {Heard} heard @param {typeof inflated} inflate */
 async function* piecesOf(blob, members, heard, inflate) {
   const size = members.reduce((sum, member) => sum + member.size, 0);
   let read = 0;

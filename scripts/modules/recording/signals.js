@@ -14,7 +14,10 @@ const DOLLAR = 36;
  * @property {boolean} isWhole whether the definitions have their end
  */
 
-/** The words up to the next $end, and whether there is one. */
+/**
+ * The words up to the next $end, and whether there is one.
+ * @param {Words} words
+ */
 function sectionOf(words) {
   const section = [];
   let word = words.next();
@@ -31,6 +34,7 @@ function sectionOf(words) {
  * @returns {Signals}
  */
 export function signalsOf(words) {
+  /** @type {Signals} */
   const signals = { codes: new Map(), ticks: null, isWhole: false };
   for (let word = words.next(); word !== null; word = words.next()) {
     if (word[0] === DOLLAR) {
@@ -51,6 +55,7 @@ export function signalsOf(words) {
  */
 export const isWholeHead = (head) => signalsOf(new Words(head, head.length)).isWhole;
 
+/** @param {Signals} signals @param {string} keyword @param {Uint8Array[]} section */
 function define(signals, keyword, section) {
   if (keyword === "$enddefinitions") {
     signals.isWhole = true;
@@ -61,6 +66,7 @@ function define(signals, keyword, section) {
   }
 }
 
+/** @param {Signals["codes"]} codes @param {string} name @param {string} code */
 function addCode(codes, name, code) {
   const known = codes.get(name);
   if (known === undefined) {
@@ -70,7 +76,10 @@ function addCode(codes, name, code) {
   }
 }
 
-/** Ticks a second of a timescale such as `1us` or `100 ns`. */
+/**
+ * Ticks a second of a timescale such as `1us` or `100 ns`.
+ * @param {string} scale
+ */
 function ticksOf(scale) {
   const found = /^(\d*[1-9]\d*)([munpf]?s)$/.exec(scale);
   return found === null ? null : Math.floor((UNITS.get(found[2]) ?? 0) / Number(found[1]));
@@ -85,7 +94,10 @@ export function namesOf(signals) {
   return [...signals.codes].flatMap(([name, codes]) => Array.from(codes, () => name));
 }
 
-/** A name without the bits in brackets at its end. */
+/**
+ * A name without the bits in brackets at its end.
+ * @param {string} name
+ */
 function withoutBits(name) {
   const begin = name.indexOf("[", name.lastIndexOf("]", name.length - 2) + 1);
   if (begin < 0 || !name.endsWith("]")) {

@@ -1,7 +1,7 @@
 import { Fault } from "../fault.js";
 
-/** Octets of one read. What the script does at a time, and so what it tells, depends on it. */
-export const PIECE = 1 << 22;
+/** Octets of one read. */
+export const PIECE = 1 << 18;
 
 /** The longest line or word, in octets: no analyser writes one that is nearly as long. */
 const LONGEST = 1 << 22;
@@ -12,7 +12,8 @@ const LINE_END = 10;
 export class Source {
   /** @param {AsyncIterable<Uint8Array>|Iterable<Uint8Array>} pieces */
   constructor(pieces) {
-    this.pieces = pieces[Symbol.asyncIterator]?.() ?? pieces[Symbol.iterator]();
+    const either = /** @type {Partial<AsyncIterable<Uint8Array>> & Iterable<Uint8Array>} */ (pieces);
+    this.pieces = either[Symbol.asyncIterator]?.() ?? either[Symbol.iterator]();
     this.held = new Uint8Array(0);
     this.begin = 0;
     this.past = 0;
@@ -28,34 +29,35 @@ export class Source {
     return this.take(Math.min(count, this.past - this.begin));
   }
 
-  /**
-   * Whole lines, of more than so many octets together but for the last; none at the end.
-   * @param {number} count
-   * @returns {Promise<Uint8Array>}
-   */
-  async lines(count) {
-    let seen = count; // the line end that is wanted is not before this
-    for (;;) {
-      const end = this.lineEnd(seen);
-      if (end >= 0) {
-        return this.take(end + 1);
-      }
-      seen = Math.max(count, this.past - this.begin);
-      if (seen > count + LONGEST) {
-        throw new Fault(`a line is longer than ${LONGEST} octets`);
-      }
-      if (!(await this.more())) {
-        return this.take(this.past - this.begin);
-      }
-    }
+  /** What has come; none at the end. */
+  async some() {
+    if (this.past === this.begin) await this.more();
+    return this.take(this.past - this.begin);
+  }
+
+  /** The lines that have come whole, at least one; none at the end. */
+  wholeLines() {
+    return this.upTo((held) => held.lastIndexOf(LINE_END));
+  }
+
+  /** The next line, empty at the end. */
+  line() {
+    return this.upTo((held) => held.indexOf(LINE_END));
   }
 
   /**
-   * The next line, empty at the end.
+   * What has come up to a line end, or all at the end.
+   * @param {(held: Uint8Array) => number} seek
    * @returns {Promise<Uint8Array>}
    */
-  line() {
-    return this.lines(0);
+  async upTo(seek) {
+    for (;;) {
+      const held = this.held.subarray(this.begin, this.past);
+      const end = seek(held);
+      if (end >= 0) return this.take(end + 1);
+      if (held.length > LONGEST) throw new Fault(`a line is longer than ${LONGEST} octets`);
+      if (!(await this.more())) return this.take(held.length);
+    }
   }
 
   /** The pieces as they come, where none is read otherwise. */
@@ -70,10 +72,6 @@ export class Source {
     await this.pieces.return?.();
   }
 
-  lineEnd(seen) {
-    return this.held.subarray(this.begin, this.past).indexOf(LINE_END, seen);
-  }
-
   async more() {
     const { done, value } = await this.pieces.next();
     if (!done) {
@@ -82,6 +80,7 @@ export class Source {
     return !done;
   }
 
+  /** @param {Uint8Array} piece */
   append(piece) {
     const kept = this.past - this.begin;
     if (this.past + piece.length > this.held.length) {
@@ -94,6 +93,7 @@ export class Source {
     this.past += piece.length;
   }
 
+  /** @param {number} count */
   take(count) {
     const taken = this.held.subarray(this.begin, this.begin + count);
     this.begin += count;

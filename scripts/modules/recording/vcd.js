@@ -1,5 +1,5 @@
 import { Fault } from "../fault.js";
-import { ChangeList, MOST, safeTime } from "./changes.js";
+import { ChangeList, MOST, changesIn, safeTime } from "./changes.js";
 import { wholeOf } from "./numbers.js";
 import { codeOf, signalsOf } from "./signals.js";
 import { joined, notTooLong } from "./source.js";
@@ -24,7 +24,7 @@ Array.from("bBrR").forEach((letter) => {
   BEGINS_VECTOR[letter.charCodeAt(0)] = 1;
 });
 
-/** A value of more bits than any channel that is followed has. */
+/** A value of many bits, as no channel that is followed has. */
 const MANY_BITS = new Uint8Array(0);
 
 /** What a change of each of some codes does to the levels: which bits it keeps, and which it sets for each value. */
@@ -33,23 +33,30 @@ class Actions {
   constructor(channels) {
     const codes = [...new Set(channels)];
     this.codes = codes.map((code) => Uint8Array.from(code, (character) => character.charCodeAt(0)));
-    this.longest = Math.max(...codes.map((code) => code.length));
     const masks = codes.map((code) => channels.reduce((mask, other, at) => mask | (other === code ? 1 << at : 0), 0));
     this.kept = masks.map((mask) => 0xff & ~(mask | (mask << MOST)));
     this.put = masks.flatMap((mask) => [0, mask, mask << MOST]);
   }
 
-  /** The levels after a change that stands in some octets; -1 if it is of no channel that is followed. */
+  /**
+   * The levels after a change that stands in some octets; -1 if it is of no channel that is followed.
+   * @param {number} levels
+   * @param {Uint8Array} octets
+   * @param {number} begin
+   * @param {number} past
+   */
   applied(levels, octets, begin, past) {
     const value = VALUES[octets[begin]];
     const code = value === NONE ? -1 : this.codeAt(octets, begin + 1, past);
     return code < 0 ? -1 : this.after(levels, value, code);
   }
 
+  /** @param {number} levels @param {number} value @param {number} code */
   after(levels, value, code) {
     return (levels & this.kept[code]) | this.put[3 * code + value];
   }
 
+  /** @param {Uint8Array} octets @param {number} begin @param {number} past */
   codeAt(octets, begin, past) {
     for (let code = 0; code < this.codes.length; code++) {
       if (isSame(octets, begin, past, this.codes[code])) {
@@ -60,6 +67,7 @@ class Actions {
   }
 }
 
+/** @param {Uint8Array} octets @param {number} begin @param {number} past @param {Uint8Array} wanted */
 function isSame(octets, begin, past, wanted) {
   if (past - begin !== wanted.length) {
     return false;
@@ -86,11 +94,10 @@ export class DumpReader {
   }
 
   /**
-   * The changes in the words of some octets.
+   * Reads the words of some octets.
    * @param {Uint8Array} octets
    * @param {number} begin
    * @param {number} past where the last word has ended
-   * @returns {import("./changes.js").Changes}
    */
   read(octets, begin, past) {
     let at = beginOfWord(octets, begin, past);
@@ -99,9 +106,14 @@ export class DumpReader {
       this.word(octets, at, end);
       at = beginOfWord(octets, end, past);
     }
+  }
+
+  /** The changes that were read. */
+  changes() {
     return this.list.take(this.time);
   }
 
+  /** @param {Uint8Array} octets @param {number} begin @param {number} past */
   word(octets, begin, past) {
     if (this.isComment || this.vector !== null) {
       this.goOn(octets, begin, past);
@@ -118,7 +130,12 @@ export class DumpReader {
     }
   }
 
-  /** A time, which is not before the one that stands before it. */
+  /**
+   * A time, which is not before the one that stands before it.
+   * @param {Uint8Array} octets
+   * @param {number} begin
+   * @param {number} past
+   */
   timeOf(octets, begin, past) {
     const time = timeOf(octets, begin, past);
     if (time < this.time) {
@@ -134,22 +151,28 @@ export class DumpReader {
     }
   }
 
-  /** A comment, or the value of a vector, which another word ends. */
+  /**
+   * A comment, or the value of a vector, which another word ends.
+   * @param {Uint8Array} octets
+   * @param {number} begin
+   * @param {number} past
+   */
   open(octets, begin, past) {
     if (octets[begin] === DOLLAR) {
       this.isComment = characters(octets.subarray(begin, past)) === "$comment";
     } else if (BEGINS_VECTOR[octets[begin]] === 1) {
-      this.vector = past - begin - 1 <= this.actions.longest ? octets.slice(begin + 1, past) : MANY_BITS;
+      this.vector = past - begin === 2 ? octets.slice(begin + 1, past) : MANY_BITS;
     }
   }
 
+  /** @param {Uint8Array} octets @param {number} begin @param {number} past */
   goOn(octets, begin, past) {
     if (this.isComment) {
       this.isComment = characters(octets.subarray(begin, past)) !== "$end";
       return;
     }
     if (this.vector !== MANY_BITS) {
-      const change = joined(this.vector, octets.subarray(begin, past));
+      const change = joined(/** @type {Uint8Array} */ (this.vector), octets.subarray(begin, past));
       const levels = this.actions.applied(this.levels, change, 0, change.length);
       this.levels = levels < 0 ? this.levels : levels;
     }
@@ -163,7 +186,18 @@ export class DumpReader {
   }
 }
 
-/** The time after a #. */
+/**
+ * Whether a word is a time.
+ * @param {Uint8Array} word
+ */
+const isTime = (word) => word[0] === HASH && word.subarray(1).every((digit) => digit >= ZERO && digit <= NINE);
+
+/**
+ * The time after a #.
+ * @param {Uint8Array} octets
+ * @param {number} begin
+ * @param {number} past
+ */
 function timeOf(octets, begin, past) {
   if (past - begin - 1 > EXACT_DIGITS || past - begin === 1) {
     return otherTimeOf(octets, begin, past);
@@ -178,6 +212,7 @@ function timeOf(octets, begin, past) {
   return time;
 }
 
+/** @param {Uint8Array} octets @param {number} begin @param {number} past */
 function otherTimeOf(octets, begin, past) {
   const text = decoded(octets.subarray(begin, past));
   const time = wholeOf(text.slice(1));
@@ -187,34 +222,58 @@ function otherTimeOf(octets, begin, past) {
   return safeTime(time, text);
 }
 
+/** The definitions are no longer than this, in octets. */
+const MOST_DEFINITIONS = 1 << 22;
+
+/**
+ * What a dump begins with, its definitions among it.
+ * @param {import("./source.js").Source} source
+ */
+async function headOf(source) {
+  let head = new Uint8Array(0);
+  for (let size = 1 << 12; size <= MOST_DEFINITIONS; size *= 2) {
+    const piece = await source.read(size - head.length);
+    head = joined(head, piece);
+    const past = afterLastSpace(head);
+    const words = new Words(head, past);
+    const signals = signalsOf(words);
+    if (signals.isWhole) return { head, past, words, signals };
+    if (piece.length === 0) break;
+  }
+  throw new Fault("the input is no value change dump: it has no $enddefinitions");
+}
+
 /**
  * A value change dump (VCD, IEEE 1364).
  * @param {import("./source.js").Source} source
  * @param {string[]} names
- * @param {number} size octets of one read; the definitions stand in the first
- * @returns {Promise<import("./changes.js").Recording>}
+ * @returns {Promise<import("./changes.js").Changed>}
  */
-export async function dumpOf(source, names, size) {
-  const piece = await source.read(size);
-  const past = afterLastSpace(piece);
-  const words = new Words(piece, past);
-  const signals = signalsOf(words);
-  if (!signals.isWhole) {
-    throw new Fault("the input is no value change dump: it has no $enddefinitions");
-  }
-  const reader = new DumpReader(names.map((name) => codeOf(name, signals)));
-  return { ticks: signals.ticks, changes: changesOf(source, size, reader, piece, words.at, past) };
+export async function dumpOf(source, names) {
+  const { head, past, words, signals } = await headOf(source);
+  const codes = names.map((name) => codeOf(name, signals));
+  const changes = changesOf(source, new DumpReader(codes), head, words.at, past);
+  return { ticks: signals.ticks, changes, positions: codes.map((code) => codes.indexOf(code)) };
 }
 
-async function* changesOf(source, size, reader, first, begin, past) {
-  yield reader.read(first, begin, past);
+/**
+ * @param {import("./source.js").Source} source
+ * @param {DumpReader} reader
+ * @param {Uint8Array} first
+ * @param {number} begin
+ * @param {number} past
+ */
+async function* changesOf(source, reader, first, begin, past) {
+  yield* changesIn(reader, first, begin, past);
   let rest = first.slice(past);
-  for (let piece = await source.read(size); piece.length > 0; piece = await source.read(size)) {
+  for (let piece = await source.some(); piece.length > 0; piece = await source.some()) {
     const octets = joined(rest, piece);
     const end = afterLastSpace(octets);
-    yield reader.read(octets, 0, end);
+    yield* changesIn(reader, octets, 0, end);
     rest = notTooLong(octets.slice(end));
   }
-  yield reader.read(rest, 0, rest.length);
+  const isCut = isTime(rest) && timeOf(rest, 0, rest.length) < reader.time;
+  if (!isCut) yield* changesIn(reader, rest, 0, rest.length);
   yield reader.end();
+  if (isCut) throw new Fault(`the recording ends within the time ${decoded(rest)}`);
 }

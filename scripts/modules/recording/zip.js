@@ -1,6 +1,8 @@
 import { Fault } from "../fault.js";
 import { faultOf, octetsOf } from "../octets.js";
 
+/** @typedef {import("../octets.js").Part} Part */
+
 /** Records of an archive, by how they begin, and how long they are at least (PKWARE's APPNOTE.TXT, 4.3). */
 const [LOCAL, CENTRAL, END] = [0x04034b50, 0x02014b50, 0x06054b50];
 const SIZES = { local: 30, central: 46, end: 22 };
@@ -19,11 +21,12 @@ const TOO_LARGE = 0xffffffff;
  * @typedef {{ name: string, method: number, begin: number, packed: number, size: number }} Member
  */
 
+/** @param {Part} blob */
 const viewOf = async (blob) => new DataView((await octetsOf(blob)).buffer);
 
 /**
  * The members of a zip archive.
- * @param {Blob} blob
+ * @param {Part} blob
  * @returns {Promise<Member[]>}
  */
 export async function membersOf(blob) {
@@ -37,13 +40,15 @@ export async function membersOf(blob) {
   return membersIn(await viewOf(blob.slice(begin, begin + size)), count);
 }
 
+const damagedTable = () => new Fault("the table of the archive's files is damaged");
+
+/** @param {DataView} table @param {number} count */
 function membersIn(table, count) {
   const members = [];
   for (let at = 0; members.length < count; ) {
-    if (at + SIZES.central > table.byteLength || table.getUint32(at, true) !== CENTRAL) {
-      throw new Fault("the table of the archive's files is damaged");
-    }
+    if (at + SIZES.central > table.byteLength || table.getUint32(at, true) !== CENTRAL) throw damagedTable();
     const [name, extra, comment] = [28, 30, 32].map((place) => table.getUint16(at + place, true));
+    if (at + SIZES.central + name > table.byteLength) throw damagedTable();
     members.push({
       name: new TextDecoder().decode(new Uint8Array(table.buffer, at + SIZES.central, name)),
       method: table.getUint16(at + 10, true),
@@ -65,7 +70,7 @@ export const inflated = (stream) => stream.pipeThrough(new DecompressionStream("
 
 /**
  * The octets of a member, in pieces of a size, the last one shorter.
- * @param {Blob} blob
+ * @param {Part} blob
  * @param {Member} member
  * @param {number} size
  * @param {typeof inflated} inflate
@@ -85,7 +90,11 @@ export async function* piecesOfMember(blob, { name, method, begin, packed }, siz
   }
 }
 
-/** A stream in pieces of a size. */
+/**
+ * A stream in pieces of a size.
+ * @param {ReadableStream<Uint8Array>} stream
+ * @param {number} size
+ */
 async function* gathered(stream, size) {
   const reader = stream.getReader();
   let [piece, count] = [new Uint8Array(size), 0];

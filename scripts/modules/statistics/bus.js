@@ -1,8 +1,10 @@
 import { isUnfit } from "../listing/kinds.js";
 import { ANSWER } from "../port1.js";
+import { Answers } from "./answers.js";
 import { Commands } from "./commands.js";
 import { Counts, Kinds } from "./kinds.js";
 import { Tally } from "./pieces.js";
+import { Rests } from "./rests.js";
 import { Slots } from "./slots.js";
 
 /** @typedef {import("../listing/listing.js").Row} Row */
@@ -11,9 +13,13 @@ const newCommands = () => new Commands();
 
 /** All that is counted of a listing, in memory that does not grow with it. Rows are not to change once taken. */
 export class Bus {
-  /** @param {number} rate bits a second, a whole number above 0 */
-  constructor(rate) {
+  /**
+   * @param {number} rate bits a second, a whole number above 0
+   * @param {import("./day-time.js").DayTime|null} [dayTime] when place 0 was, so that times of day are told
+   */
+  constructor(rate, dayTime = null) {
     this.rate = rate;
+    this.dayTime = dayTime;
     this.rows = 0;
     this.first = 0; // the place where the listing begins
     this.past = 0;
@@ -27,6 +33,10 @@ export class Bus {
     this.backward = 0; // commands on the second line
     this.strays = new Counts();
     this.pending = new Counts();
+    /** @type {number|null} */
+    this.waiting = null; // the place after the command that waits at the end
+    this.rests = new Rests(rate);
+    this.answers = new Answers();
     this.misfits = { length: new Counts(), unknown: new Counts() }; // frames without an entry that fits
     /** @type {Row|null} */
     this.before = null; // the line that settles a verdict: the last one that is no stray
@@ -35,6 +45,11 @@ export class Bus {
   /** How many damaged pieces there are. */
   get damaged() {
     return this.damage.total;
+  }
+
+  /** Whether the last frame is the first of all: where it is a stray, its command was sent before the listing begins. */
+  get answersWhatCameBefore() {
+    return this.frames === 1 && this.damaged === 0;
   }
 
   /**
@@ -57,7 +72,7 @@ export class Bus {
     if (row.name !== "") {
       this.named = true;
       if (isUnfit(row.name)) {
-        this.misfits[row.name].add(row.station, row.type);
+        this.misfits[row.name === "length" ? "length" : "unknown"].add(row.station, row.type);
       }
     }
     if (row.type !== null && row.type < ANSWER) {
@@ -90,7 +105,7 @@ export class Bus {
       case "late":
       case "missing":
       case "spoilt":
-        this.commandsOf(row).judge(row, before);
+        this.commandsOf(row).judge(row.kind, row, before);
         break;
       case "damaged":
       case "overlong":
@@ -98,10 +113,11 @@ export class Bus {
         this.takeDamage(row);
         break;
       case "stray":
-        this.strays.add(row.station, row.type);
+        if (!this.answersWhatCameBefore) this.strays.add(row.station, row.type);
         break;
       case "pending":
         this.pending.add(row.station, row.type);
+        this.waiting = row.past;
         break;
     }
   }
@@ -117,6 +133,8 @@ export class Bus {
       }
       this.past = Math.max(this.past, row.past);
       this.lines = row.line === null ? 1 : 2;
+      this.rests.take(row, this.rows);
+      this.answers.take(row, this.rows);
       this.rows += 1;
       this.take(row, this.before);
       if (row.kind !== "stray") {

@@ -13,12 +13,33 @@ import { Histogram } from "./histogram.js";
  * @typedef {{first: number, commands: number}} Silence
  */
 
+// Of how many commands with a verdict the places are kept.
+const MOST_PLACES = 12;
+
+/** When commands got a verdict: how many, the places of the first of them, and that of the last. */
+export class Times {
+  constructor() {
+    this.count = 0;
+    /** @type {number[]} */
+    this.places = [];
+    this.last = 0;
+  }
+
+  /** @param {number} place */
+  add(place) {
+    this.count += 1;
+    this.last = place;
+    if (this.places.length < MOST_PLACES) this.places.push(place);
+  }
+}
+
 /** The commands of one kind: when they came, and what became of them. */
 export class Commands {
   constructor() {
     this.name = "";
     this.sent = 0;
     this.verdicts = { answered: 0, late: 0, missing: 0, spoilt: 0 };
+    this.times = { late: new Times(), missing: new Times() };
     this.inTime = new Histogram(); // times to answers, in bits
     this.late = new Histogram();
     this.gaps = new Histogram(); // from the first bit of one command to that of the next
@@ -78,17 +99,21 @@ export class Commands {
 
   /**
    * Takes down what became of a command; the line before it in the listing tells why.
+   * @param {"answered"|"late"|"missing"|"spoilt"} kind
    * @param {import("./bus.js").Row} verdict
    * @param {import("./bus.js").Row|null} before
    */
-  judge(verdict, before) {
-    this.verdicts[verdict.kind] += 1;
-    if (verdict.replyBits !== null) {
-      (verdict.kind === "late" ? this.late : this.inTime).add(verdict.replyBits);
+  judge(kind, verdict, before) {
+    this.verdicts[kind] += 1;
+    if (kind === "late" || kind === "missing") {
+      this.times[kind].add(verdict.first);
     }
-    if (verdict.kind === "missing") {
+    if (verdict.replyBits !== null) {
+      (kind === "late" ? this.late : this.inTime).add(verdict.replyBits);
+    }
+    if (kind === "missing") {
       this.miss(verdict, before);
-    } else if (verdict.kind === "spoilt") {
+    } else if (kind === "spoilt") {
       const line = before === null ? null : before.line;
       this.spoiltBy.set(line, (this.spoiltBy.get(line) ?? 0) + 1);
     } else {

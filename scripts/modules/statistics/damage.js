@@ -12,7 +12,11 @@ const FEWEST_PIECES = 3;
  * @typedef {{begin: number, past: number, text: string, pieces: number, share: number}} Stretch
  */
 
-/** The least of 1, 2, 5, 10, 20, .. milliseconds that is not below either. */
+/**
+ * The least of 1, 2, 5, 10, 20, .. milliseconds that is not below either.
+ * @param {number} least
+ * @param {number} base
+ */
 function roundMilliseconds(least, base) {
   let width = 1;
   for (let step = 0; width < least || width < base; step += 1) {
@@ -21,13 +25,19 @@ function roundMilliseconds(least, base) {
   return width;
 }
 
-/** The stretches of slots side by side, of a width, that have more pieces each than a limit. */
+/**
+ * The stretches of slots side by side, of a width, that have more pieces each than a limit.
+ * @param {Map<number, number>} slots
+ * @param {number} width
+ * @param {number} limit
+ */
 function joined(slots, width, limit) {
   const full = [...slots].filter(([, count]) => count > limit).sort((one, other) => one[0] - other[0]);
+  /** @type {{ begin: number, length: number, pieces: number }[]} */
   const found = [];
   for (const [slot, pieces] of full) {
     const begin = slot * width;
-    const before = found.at(-1);
+    const before = found[found.length - 1];
     if (before !== undefined && before.begin + before.length === begin) {
       before.length += width;
       before.pieces += pieces;
@@ -43,6 +53,8 @@ function joined(slots, width, limit) {
  *
  * Slots side by side that have more than twice the mean are one stretch. So much of it as would lie there if all were
  * spread evenly is to be less than half, by two and a half standard deviations.
+ * @param {import("./bus.js").Bus} bus
+ * @param {number} many
  */
 function stretchesOf(bus, many) {
   const length = Math.floor(((bus.past - bus.first) * 1000) / bus.rate);
@@ -55,7 +67,10 @@ function stretchesOf(bus, many) {
   });
 }
 
-/** The stretches with most damage, found with the finest slots that show any. */
+/**
+ * The stretches with most damage, found with the finest slots that show any.
+ * @param {import("./bus.js").Bus} bus
+ */
 function stretches(bus) {
   for (const many of SLOTS) {
     const found = stretchesOf(bus, many).sort((one, other) => other.pieces - one.pieces);
@@ -66,10 +81,15 @@ function stretches(bus) {
   return [];
 }
 
-/** A stretch as it is told. */
-function toldStretch({ begin, length, pieces }, damaged) {
+/**
+ * A stretch as it is told.
+ * @param {{ begin: number, length: number, pieces: number }} stretch
+ * @param {import("./bus.js").Bus} bus
+ */
+function toldStretch({ begin, length, pieces }, { dayTime, damaged }) {
   const past = begin + length;
-  const text = `${(begin / 1000).toFixed(3)} to ${(past / 1000).toFixed(3)} s`;
+  const inSeconds = `${(begin / 1000).toFixed(3)} to ${(past / 1000).toFixed(3)} s`;
+  const text = dayTime === null ? inSeconds : `${dayTime.of(begin / 1000)} to ${dayTime.of(past / 1000)}`;
   return { begin, past, text, pieces, share: (100 * pieces) / damaged };
 }
 
@@ -83,7 +103,7 @@ export function damageOf(bus) {
   if (bus.damaged === 0) {
     return { sentence: "", where: "", stretches: [] };
   }
-  const found = stretches(bus).map((stretch) => toldStretch(stretch, bus.damaged));
+  const found = stretches(bus).map((stretch) => toldStretch(stretch, bus));
   const spread = bus.damaged >= FEWEST_PIECES ? "It is spread over the time." : "";
   return {
     sentence: `Damage by cause: ${piecesNamed(bus.damage.sorts)}.`,

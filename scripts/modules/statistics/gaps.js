@@ -2,6 +2,8 @@
 const FEWEST_GAPS = 3;
 const FAR = 1.5;
 
+/** @typedef {import("./commands.js").Moment} Moment */
+
 /**
  * The time from one moment to another: places, and what was seen within.
  * @typedef {{first: number, length: number, damage: import("./pieces.js").Pieces[], frames: number}} Gap
@@ -28,29 +30,45 @@ const FAR = 1.5;
  */
 export const usualGap = (commands) => (commands.gaps.total >= FEWEST_GAPS ? commands.gaps.quantile(50) : 0);
 
-/** The gap above which one is told. Where many are longer than usual, they are no fault, but how the bus is. */
+/**
+ * The gap above which one is told. Where many are longer than usual, they are no fault, but how the bus is.
+ * @param {import("./histogram.js").Histogram} gaps
+ * @param {number} usual
+ */
 function farGap(gaps, usual) {
   const limit = FAR * usual;
   const many = gaps.above(limit);
   return many > 1 && many * 5 > gaps.total ? FAR * gaps.quantile(90) : limit;
 }
 
-/** What lies between two moments. A frame that begins at one of them is not within. */
+/**
+ * What lies between two moments. A frame that begins at one of them is not within.
+ * @param {Moment} from
+ * @param {Moment} to
+ * @param {import("./pieces.js").Tally} tally
+ * @returns {Gap}
+ */
 function gapBetween(from, to, tally) {
   const damage = tally.between(from.damage, to.damage);
   return { first: from.place, length: to.place - from.place, damage, frames: to.framesBefore - from.framesAfter };
 }
 
-/** The longest gap of a kind, and the times before its first and after its last command, where they are told. */
+/**
+ * The longest gap of a kind, and the times before its first and after its last command, where they are told.
+ * @param {import("./kinds.js").Kind} kind
+ * @param {import("./commands.js").Commands} commands
+ * @param {import("./bus.js").Bus} bus
+ * @returns {Hole[]}
+ */
 function holesOf(kind, commands, bus) {
   const usual = usualGap(commands);
-  if (usual === 0) {
+  const { gaps, first, last, longest } = commands;
+  if (usual === 0 || first === null || last === null || longest === null) {
     return [];
   }
-  const { gaps, first, last, longest } = commands;
   const limit = farGap(gaps, usual);
   const begin = { place: bus.first, damage: [], framesBefore: 0, framesAfter: 0 };
-  /** @type {{ from: any, to: any, where: ""|"begin"|"end", others: number }[]} */
+  /** @type {{ from: Moment, to: Moment, where: ""|"begin"|"end", others: number }[]} */
   const candidates = [
     { from: longest.from, to: longest.to, where: "", others: Math.max(0, gaps.above(limit) - 1) },
     { from: begin, to: first, where: "begin", others: 0 },

@@ -3,7 +3,10 @@ const DIGITS = 14;
 
 const EXACT = 2 ** DIGITS;
 
-/** The greatest number with the same leading digits that is not above this one. */
+/**
+ * The greatest number with the same leading digits that is not above this one.
+ * @param {number} number
+ */
 function classOf(number) {
   if (number < EXACT && number > -EXACT) {
     return number;

@@ -70,6 +70,14 @@ export class Counts {
   }
 
   /**
+   * How many there are of a kind.
+   * @param {{ station: number, type: number|null }} kind
+   */
+  of({ station, type }) {
+    return this.kinds.stations.get(station)?.get(type ?? 0)?.count ?? 0;
+  }
+
+  /**
    * The kinds with the greatest counts.
    * @param {number} most how many
    * @returns {[Kind, number][]}

@@ -69,6 +69,7 @@ export class Tally {
  */
 export const sumOf = (pieces) => pieces.reduce((sum, sort) => sum + sort.count, 0);
 
+/** @param {Pieces} one @param {Pieces} other */
 function inOrder(one, other) {
   return other.count - one.count || (one.cause < other.cause ? -1 : Number(one.cause > other.cause));
 }

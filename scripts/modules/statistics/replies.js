@@ -13,6 +13,7 @@ import { Histogram } from "./histogram.js";
 export function repliesOf(bus) {
   const every = bus.commands.sorted().map(([kind, { name, inTime, late }]) => ({ kind, name, inTime, late }));
   const kinds = every.filter(({ inTime, late }) => inTime.total + late.total > 0);
+  /** @param {"inTime"|"late"} part */
   const together = (part) => kinds.reduce((sum, replies) => sum.withThoseOf(replies[part]), new Histogram());
   return { all: { inTime: together("inTime"), late: together("late") }, kinds };
 }

@@ -1,34 +1,53 @@
 import { isUnfit } from "../listing/kinds.js";
-import { holes } from "./gaps.js";
 import { piecesNamed, sumOf } from "./pieces.js";
 import { counted, spanOf, unitsOf } from "./units.js";
 
-// The most sentences of one sort; the table has the rest.
-const MOST_TOLD = 6;
+// How many kinds are named in a sentence on frames.
+const MOST_NAMED = 6;
+
+/**
+ * What a sentence is about, and what stands in place of several.
+ * @typedef {"lines"|"gap"|"silent"|"missing"|"late"|"slow"|"spoilt"|"damage"|"length"|"unknown"|"stray"|"more"|"rest"|
+ *   "quiet"|"mute"} Sort
+ */
 
 /**
  * A sentence, and what it is about.
  * @typedef {object} Sentence
- * @property {"lines"|"gap"|"silent"|"missing"|"late"|"spoilt"|"damage"|"length"|"unknown"|"stray"|"more"} sort
+ * @property {Sort} sort
  * @property {string} text as the report has it
  * @property {string} [shown] on a screen, where the text refers to places or to what the report has below
- * @property {import("./kinds.js").Kind|null} [kind] of commands; its type is null where it is all of a station
+ * @property {{ station: number, type: number|null }|null} [kind] of commands; its type is null where it is all of a station
  * @property {1|2|null} [line] of the bus
  * @property {number} [count] of what it is about
  * @property {import("./commands.js").Commands} [commands] of this kind
  * @property {import("./gaps.js").Hole} [hole]
+ * @property {number} [limit] of replies, in bits
+ * @property {import("./rests.js").Place[]} [places] of a common cause
  */
 
+/** @typedef {[import("./kinds.js").Kind, import("./commands.js").Commands]} KindOfCommands */
+
+/** @param {number} count */
 const isOrAre = (count) => (count === 1 ? "is" : "are");
 
+/** @param {number[]} numbers */
 const sum = (numbers) => numbers.reduce((total, number) => total + number, 0);
 
-/** A type with its name, where the dictionary has one. */
+/**
+ * A type with its name, where the dictionary has one.
+ * @param {{ type: number|null }} kind
+ * @param {string} name
+ */
 export function typeNamed(kind, name) {
   return name !== "" && !isUnfit(name) ? `type ${kind.type} (${name})` : `type ${kind.type}`;
 }
 
-/** What stood in a gap, and what that says. */
+/**
+ * What stood in a gap, and what that says.
+ * @param {import("./gaps.js").Gap} gap
+ * @param {import("./bus.js").Bus} bus
+ */
 function contentsOf(gap, bus) {
   const damaged = sumOf(gap.damage);
   if (damaged > 0) {
@@ -50,20 +69,30 @@ const ENDS = {
   end: [", until the end of the listing", ", until the end"],
 };
 
+/**
+ * @param {import("./gaps.js").Hole} hole
+ * @param {import("./bus.js").Bus} bus
+ * @param {import("./units.js").Units} units
+ * @returns {Sentence}
+ */
 function sentenceOfHole(hole, bus, units) {
   const { kind, commands, gap, usual, lacking, others } = hole;
   const [inReport, onScreen] = ENDS[hole.where];
   const stand = others === 1 ? "stands" : "stand";
   const more = others > 0 ? ` ${counted(others, "other gap")} of this kind ${stand} out too.` : "";
+  /** @param {string} where */
   const textWith = (where) =>
     `Station ${kind.station} got no ${typeNamed(kind, commands.name)} for ${units.duration(gap.length)}` +
-    ` from ${units.seconds(gap.first)} s on${where}. Usually it gets one each ${units.duration(usual)},` +
+    ` from ${units.moment(gap.first)} on${where}. Usually it gets one each ${units.duration(usual)},` +
     ` so ${lacking} ${isOrAre(lacking)} lacking. ${contentsOf(gap, bus)}${more}`;
   const [text, shown] = [textWith(` (place ${gap.first})${inReport}`), textWith(onScreen)];
   return { sort: "gap", text, shown, kind, line: bus.lines === 1 ? null : 1, count: 1 + others, commands, hole };
 }
 
-/** What came in place of answers, if it was another answer. */
+/**
+ * What came in place of answers, if it was another answer.
+ * @param {import("./commands.js").Commands} commands
+ */
 function replacement(commands) {
   const row = commands.replacement;
   if (row === null) {
@@ -74,14 +103,21 @@ function replacement(commands) {
   return ` In place of the answer came ${times} another one, last of station ${row.station}, type ${row.type}${name}.`;
 }
 
-/** Whether commands of a kind were missed, and none answered. */
+/**
+ * Whether commands of a kind were missed, and none answered.
+ * @param {import("./commands.js").Commands} commands
+ */
 function isSilent(commands) {
   const { answered, late, missing } = commands.verdicts;
   return missing > 0 && answered + late === 0;
 }
 
-/** The kinds of commands that asked for an answer, station by station. */
+/**
+ * The kinds of commands that asked for an answer, station by station.
+ * @param {import("./bus.js").Bus} bus
+ */
 function byStation(bus) {
+  /** @type {Map<number, KindOfCommands[]>} */
   const stations = new Map();
   for (const [kind, commands] of bus.commands.sorted()) {
     if (commands.decided > 0) {
@@ -91,6 +127,7 @@ function byStation(bus) {
   return stations;
 }
 
+/** @param {number} station @param {KindOfCommands[]} kinds @returns {Sentence} */
 function sentenceOfSilentStation(station, kinds) {
   const total = sum(kinds.map(([, commands]) => commands.decided));
   const types = kinds.map(([kind, commands]) => typeNamed(kind, commands.name)).join(", ");
@@ -99,6 +136,7 @@ function sentenceOfSilentStation(station, kinds) {
   return { sort: "silent", text, kind: { station, type: null }, count: total };
 }
 
+/** @param {import("./bus.js").Bus} bus @returns {Sentence[]} */
 function sentencesOfSilent(bus) {
   return [...byStation(bus)].flatMap(([station, kinds]) => {
     const quiet = kinds.filter(([, commands]) => isSilent(commands));
@@ -114,28 +152,47 @@ function sentencesOfSilent(bus) {
   });
 }
 
-/** The kinds of commands that have a verdict, those first that have it in the greatest share. */
+/**
+ * The kinds of commands that have a verdict, those first that have it in the greatest share.
+ * @param {import("./bus.js").Bus} bus
+ * @param {"missing"|"late"|"spoilt"} verdict
+ */
 function worst(bus, verdict) {
   const having = bus.commands.sorted().filter(([, commands]) => commands.verdicts[verdict] > 0);
+  /** @param {KindOfCommands} kind */
   const share = ([, commands]) => commands.verdicts[verdict] / commands.decided;
   return having.sort((one, other) => share(other) - share(one));
 }
 
+/**
+ * When commands got a verdict: the times of a few, else from the first to the last.
+ * @param {import("./commands.js").Times} times
+ * @param {import("./units.js").Units} units
+ */
+function whenOf({ count, places, last }, units) {
+  if (count > places.length) return `from ${units.clock(places[0])} to ${units.moment(last)}`;
+  return `at ${units.moments(places)}`;
+}
+
+/** @param {import("./bus.js").Bus} bus @param {import("./units.js").Units} units @returns {Sentence[]} */
 function sentencesOfMissing(bus, units) {
   const some = worst(bus, "missing").filter(([, commands]) => !isSilent(commands));
   return some.map(([kind, commands]) => {
     const { missing } = commands.verdicts;
     const run = commands.longestSilence;
-    const row = run.commands > 1 ? `, ${run.commands} in a row from ${units.seconds(run.first)} s on` : "";
-    const at = missing === 1 ? ` at ${units.seconds(run.first)} s` : row;
-    const text =
+    const row = run.commands > 1 ? `, ${run.commands} in a row from ${units.moment(run.first)} on` : "";
+    const when = run.commands < missing || missing === 1 ? `, ${whenOf(commands.times.missing, units)}` : "";
+    const what =
       `Station ${kind.station} gave no answer to ${missing} of ${counted(commands.decided, "command")} of` +
-      ` ${typeNamed(kind, commands.name)}${at}.${replacement(commands)}`;
-    return { sort: "missing", text, kind, count: missing, commands };
+      ` ${typeNamed(kind, commands.name)}`;
+    const other = replacement(commands);
+    const [text, shown] = [`${what}${when}${row}.${other}`, `${what}${row}.${other}`];
+    return { sort: "missing", text, shown, kind, count: missing, commands };
   });
 }
 
-function timesOfLate(commands, units) {
+/** @param {import("./commands.js").Commands} commands @param {import("./units.js").Units} units */
+function repliesOfLate(commands, units) {
   if (commands.late.total === 0) {
     return "";
   }
@@ -144,19 +201,23 @@ function timesOfLate(commands, units) {
   return `: after ${spanOf(commands.late, units)}; ${others}`;
 }
 
+/** @param {import("./bus.js").Bus} bus @param {import("./units.js").Units} units @returns {Sentence[]} */
 function sentencesOfLate(bus, units) {
   return worst(bus, "late").map(([kind, commands]) => {
     const { late } = commands.verdicts;
-    const text =
+    const what =
       `Station ${kind.station} answered ${late} of ${counted(commands.decided, "command")} of` +
-      ` ${typeNamed(kind, commands.name)} late${timesOfLate(commands, units)}.`;
-    return { sort: "late", text, kind, count: late, commands };
+      ` ${typeNamed(kind, commands.name)} late`;
+    const [when, replies] = [whenOf(commands.times.late, units), repliesOfLate(commands, units)];
+    const [text, shown] = [`${what}, ${when}${replies}.`, `${what}${replies}.`];
+    return { sort: "late", text, shown, kind, count: late, commands };
   });
 }
 
+/** @param {import("./bus.js").Bus} bus @returns {Sentence[]} */
 function sentencesOfSpoilt(bus) {
   return worst(bus, "spoilt").map(([kind, commands]) => {
-    const numbered = [1, 2].filter((line) => commands.spoiltBy.has(line));
+    const numbered = /** @type {const} */ ([1, 2]).filter((line) => commands.spoiltBy.has(line));
     const lines = numbered.map((line) => `${commands.spoiltBy.get(line)} on line ${line}`).join(" and ");
     const { spoilt } = commands.verdicts;
     const text =
@@ -167,35 +228,35 @@ function sentencesOfSpoilt(bus) {
   });
 }
 
+/** @param {import("./kinds.js").Counts} counts */
 function kindsCounted(counts) {
-  const most = counts.first(MOST_TOLD);
+  const most = counts.first(MOST_NAMED);
   return most.map(([{ station, type }, count]) => `station ${station} type ${type}: ${count}`).join(", ");
 }
 
-/** What else is wrong: damage, frames that are no answers, and what the dictionary does not fit. */
+/**
+ * What else is wrong: damage, frames that are no answers, and what the dictionary does not fit.
+ * @param {import("./bus.js").Bus} bus
+ * @returns {Sentence[]}
+ */
 function sentencesOfRest(bus) {
   const { length, unknown: lacking } = bus.misfits;
   const damaged = `${counted(bus.damaged, "piece")} ${isOrAre(bus.damaged)} damaged`;
+  /** @param {import("./kinds.js").Counts} counts @param {string} meaning */
   const framesOf = (counts, meaning) =>
     `${counted(counts.total, "frame")} of ${meaning}, most of ${kindsCounted(counts)}.`;
   const strays = `${counted(bus.strays.total, "stray")}, frames of answers to no command`;
+  /** @type {Sentence[]} */
   const found = [
     { sort: "damage", count: bus.damaged, text: `${damaged}; see below.`, shown: `${damaged}.` },
     { sort: "length", count: length.total, text: framesOf(length, "another length than in the dictionary") },
     { sort: "unknown", count: lacking.total, text: framesOf(lacking, "a type that it lacks") },
     { sort: "stray", count: bus.strays.total, text: `${strays}, most of ${kindsCounted(bus.strays)}.` },
   ];
-  return found.filter(({ count }) => count > 0);
+  return found.filter(({ count }) => count !== 0);
 }
 
-/** The first sentences of a sort, and how many more there are. */
-function told(sentences) {
-  const rest = sentences.length - MOST_TOLD;
-  return rest <= 0
-    ? sentences
-    : [...sentences.slice(0, MOST_TOLD), { sort: "more", text: `And ${rest} more of this sort; the table has them.` }];
-}
-
+/** @param {import("./bus.js").Bus} bus @returns {Sentence[]} */
 function sentencesOfLines(bus) {
   const forward = sum(bus.commands.sorted().map(([, commands]) => commands.sent));
   const text = `${counted(bus.backward, "command")} came on line 2: are the two lines exchanged?`;
@@ -203,82 +264,24 @@ function sentencesOfLines(bus) {
 }
 
 /**
- * What is wrong, in sentences, the most serious first.
+ * What is wrong, in sentences by their sort: those that can put a cabinet into flash come first.
  * @param {import("./bus.js").Bus} bus
- * @param {import("./gaps.js").Hole[]} [gaps] times without a command
- * @returns {Sentence[]}
+ * @param {import("./gaps.js").Hole[]} gaps times without a command
+ * @param {Sentence[]} slow replies
+ * @returns {Sentence[][]}
  */
-export function wrong(bus, gaps = holes(bus)) {
-  const units = unitsOf(bus.rate);
+export function sentencesBySort(bus, gaps, slow) {
+  const units = unitsOf(bus.rate, bus.dayTime);
   return [
-    ...sentencesOfLines(bus),
-    ...told(gaps.map((hole) => sentenceOfHole(hole, bus, units))),
-    ...told(sentencesOfSilent(bus)),
-    ...told(sentencesOfMissing(bus, units)),
-    ...told(sentencesOfLate(bus, units)),
-    ...told(sentencesOfSpoilt(bus)),
-    ...sentencesOfRest(bus),
+    sentencesOfLines(bus),
+    gaps.map((hole) => sentenceOfHole(hole, bus, units)),
+    sentencesOfSilent(bus),
+    sentencesOfMissing(bus, units),
+    sentencesOfLate(bus, units),
+    slow,
+    sentencesOfSpoilt(bus),
+    sentencesOfRest(bus),
   ];
-}
-
-/** What a listing can lack: in the report, and on a screen. */
-const LACKS = {
-  lines: [
-    "The listing is empty: nothing is known of the bus. Where a fault was told, mend that first.",
-    "Nothing is on the bus: no frame, no damaged piece and no idle line.",
-  ],
-  frames: [
-    "The listing has no frames: the bus had none, or a filter left them out.",
-    "There is no frame: the bus had none, or the wires are not the ones that were chosen.",
-  ],
-  dictionary: [
-    "The listing was made without a dictionary: which commands were answered, and when, is not known.",
-    "There is no dictionary: which commands were answered, and when, is not known.",
-  ],
-  verdicts: [
-    "No command asked for an answer: the dictionary may lack `answered = true`.",
-    "No command asked for an answer: the dictionary may not say which commands are answered.",
-  ],
-};
-
-function lackOf(bus) {
-  if (bus.rows === 0 || bus.frames === 0) {
-    return bus.rows === 0 ? "lines" : "frames";
-  }
-  if (!bus.named) {
-    return "dictionary";
-  }
-  const decided = sum(bus.commands.sorted().map(([, commands]) => commands.decided));
-  return decided === 0 ? "verdicts" : null;
-}
-
-/**
- * What the listing leaves open.
- * @param {import("./bus.js").Bus} bus
- * @returns {{sort: string, text: string, shown: string}[]} sorts: lines, frames, dictionary, verdicts and pending
- */
-export function unknown(bus) {
-  const lack = lackOf(bus);
-  const { total } = bus.pending;
-  const waiting = `${counted(total, "command")} at the end still ${total === 1 ? "waits" : "wait"} for an answer.`;
-  return [
-    ...(lack === null ? [] : [{ sort: lack, text: LACKS[lack][0], shown: LACKS[lack][1] }]),
-    ...(total === 0 ? [] : [{ sort: "pending", text: waiting, shown: waiting }]),
-  ];
-}
-
-/**
- * That nothing is wrong, as far as the listing can tell; nothing where it has no frames.
- * @param {import("./bus.js").Bus} bus
- * @returns {string[]}
- */
-export function allIsWell(bus) {
-  if (bus.frames === 0) {
-    return [];
-  }
-  return bus.named
-    ? ["Nothing is wrong: nothing is damaged, missing, spoilt or late, and no gap between commands stands out."]
-    : ["Nothing is damaged, and no gap between commands stands out."];
 }
 
 /**
@@ -288,8 +291,9 @@ export function allIsWell(bus) {
  */
 export function headLine(bus) {
   const what = bus.lines === 1 ? "one line" : "two lines";
+  const begin = bus.dayTime === null ? "" : ` It begins on ${bus.dayTime.full(bus.first / bus.rate)}.`;
   return (
     `${unitsOf(bus.rate).seconds(bus.past - bus.first)} s of ${what} at ${bus.rate} bits a second:` +
-    ` ${counted(bus.frames, "frame")}, ${counted(bus.damaged, "damaged piece")}.`
+    ` ${counted(bus.frames, "frame")}, ${counted(bus.damaged, "damaged piece")}.${begin}`
   );
 }

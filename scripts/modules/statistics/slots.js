@@ -24,9 +24,9 @@ export class Slots {
   /**
    * The counts of so many slots together each.
    * @param {number} many
-   * @returns {Map<number, number>}
    */
   merged(many) {
+    /** @type {Map<number, number>} */
     const merged = new Map();
     for (const [slot, count] of this.counts) {
       const wide = Math.floor(slot / many);

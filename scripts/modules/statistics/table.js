@@ -1,6 +1,9 @@
 import { usualGap } from "./gaps.js";
 import { unitsOf } from "./units.js";
 
+/** @typedef {import("./commands.js").Commands} Commands */
+/** @typedef {import("./units.js").Units} Units */
+
 /**
  * The head of a column: its name, and the word above it for this column and those after it, if any.
  * @typedef {{group: string, name: string, isLeft: boolean}} Head
@@ -27,6 +30,15 @@ export const HEADS = Object.freeze(
   NAMES.map((name) => Object.freeze({ group: GROUPS.get(name) ?? "", name, isLeft: name === "name" })),
 );
 
+/**
+ * The heads: where times of day are told, the last column has these.
+ * @param {import("./bus.js").Bus} bus
+ * @returns {readonly Head[]}
+ */
+const headsOf = ({ dayTime }) =>
+  dayTime === null ? HEADS : [...HEADS.slice(0, -1), { group: "", name: "from", isLeft: false }];
+
+/** @param {Commands} commands */
 function verdictCells(commands) {
   const { decided, verdicts, bad } = commands;
   if (decided === 0) {
@@ -36,11 +48,13 @@ function verdictCells(commands) {
   return [...counts.map(String), ((100 * bad) / decided).toFixed(1)];
 }
 
+/** @param {import("./histogram.js").Histogram} times @param {Units} units */
 function replyCells(times, units) {
   const bits = [times.least, times.quantile(50), times.quantile(99), times.most];
   return bits.map((count) => (times.total > 0 ? units.milliseconds(count) : "-"));
 }
 
+/** @param {Commands} commands @param {Units} units */
 function gapCells(commands, units) {
   const usual = usualGap(commands);
   const shown = usual === 0 ? "-" : units.milliseconds(usual);
@@ -48,9 +62,10 @@ function gapCells(commands, units) {
     return [shown, "-", "-"];
   }
   const { from, to } = commands.longest;
-  return [shown, units.milliseconds(to.place - from.place), units.seconds(from.place)];
+  return [shown, units.milliseconds(to.place - from.place), units.clock(from.place)];
 }
 
+/** @param {import("./kinds.js").Kind} kind @param {Commands} commands @param {Units} units */
 function rowOf(kind, commands, units) {
   const name = commands.name || "-";
   const cells = [
@@ -68,6 +83,6 @@ function rowOf(kind, commands, units) {
  * @returns {{heads: readonly Head[], rows: TableRow[]}}
  */
 export function tableOf(bus) {
-  const units = unitsOf(bus.rate);
-  return { heads: HEADS, rows: bus.commands.sorted().map(([kind, commands]) => rowOf(kind, commands, units)) };
+  const units = unitsOf(bus.rate, bus.dayTime);
+  return { heads: headsOf(bus), rows: bus.commands.sorted().map(([kind, commands]) => rowOf(kind, commands, units)) };
 }

@@ -1,12 +1,33 @@
 /**
  * Places and bits as times.
  * @param {number} rate bits a second
+ * @param {import("./day-time.js").DayTime|null} [dayTime] when place 0 was, so that times of day are told
  */
-export function unitsOf(rate) {
+export function unitsOf(rate, dayTime = null) {
+  /** @param {number} bits */
   const inMilliseconds = (bits) => (bits * 1000) / rate;
+  /** @param {number} place */
+  const seconds = (place) => (place / rate).toFixed(3);
+  /** @param {number} place */
+  const clock = (place) => (dayTime === null ? seconds(place) : dayTime.of(place / rate));
+  const unit = dayTime === null ? " s" : "";
   return {
-    /** @param {number} place */
-    seconds: (place) => (place / rate).toFixed(3),
+    seconds,
+
+    /** The time of day of a place, or else its second, without a unit. */
+    clock,
+
+    /**
+     * The same with its unit.
+     * @param {number} place
+     */
+    moment: (place) => clock(place) + unit,
+
+    /**
+     * Those of several places.
+     * @param {number[]} places
+     */
+    moments: (places) => listed(places.map(clock)) + unit,
 
     /** @param {number} bits */
     milliseconds: (bits) => inMilliseconds(bits).toFixed(2),
@@ -21,6 +42,7 @@ export function unitsOf(rate) {
 
 /** @typedef {ReturnType<typeof unitsOf>} Units */
 
+/** @param {number} milliseconds */
 function durationText(milliseconds) {
   const decimals = milliseconds < 10 ? 2 : milliseconds < 100 ? 1 : 0;
   const text = milliseconds.toFixed(decimals);
@@ -43,3 +65,10 @@ export function spanOf(times, units) {
  * @returns {string} as `1 frame` or `2 frames`
  */
 export const counted = (count, what) => (count === 1 ? `1 ${what}` : `${count} ${what}s`);
+
+/**
+ * Several words in a sentence, as `a, b and c`.
+ * @param {string[]} words
+ */
+export const listed = (words) =>
+  words.length < 2 ? words.join("") : `${words.slice(0, -1).join(", ")} and ${words[words.length - 1]}`;

@@ -3,7 +3,7 @@
 import assert from "node:assert/strict";
 import { test } from "node:test";
 import { findingsOf } from "../findings/findings.js";
-import { verdictOf } from "../findings/verdict.js";
+import { verdictOf } from "../statistics/verdict.js";
 import { RATE, Talk } from "./support/bus_talk.js";
 
 const WITH_WINDOW = [{ type: 0, name: "t0", length: 0, answered: true, window: 1536 }];
@@ -169,9 +169,9 @@ const CASES = [
 
 function judged({ talk: { counted }, end = null, entries = WITH_WINDOW, isDoubtful = false }) {
   const { listing, bus } = counted;
-  const windows = new Map((entries ?? []).map(({ type, window }) => [type, window > 0]));
-  const found = findingsOf(bus, listing, end === null ? null : Math.round(end * RATE), (type) => windows.get(type) === true);
-  return { found, verdict: verdictOf(bus, found, entries, isDoubtful), listing };
+  const known = { end: end === null ? null : Math.round(end * RATE), entries };
+  const found = findingsOf(bus, listing, known);
+  return { found, verdict: verdictOf(bus, known, found.findings, isDoubtful), listing };
 }
 
 for (const { name, found: wanted = [], level, lacks = [], ...asked } of CASES) {

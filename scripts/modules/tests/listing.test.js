@@ -41,6 +41,7 @@ const WRONG = [
   "8 49 answered",
   "8 49 frame 108300fde5 station 17 type 0 call",
   "8 49 frame 108300fde5 untyped call",
+  "8 49 frame 10 control 131",
   "8 49 answered station 256 type 0",
   "8 9007199254740993 idle",
   "8 49 idle ",
@@ -67,7 +68,7 @@ for (const { text, row } of LINES) {
 
 for (const text of WRONG) {
   test(`a line is refused: ${text}`, () => {
-    assert.throws(() => readAll(`0 15 idle\n${text}\n`, 1000), {
+    assert.throws(() => readAll(`0 32 frame 1083452c untyped\n${text}\n`, 1000), {
       constructor: Fault,
       message: `line 2 is no line of \`port1 list\`: ${JSON.stringify(text.trimEnd())}`,
     });

@@ -1,92 +1,104 @@
-// Warnings: of simulated wires, with count and place; and what is known of a warning by its text.
+// Facts of a recording, and what they make doubtful: each once, with its place; and what the page knows of a warning.
 
 import assert from "node:assert/strict";
 import { test } from "node:test";
-import { ran } from "./recording-helpers.js";
-import { randomOf } from "./support/random.js";
-import { Doubts, lasting, Moments, warningOf } from "../recording/doubts.js";
+import { doubtsOf, warningOf } from "../recording/doubts.js";
+import { factsIn } from "../recording/facts.js";
+import { Moments } from "../recording/moments.js";
 
-const OF_NO_TIME = ["still", "rising", "falling"];
-const OF_A_CHANNEL = ["glitch", "shortData", "shortClock", "early"];
-const OF_A_LINE = ["gap", "stop", "drift", "beyond"];
+const NAMES = ["TXC", "TXD", "RXC", "RXD"];
+
+/** Four samples a bit, a thousand bits of either line, the data at rest in the end. */
+const GOOD = {
+  samples: "4000",
+  "txc-level": "0",
+  "txd-level": "1",
+  "rxc-level": "0",
+  "rxd-level": "1",
+  "txc-changes": "2000 2 3999",
+  "txd-changes": "400 4 3900",
+  "rxc-changes": "2000 2 3999",
+  "rxd-changes": "400 4 3900",
+  "first-bits": "1000 2 3998",
+  "second-bits": "1000 3 3999",
+  "first-gap": "4 2",
+  "second-gap": "4 3",
+  "txd-high": "20 80 3000",
+  "rxd-high": "20 80 3000",
+  "first-jumps": "0 0 0",
+  "second-jumps": "7 500 600",
+};
+
+function warned(facts, names = NAMES, how = {}) {
+  const text = Object.entries({ ...GOOD, ...facts }).map((fact) => `${fact.join(" ")}\n`).join("");
+  const { rising = true, ticks = null, begin = 0 } = how;
+  return doubtsOf(factsIn(text), names, { rising, when: new Moments(ticks, begin) });
+}
+
+const EDGE = "the data changes at the edge of TXC that is taken: try it";
+
+/** Facts, and the sorts, places and texts of the warnings. */
+const CASES = [
+  ["a good recording", {}, []],
+  ["no edges", { "first-bits": "0 0 0", "second-bits": "0 0 0" }, ["TXC has no edges", "RXC has no edges"]],
+  ["flat data", { "txd-changes": "0 0 0", "rxd-changes": "0 0 0" }, ["TXD never changes", "RXD never changes"]],
+  ["flat data of few bits", { "txd-changes": "0 0 0", "first-bits": "15 2 58", samples: "60", "txc-level": "0" }, []],
+  ["the wrong edge", { "txd-high": "300 4 3900" }, [`${EDGE} with --falling`]],
+  ["few changes", { "txd-changes": "7 4 3900", "txd-high": "7 4 3900" }, []],
+  ["a stop of the first clock", { "first-gap": "65 800" }, ["TXC stops (for 65 samples from sample 800 on)"]],
+  ["a rest of the first clock that is none", { "first-gap": "63 800" }, []],
+  ["a stop of the second clock", { "second-gap": "9999 800" }, []],
+  ["a stop until the end", { "first-bits": "900 2 3600", samples: "4000" }, ["TXC stops, and does not go on until the recording ends (at sample 3600)"]],
+  ["a stop, and data that changes meanwhile", { "first-gap": "65 800", "txd-high": "300 4 3900" }, ["TXC stops (for 65 samples from sample 800 on)"]],
+  ["samples lost", { "first-jumps": "1 70 70" }, ["the edges of TXC jump: samples may have been lost (at sample 70)"]],
+  ["samples lost twice", { "first-jumps": "2 70 90" }, ["the edges of TXC jump: samples may have been lost (2 times, first at sample 70)"]],
+  ["data that rests at 0", { "txd-level": "0", "txd-changes": "400 4 2970" }, ["TXD rests at 0: if the two wires of its pair are exchanged, say --invert TXD"]],
+  ["data that is 0 for a while", { "txd-level": "0", "txd-changes": "400 4 2980" }, []],
+];
+
+for (const [name, facts, texts] of CASES) {
+  test(name, () => assert.deepEqual(warned(facts).map(({ text }) => text), texts));
+}
+
+test("times in seconds, from the begin of the recording on", () => {
+  const [{ text, second, count, sort, name }] = warned({ "first-jumps": "2 614400 614400" }, NAMES, { ticks: 614400, begin: 307200 });
+  assert.equal(text, "the edges of TXC jump: samples may have been lost (2 times, first at 1.500000 s)");
+  assert.deepEqual([second, count, sort, name], [1.5, 2, "lost", "TXC"]);
+});
+
+test("bits at falling edges", () => {
+  assert.deepEqual(warned({ "txd-high": "300 4 3900" }, NAMES, { rising: false }).map(({ text }) => text), [`${EDGE} without --falling`]);
+});
+
+test("one clock for two lines", () => {
+  const names = ["CLK", "TXD", "CLK", "RXD"];
+  assert.deepEqual(warned({}, names), []);
+  const own = "RXD does not change with the clock: it has a clock of its own, whose channel is to be named";
+  assert.deepEqual(warned({ "rxd-high": "200 4 3900" }, names).map(({ text }) => text), [own]);
+});
+
+test("one line", () => assert.deepEqual(warned({ "second-bits": "0 0 0", "rxd-changes": "0 0 0" }, ["CLK", "DAT"]), []));
 
 /** Names that a careless pattern would take for something else. */
-const NAMES = ["TXC", "clk [0]", "D0 (at 3 s)", "a.b*c"];
+const HARD_NAMES = ["TXC", "clk [0]", "D0 (at 3 s)", "a.b*c"];
 
-const seconds = new Moments(1000);
-
-function found(sort, name, times, when) {
-  const doubts = new Doubts();
-  for (const time of times) doubts.add(sort, time, name);
-  return doubts.warnings(when)[0];
-}
-
-for (const name of NAMES) {
-  for (const sort of OF_NO_TIME) {
-    test(`${sort} of ${name}`, () => assert.deepEqual(warningOf(lasting(sort, name).text), lasting(sort, name)));
-  }
-  for (const sort of OF_A_CHANNEL) {
-    test(`${sort} of ${name}, once and more often`, () => {
-      for (const times of [[1234], [1234, 2000, 3000]]) {
-        const warning = found(sort, name, times, seconds);
-        assert.deepEqual([warning.count, warning.second], [times.length, 1.234]);
-        assert.deepEqual(warningOf(warning.text), warning);
+for (const name of HARD_NAMES) {
+  test(`warnings of ${name}, read again as they were written`, () => {
+    const names = [name, `${name} data`, "RXC", "RXD"];
+    for (const [, facts] of CASES) {
+      for (const how of [{}, { ticks: 614400, begin: 5 }]) {
+        for (const warning of warned(facts, names, how)) {
+          const { line, ...told } = warning;
+          const second = warning.second === null ? null : Number(warning.second.toFixed(6));
+          assert.deepEqual(warningOf(warning.text), { ...told, second });
+        }
       }
-    });
-  }
-}
-
-for (const sort of OF_A_LINE) {
-  test(`${sort}, in seconds and in samples`, () => {
-    assert.deepEqual(warningOf(found(sort, "", [500], seconds).text), found(sort, "", [500], seconds));
-    const ofSample = found(sort, "", [500, 600], new Moments(null));
-    assert.match(ofSample.text, / \(2 times, first at sample 500\)$/);
-    assert.deepEqual(warningOf(ofSample.text), ofSample);
+    }
   });
 }
 
-test("a text that is no warning of the script", () => {
+test("a text that is no warning", () => {
   assert.deepEqual(warningOf("it rained"), { sort: "other", name: "", count: 1, second: null, text: "it rained" });
 });
 
-const PERIOD = 16;
-const [CLOCK, DATA] = [1, 2];
-
-/** Samples of a clock and its data, which changes where the clock falls; the data of some bits is 0. */
-function wiresOf(bits) {
-  return Uint8Array.from({ length: PERIOD * bits.length }, (_, at) => {
-    const level = at % PERIOD < PERIOD / 2 ? 0 : CLOCK;
-    return level | (bits[Math.floor(at / PERIOD)] === "1" ? DATA : 0);
-  });
-}
-
-function flip(samples, mask, from, count) {
-  for (let at = from; at < from + count; at++) samples[at] ^= mask;
-}
-
-const WIRES = { names: ["clk", "dat"], width: 1, ticks: null };
-
-test("glitches of the clock and short pulses of the data, how often and where first", async () => {
-  const random = randomOf(8);
-  const quiet = [20, 21, 22, 40, 41, 42, 60, 61, 62];
-  const bits = Array.from({ length: 100 }, (_, at) => (quiet.includes(at) ? "0" : random.one(["0", "1"]))).join("");
-  const samples = wiresOf(bits);
-  for (const bit of [21, 41, 61]) flip(samples, CLOCK, PERIOD * bit + 3, 1);
-  for (const bit of [41, 61]) flip(samples, DATA, PERIOD * bit + 2, 2);
-  const { stdout, stderr } = await ran([samples], { form: "binary", channels: ["clk", "dat"], samples: WIRES });
-  assert.equal(stdout.replaceAll("\n", ""), bits);
-  assert.deepEqual(stderr.split("\n"), [
-    "recording-to-bits: clk has 100 edges",
-    `recording-to-bits: warning: clk has a glitch, which was left out (3 times, first at sample ${PERIOD * 21 + 3})`,
-    `recording-to-bits: warning: the data of clk has a pulse shorter than half a bit (2 times, first at sample ${PERIOD * 41 + 4})`,
-    "",
-  ]);
-});
-
-test("an edge of the clock too early, and where it is", async () => {
-  const samples = wiresOf("01".repeat(40));
-  flip(samples, CLOCK, PERIOD * 50 + 2, 4);
-  const { stderr } = await ran([samples], { form: "binary", channels: ["clk", "dat"], samples: WIRES });
-  assert.deepEqual(stderr.split("\n").slice(0, 1), ["recording-to-bits: clk has 81 edges"]);
-  assert.match(stderr, new RegExp(`clk has an edge too early \\(at sample ${PERIOD * 50 + 8}\\)\n`));
-});
+test("a fact that is not there", () => assert.throws(() => factsIn("samples 5\n"), /port1-sample wrote no fact txc-level/));

@@ -10,7 +10,7 @@ const BEGINNINGS = {
   vcd: ["$", "  \r\n\t$date", "\xef\xbb\xbf$date", "\xbf\xbb\xef$", "META samplerate: 1\n$date"],
   csv: [";", "; a", "a,b\n", "\t;", "\xef\xbb\xbf;", ",", "0,1\x80", "Time [s],a\r\n"],
   session: ["PK\x03\x04,", "PK\x03\x04"],
-  binary: ["", "x$", "\0$", "a;b\n", "0,1\0", "0,1\x7f", "\xef\xbb\xbf", " ", "\x1b,", "\x0b,", "META samplerate: 1\n\0"],
+  binary: ["x$", "\0$", "0,1\0", "0,1\x7f", "\xef\xbb\xbf", " ", "\x1b,", "\x0b,", "META samplerate: 1\n\0"],
 };
 
 function octetsOf(text) {
@@ -25,7 +25,11 @@ test("the form by the beginning", () => {
       if (form !== "session") assert.equal(formOf(octets), form === "binary" ? null : form);
     }
   }
-  const text = octetsOf("0 1 0 1 bits as text, but with no comma".replace(",", ";"));
+  for (const [refused, why] of [["", "the recording is empty"], ["a;b\n", "this is a table whose cells"], ["\x89PNG", "this is a picture"]]) {
+    const octets = Uint8Array.from(Buffer.from(refused, "latin1"));
+    assert.throws(() => formOfRecording(octets), (fault) => fault instanceof Fault && fault.message.startsWith(why));
+  }
+  const text = octetsOf("0 1 0 1 bits as text with no comma");
   assert.throws(() => formOfRecording(text), /^Error: this is text|this is text/);
 });
 

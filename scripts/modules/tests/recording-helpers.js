@@ -1,38 +1,49 @@
-import { bitsOf } from "../recording/bits.js";
 import { Fault } from "../fault.js";
+import { recordingOf } from "../recording/recording.js";
 
-/** Bits in a line of text. */
-const LINE = 64;
+/** Octets of a run: the levels, and how long they stand. */
+const RUN = 8;
 
-const PREFIX = "recording-to-bits: ";
+const MARKS = ["01", "oi"];
 
-/**
- * What the script would write of a recording, had it these bits.
- * @param {Iterable<Uint8Array>|AsyncIterable<Uint8Array>} pieces
- * @param {import("../recording/bits.js").Wanted} wanted
- * @returns {Promise<{ stdout: string, stderr: string, status: number }>}
- */
-export async function ran(pieces, wanted) {
-  const { marks, told } = bitsOf(pieces, wanted);
-  const parts = [];
-  let fault = [];
-  try {
-    for await (const some of marks) {
-      parts.push(Buffer.from(some.map((mark) => mark + 48)).toString("latin1"));
+/** The levels of a recording, sample by sample or run by run. @param {import("../recording/recording.js").Recording} recording */
+async function* levelsOf({ hasRuns, width, wires, pieces }) {
+  const size = hasRuns ? RUN : width;
+  for await (const piece of pieces) {
+    for (let at = 0; at < piece.length; at += size) {
+      yield wires.map((wire) => (piece[at + (wire >> 3)] >> (wire & 7)) & 1);
     }
-  } catch (problem) {
-    if (!(problem instanceof Fault)) {
-      throw problem;
-    }
-    fault = [problem.message];
   }
-  const stderr = [...told, ...fault].map((line) => `${PREFIX}${line}\n`).join("");
-  return { stdout: inLines(parts.join("")), stderr, status: fault.length === 0 ? 0 : 2 };
 }
 
-/** Bits as the scripts write them, 64 in each line. */
-export function inLines(bits) {
-  return bits.replace(new RegExp(`.{1,${LINE}}`, "g"), "$&\n");
+/** The bits of levels, as the definition has them: the data before each edge of its clock, the first line's first. */
+async function* bitsIn(levels, rising) {
+  let before = null;
+  for await (const level of levels) {
+    for (let line = 0; before !== null && line < level.length / 2; line++) {
+      const [was, is] = [before[2 * line], level[2 * line]];
+      if (was !== is && is === Number(rising)) yield MARKS[line][before[2 * line + 1]];
+    }
+    before = level;
+  }
+}
+
+/**
+ * The bits of a recording, in the order of arrival, and the fault that ended it.
+ * @param {Iterable<Uint8Array>|AsyncIterable<Uint8Array>} pieces
+ * @param {import("../recording/recording.js").Wanted & { rising?: boolean }} wanted
+ * @returns {Promise<{ bits: string, fault: string|null }>}
+ */
+export async function taken(pieces, { rising = true, ...wanted }) {
+  let bits = "";
+  try {
+    const recording = await recordingOf(pieces, wanted);
+    for await (const mark of bitsIn(levelsOf(recording), rising)) bits += mark;
+  } catch (fault) {
+    if (!(fault instanceof Fault)) throw fault;
+    return { bits, fault: fault.message };
+  }
+  return { bits, fault: null };
 }
 
 /** Octets in pieces of one size. */

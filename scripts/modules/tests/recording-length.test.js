@@ -1,6 +1,6 @@
 import assert from "node:assert/strict";
 import { test } from "node:test";
-import { bitsOf } from "../recording/bits.js";
+import { recordingOf } from "../recording/recording.js";
 
 /** A long recording takes no more memory than a short one. */
 
@@ -29,13 +29,11 @@ test("a long recording", async () => {
       yield PIECE;
     }
   }
-  const { marks, told } = bitsOf(pieces(), { form: "csv", channels: ["a", "b"] });
-  let [count, ones] = [0, 0];
-  for await (const some of marks) {
-    count += some.length;
-    ones = some.reduce((sum, mark) => sum + mark, ones);
-  }
-  assert.deepEqual(told, [`a has ${PIECES * EDGES} edges`]);
-  assert.deepEqual([count, ones], [PIECES * EDGES, (PIECES * EDGES) / 2]);
+  const recording = await recordingOf(pieces(), { form: "csv", channels: ["a", "b"] });
+  let runs = 0;
+  for await (const some of recording.pieces) runs += some.length / 8;
+  // Beside the changes, a run ends with each piece.
+  const changes = PIECES * 2 * EDGES;
+  assert.ok(runs >= changes && runs <= changes + 2 * PIECES + 2, `${runs} runs`);
   assert.ok(most < 200 * MEGABYTE, `${most} octets`);
 });

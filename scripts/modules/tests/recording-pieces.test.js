@@ -4,7 +4,7 @@ import { mkdtempSync, readFileSync, rmSync, writeFileSync } from "node:fs";
 import { tmpdir } from "node:os";
 import { join } from "node:path";
 import { test } from "node:test";
-import { inLines, inPieces, ran } from "./recording-helpers.js";
+import { inPieces, taken } from "./recording-helpers.js";
 
 /** Recordings in pieces, and those that sigrok-cli writes. */
 
@@ -21,16 +21,17 @@ for (const [name, form, channels, length] of [
 ]) {
   test(`${name} in pieces`, async () => {
     const input = example(name).subarray(0, length);
-    const wanted = await ran([input], { form, channels });
-    assert.deepEqual(await ran(inPieces(input, 1), { form, channels }), wanted);
+    const wanted = await taken([input], { form, channels });
+    assert.deepEqual(await taken(inPieces(input, 1), { form, channels }), wanted);
     for (let cut = 0; cut <= input.length; cut++) {
       const pieces = [input.subarray(0, cut), input.subarray(cut)];
-      assert.deepEqual(await ran(pieces, { form, channels }), wanted, `cut at ${cut}`);
+      assert.deepEqual(await taken(pieces, { form, channels }), wanted, `cut at ${cut}`);
     }
   });
 }
 
 const BITS = "01111110000010001100000100000000101111101101001110111111011";
+const SAMPLES = Array.from(BITS).flatMap((bit) => [2 * Number(bit), 1 + 2 * Number(bit)]);
 
 const OUTPUTS = { csv: ["csv", "csv:time=true:dedup=true", "csv:time=true"], vcd: ["vcd"] };
 
@@ -40,14 +41,13 @@ test("what sigrok-cli writes", { skip: hasSigrok ? false : "no sigrok-cli" }, as
   const folder = mkdtempSync(join(tmpdir(), "sigrok-"));
   const [samples, session] = [join(folder, "tap.bin"), join(folder, "tap.sr")];
   const written = (words) => execFileSync("sigrok-cli", words);
-  writeFileSync(samples, Uint8Array.from(Array.from(BITS).flatMap((bit) => [2 * Number(bit), 1 + 2 * Number(bit)])));
+  writeFileSync(samples, Uint8Array.from([...SAMPLES, 0]));
   written(["-i", samples, "-I", "binary:numchannels=4:samplerate=1000000", "-o", session]);
-  const stderr = `recording-to-bits: 0 has ${BITS.length} edges\n`;
   for (const [form, outputs] of Object.entries(OUTPUTS)) {
     for (const output of outputs) {
       const octets = written(["-i", session, "-O", output]);
-      const got = await ran([octets], { form, channels: ["0", "1"] });
-      assert.deepEqual(got, { stdout: inLines(BITS), stderr, status: 0 }, output);
+      const got = await taken([octets], { form, channels: ["0", "1"] });
+      assert.deepEqual(got, { bits: BITS, fault: null }, output);
     }
   }
   rmSync(folder, { recursive: true });

@@ -8,7 +8,7 @@ import { join } from "node:path";
 import { after, test } from "node:test";
 import { Fault } from "../fault.js";
 import { sessionOf } from "../recording/session.js";
-import { ran } from "./recording-helpers.js";
+import { taken } from "./recording-helpers.js";
 import { askPython } from "./support/scripts.js";
 
 const folder = mkdtempSync(join(tmpdir(), "sessions-"));
@@ -41,9 +41,9 @@ write("stored.sr", one, method=zipfile.ZIP_STORED)
 write("parts.sr", one, parts=12)
 write("wide.sr", (samples.astype("<u2") << 7).tobytes(), 2, names=["", "x", "", "", "", "", "", "TXC", "TXD", "RXC", "RXD"])
 write("rate.sr", one, rate="4000000")
-write("turned.sr", (samples ^ 0b1010).astype("u1").tobytes())
 write("odd.sr", samples.astype("<u2").tobytes() + b"\\0", 2)
 write("none.sr", b"", names=[])
+write("half.sr", one, 1.5)
 with zipfile.ZipFile(folder / "other.sr", "w") as archive:
     archive.writestr("version", "2")
 (folder / "plain.bin").write_bytes(one)
@@ -56,9 +56,9 @@ askPython(WRITE, folder, `${TOP}scripts`);
 
 const WIRES = ["TXC", "TXD", "RXC", "RXD"];
 
-async function readBy(file, channels, inverted = 0) {
-  const session = await sessionOf(file);
-  return ran(session.pieces(() => undefined), { form: "session", channels, session, inverted });
+async function readBy(file, channels) {
+  const samples = await sessionOf(file);
+  return taken(samples.pieces(() => undefined), { form: "session", channels, samples });
 }
 
 const SESSIONS = [
@@ -75,7 +75,7 @@ const SESSIONS = [
 /** What is read of the samples themselves, whose channels have these names. */
 function readPlain(channels) {
   const samples = { names: [...WIRES, ...["4", "5", "6", "7"]], width: 1, ticks: 4_000_000 };
-  return ran([readFileSync(join(folder, "plain.bin"))], { form: "binary", channels, samples });
+  return taken([readFileSync(join(folder, "plain.bin"))], { form: "binary", channels, samples });
 }
 
 for (const [name, channels] of SESSIONS) {
@@ -83,19 +83,11 @@ for (const [name, channels] of SESSIONS) {
     const got = await readBy(await openAsBlob(join(folder, name)), channels);
     const wanted = await readPlain(channels);
     if (channels.includes("nothing")) {
-      const known = "no channel has the name nothing; there are: TXC, TXD, RXC, RXD";
-      assert.deepEqual(got, { stdout: "", stderr: `recording-to-bits: ${known}\n`, status: 2 });
+      assert.deepEqual(got, { bits: "", fault: "no channel has the name nothing; there are: TXC, TXD, RXC, RXD" });
     } else {
       assert.deepEqual(got, wanted);
-      assert.ok(got.stdout.length > 100);
+      assert.ok(got.bits.length > 100);
     }
-  });
-}
-
-for (const [channels, inverted] of [[WIRES, 3], [["TXC", "TXD", "RXD"], 3], [["RXC", "RXD"], 1]]) {
-  test(`data that is inverted, read as it should be: ${channels.join(" ")}`, async () => {
-    const [plain, turned] = await Promise.all(["plain.sr", "turned.sr"].map((name) => openAsBlob(join(folder, name))));
-    assert.deepEqual(await readBy(turned, channels, inverted), await readBy(plain, channels));
   });
 }
 
@@ -121,10 +113,19 @@ function spoilt() {
   return octets;
 }
 
+/** A session with a name that ends beyond the table of the archive's files. */
+function longName() {
+  const octets = Buffer.from(whole);
+  octets.writeUInt16LE(0xffff, octets.lastIndexOf("PK\x01\x02") + 28);
+  return octets;
+}
+
 const FAULTS = [
   ["cut off", whole.subarray(0, whole.length >> 1), /^the archive is cut off/],
   ["with damaged samples", spoilt(), /in the archive is damaged$/],
+  ["with a name of any length", longName(), /^the table of the archive's files is damaged$/],
   ["without metadata", readFileSync(join(folder, "other.sr")), /no session of PulseView: it has no metadata$/],
+  ["with samples of half an octet more", readFileSync(join(folder, "half.sr")), /^the session has no logic channels/],
   ["without channels", readFileSync(join(folder, "none.sr")), /^the session has no logic channels/],
   ["an archive that is empty", Buffer.concat([Buffer.from("PK\x05\x06"), Buffer.alloc(18)]), /it has no metadata$/],
 ];
@@ -132,17 +133,17 @@ const FAULTS = [
 for (const [name, octets, wanted] of FAULTS) {
   test(`a session ${name}`, async () => {
     const told = async () => {
-      const { stderr, status } = await readBy(new Blob([octets]), WIRES);
-      if (status !== 0) throw new Fault(stderr.trim().replace(/^recording-to-bits: /, ""));
+      const { fault } = await readBy(new Blob([octets]), WIRES);
+      throw new Fault(fault);
     };
     await assert.rejects(told, (fault) => fault instanceof Fault && wanted.test(fault.message));
   });
 }
 
 test("a session that ends within a sample gives what stands before", async () => {
-  const { stdout, stderr } = await readBy(await openAsBlob(join(folder, "odd.sr")), WIRES);
-  assert.equal(stderr, "recording-to-bits: the recording ends within a sample of 2 octets\n");
-  assert.equal(stdout, "", "as with the script, the last part that was read is not given");
+  const got = await readBy(await openAsBlob(join(folder, "odd.sr")), WIRES);
+  const { bits } = await readPlain(WIRES);
+  assert.deepEqual(got, { bits, fault: "the recording ends within a sample of 2 octets" });
 });
 
 const HAS_SIGROK = spawnSync("sigrok-cli", ["--version"]).status === 0;
@@ -153,6 +154,6 @@ test("a session that sigrok-cli writes", { skip: HAS_SIGROK ? false : "no sigrok
   execFileSync("sigrok-cli", ["-i", samples, "-I", "binary:numchannels=4:samplerate=1000000", "-o", session]);
   const got = await readBy(await openAsBlob(session), ["0", "1"]);
   const names = Array.from({ length: 8 }, (_, at) => String(at));
-  const wanted = await ran([readFileSync(samples)], { form: "binary", channels: ["0", "1"], samples: { names, width: 1, ticks: 1e6 } });
+  const wanted = await taken([readFileSync(samples)], { form: "binary", channels: ["0", "1"], samples: { names, width: 1, ticks: 1e6 } });
   assert.deepEqual(got, wanted);
 });

@@ -1,6 +1,8 @@
-"""Small recordings, written by hand: heads, names, times, cells and words of every kind, and faults of each."""
+"""Writes small recordings: heads, names, times, cells and words of every kind, by hand, and faults of each."""
 
+import json
 import random
+import sys
 from typing import Iterator, List, NamedTuple, Sequence, Tuple
 
 BITS = "0111111000010110111110"
@@ -83,7 +85,6 @@ DEFINITIONS = [
 
 CHANGES = "#0 0! 0\" #10 1! #20 0! 1\" #30 1! #40 0! #50 1! #60 0! 0\" #70 1! #80 0!"
 
-# The data has a pulse that is too short, so that a time is told.
 LONG_CHANGES = " ".join(
     word + "0" * 13 if word[0] == "#" else word
     for word in f'{CHANGES} #81 1" #82 0" #90 1! #100 0!'.split(" ")
@@ -102,7 +103,6 @@ def dump(scale: str, definitions: str, changes: str, channels: Sequence[str] = (
 def tables() -> Iterator[Text]:
     yield from (table(head) for head in HEADS)
     yield from (table(head, []) for head in HEADS)
-    # With a pulse of the data that is too short, so that a time is told.
     rows = [f"{8 * at},{levels}" for at, levels in enumerate(LEVELS)] + ["352,0,1", "353,0,0", "354,0,1", "360,1,1"]
     yield from (table(f"{unit},a,b\n", rows) for unit in UNITS)
     long = [f"{time}{'0' * 9},{levels}" for time, _, levels in (row.partition(",") for row in rows)]
@@ -118,10 +118,6 @@ def tables() -> Iterator[Text]:
         yield table("a,b\n", rows)
         yield table("Time [s],a,b\n", [f"1,{row}" for row in rows])
         yield table("Time [s],a,b\n", ["1,,", "2,,", "3,", "4", *rows])
-    # Times that are told with an exact half of their last decimal.
-    for begin in range(4):
-        rows = ["0,1"] * begin + ["0,1", "1,1"] * 60 + ["1,1", "0,1", "1,1", "1,0"] * 3
-        yield table("; Samplerate: 128\na,b\n", rows)
 
 
 def dumps() -> Iterator[Text]:
@@ -158,45 +154,10 @@ def spoilt(octets: bytes, generator: random.Random) -> bytes:
     return bytes(spoiling)
 
 
-def runs(generator: random.Random, count: int, lengths: Sequence[int]) -> str:
-    """Levels of a channel, in turn low and high for some samples."""
-    texts = [str(at % 2) * generator.choice(lengths) for at in range(count)]
-    return "".join(texts)[:count]
-
-
-def pulses(count: int) -> Iterator[Text]:
-    """Clocks of sixteen samples a bit whose pulses have all lengths near those that are told apart."""
-    for seed in range(count):
-        generator = random.Random(seed)
-        clocks = [[8] * 40 + some for some in ([], [1, 2, 2, 3, 4, 4], [8, 16, 17, 5, 10], [12, 20, 24, 25, 100])]
-        first, second = (runs(generator, 1200, generator.choice(clocks)) for _ in range(2))
-        data = [runs(generator, 1200, generator.choice([[16, 32, 48], [8, 16, 7], [112, 32, 320]])) for _ in range(2)]
-        rows = [",".join(levels) for levels in zip(first, data[0], second, data[1])]
-        yield table("; Samplerate: 16 Hz\na,b,c,d\n", rows, ("a", "b", "c", "d") if seed % 4 else ("a", "b", "d"))
-
-
-def small_periods() -> Iterator[Text]:
-    """Clocks of two to four samples a bit."""
-    for seed in range(20):
-        generator = random.Random(seed)
-        clocks = [runs(generator, 400, generator.choice([[1], [1, 1, 1, 2], [1, 2], [2, 2, 2, 3]])) for _ in range(2)]
-        data = [runs(generator, 400, [2, 4, 14, 60]) for _ in range(2)]
-        rows = [",".join(levels) for levels in zip(clocks[0], data[0], clocks[1], data[1])]
-        yield table("a,b,c,d\n", rows[: generator.randrange(300, 400)], ("a", "b", "c", "d"))
-
-
-def gaps() -> Iterator[Text]:
-    """The first clock stops, and its data has no level for a while, or for all of that."""
-    for unknown in (0, 20, 40, 60):
-        bit = [f"{clock},1,{clock},{data}" for data in (1, 0, 1) for clock in (0, 1) for _ in range(8)]
-        gap = [f"0,{'x' if abs(at - 30) < unknown / 2 else int(at > 30)},0,1" for at in range(60)]
-        yield table("; Samplerate: 1 kHz\na,b,c,d\n", [*bit * 30, *gap, *bit * 30], ("a", "b", "c", "d"))
-
-
-def texts(is_all: bool) -> Iterator[Text]:
-    yield from small_periods()
-    yield from gaps()
+def texts() -> Iterator[Text]:
     yield from tables()
     yield from dumps()
-    yield from pulses(1000 if is_all else 40)
-    yield from broken(5000 if is_all else 300)
+    yield from broken(300)
+
+
+json.dump([[form, octets.decode("latin-1"), channels] for form, octets, channels in texts()], sys.stdout)

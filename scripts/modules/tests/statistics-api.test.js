@@ -7,8 +7,10 @@ import { Bus } from "../statistics/bus.js";
 import { damageOf } from "../statistics/damage.js";
 import { repliesOf } from "../statistics/replies.js";
 import { report } from "../statistics/report.js";
-import { allIsWell, headLine, unknown, wrong } from "../statistics/sentences.js";
+import { headLine } from "../statistics/sentences.js";
 import { tableOf } from "../statistics/table.js";
+import { verdictOf } from "../statistics/verdict.js";
+import { wrong } from "../statistics/wrong.js";
 import { rowsOf } from "./support/listing.js";
 import { madeListing } from "./support/made_listing.js";
 
@@ -44,11 +46,11 @@ const LISTING =
 test("what is wrong, without numbers and unwrapped", () => {
   const bus = busOf(LISTING);
   assert.deepEqual(textsOf(wrong(bus)), [
-    "Station 16 gave no answer to 1 of 4 commands of type 0 (call) at 0.030 s.",
-    "Station 16 answered 1 of 4 commands of type 0 (call) late: after 2.6 ms; in time after 0.65 ms.",
+    "Station 16 gave no answer to 1 of 4 commands of type 0 (call), at 0.030 s.",
+    "Station 16 answered 1 of 4 commands of type 0 (call) late, at 0.010 s: after 2.6 ms; in time after 0.65 ms.",
     "1 piece is damaged; see below.",
   ]);
-  assert.deepEqual(unknown(bus), []);
+  assert.deepEqual(verdictOf(bus).lacks, []);
   assert.equal(headLine(bus), "0.030 s of two lines at 153600 bits a second: 7 frames, 1 damaged piece.");
 });
 
@@ -71,7 +73,8 @@ test("where nothing is wrong, that and the doubts are said", () => {
   const said = (listing) => {
     const bus = busOf(listing);
     assert.deepEqual(wrong(bus), []);
-    return [...allIsWell(bus), ...textsOf(unknown(bus))];
+    const { well, lacks, notes } = verdictOf(bus);
+    return [...well, ...textsOf([...lacks, ...notes])];
   };
   assert.deepEqual(said(""), ["The listing is empty: nothing is known of the bus. Where a fault was told, mend that first."]);
   assert.deepEqual(said("8 49 frame 108300fde5\n"), [
@@ -79,7 +82,8 @@ test("where nothing is wrong, that and the doubts are said", () => {
     "The listing was made without a dictionary: which commands were answered, and when, is not known.",
   ]);
   assert.deepEqual(said(exchange(8, 100, "answered") + verdict("pending", 900)), [
-    "Nothing is wrong: nothing is damaged, missing, spoilt or late, and no gap between commands stands out.",
+    "Nothing is damaged, missing or spoilt, and no gap between commands stands out.",
+    "Whether any reply could be judged late is not known: name the dictionary with --dictionary FILE.",
     "1 command at the end still waits for an answer.",
   ]);
 });

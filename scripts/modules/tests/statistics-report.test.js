@@ -31,9 +31,9 @@ function madeCases(first, count) {
 
 test("random listings of one line and of two, at several rates", () => {
   const wanted = compareReports("reports", madeCases(1, 400));
-  const words = ["are lacking", "is silent", "but others", "in a row from", "late: after", "may have been spoilt"];
+  const words = ["are lacking", "is silent", "but others", "in a row from", "s: after", "may have been spoilt"];
   words.push("of another length", "a type that it lacks", "Most of it lies here", "spread over the time");
-  words.push("lines exchanged", "more of this sort", "In place of the answer", "Nothing is wrong", "is empty");
+  words.push("lines exchanged", "more of this sort", "In place of the answer", "Nothing is damaged", "is empty");
   for (const word of words) {
     assert.ok(wanted.includes(word), `no listing of which the report says: ${word}`);
   }

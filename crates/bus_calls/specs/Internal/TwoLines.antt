@@ -1,9 +1,7 @@
 -- What the proofs know of two lines.
-use Rattle.std.specs.Prelude.{ℕ, ◌<◌, ◌^◌, Bool}
+use Rattle.std.specs.Prelude.{ℕ, Bool}
 use Rattle.bus_bits.specs.Packed.{PairsAfter, pair_head_fault}
-use Rattle.bus_bits.specs.declared.format.pair_words.PairWords.{PairWords}
 use Rattle.bus_fcs.specs.Check.{CheckView}
-use Rattle.bus_pairing.specs.LineReport.{pairs_of}
 use Rattle.bus_watch.specs.Pairs as pairs
 use Rattle.bus_watch.specs.Pairs.{PairState}
 use Rattle.bus_calls.specs.Captures.{form_of_two}

@@ -1,7 +1,10 @@
 -- A sampler's fields, as they are seen, and a channel with one sample more.
-use Rattle.std.specs.Prelude.{ℕ, ◌+◌, ◌≤◌, ◌==◌, Bool, if◌then◌else◌}
+use Rattle.std.specs.Prelude.{◌≡◌, ℕ, ◌+◌, ◌≤◌, ◌==◌, Bool, None, if◌then◌else◌}
 use Rattle.std.specs.Bool.{beq}
-use Rattle.bus_clocks.specs.Sampled.{HeldState, SamplerState}
+use Rattle.bus_clocks.specs.Sampled.{Channel, HeldState, SamplerState, clock_of, data_of}
+use Rattle.bus_pairing.specs.declared.line.Line.{Line}
+use Rattle.bus_pairing.specs.declared.line.Line.TheVariants.{First, Second}
+use Rattle.bus_clocks.specs.declared.sampler.Edges.{Edges}
 use Rattle.bus_clocks.specs.declared.sampler.HeldLevel.{HeldLevel}
 use Rattle.bus_clocks.specs.declared.sampler.Sampler.TheInside.{Inside}
 
@@ -30,3 +33,27 @@ next_state hold h sample =
     if beq sample h.level then record { level = sample; others = 0 } else
     (if h.others == hold then record { level = sample; others = 0 } else
     record { level = h.level; others = h.others + 1 })
+
+-- the channels of a line, as they are kept
+abbrev pub clock_state : SamplerState → Line → HeldState
+clock_state s First = s.first_clock
+clock_state s Second = s.second_clock
+
+abbrev pub data_state : SamplerState → Line → HeldState
+data_state s First = s.first_bits
+data_state s Second = s.second_bits
+
+-- no bit arrives
+abbrev pub no_edges : Edges
+no_edges = record { first = None; second = None }
+
+-- a channel has the level that it has in this sample, and no other is waited for
+abbrev pub IsHeldAt : Channel → HeldState → ℕ → Type 0
+IsHeldAt channel h sample = h ≡ record { level = channel sample; others = 0 }
+
+-- so have all four
+pub record IsSettled (s : SamplerState) (sample : ℕ) : Type 0 where
+  pub first_clock : IsHeldAt (clock_of First) s.first_clock sample
+  pub first_bits : IsHeldAt (data_of First) s.first_bits sample
+  pub second_clock : IsHeldAt (clock_of Second) s.second_clock sample
+  pub second_bits : IsHeldAt (data_of Second) s.second_bits sample

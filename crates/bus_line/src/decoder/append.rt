@@ -13,9 +13,10 @@ use std::cmp::min;
 impl DecoderWords {
     ghost use Rattle.bus_line.specs.Words.{IsDecoder, state};
     ghost use Rattle.bus_line.specs.Internal.Tracks.{Holds};
-    ghost use Rattle.bus_line.specs.Internal.Settled.{AppendsBits, HoldsOctets, StoresOctets, low_octets};
+    ghost use Rattle.bus_line.specs.Internal.Settled.{AppendsBits, HoldsOctets};
 
-    /// Appends data bits to the piece. Its first bits empty the frame buffer.
+    /// Appends data bits to the piece, and stores and folds the octets that they fill, as many as there is room for.
+    /// The first bits of a piece empty the frame buffer.
     #[inline(always)]
     pub(crate) fn append<C: Check, F: FrameBuffer>(
         &mut self,
@@ -30,48 +31,12 @@ impl DecoderWords {
         ensures sound { IsDecoder self.new (F.octets frame.new) }
     {
         let held = self.data_bits % 8;
-        let whole = (held + more.count) / 8;
+        let count = (held + more.count) / 8;
         let joined = self.partial | more.bits << held;
         self.begin(check, frame);
         self.assembled += more.count;
         self.data_bits += more.count;
-        self.partial = joined >> (8 * whole);
-        self.store(check, frame, joined, whole);
-    }
-
-    /// Empties the frame buffer, and begins its check, where no octet of the piece is there yet.
-    #[inline(always)]
-    fn begin<C: Check, F: FrameBuffer>(&self, check: &mut C, frame: &mut F)
-        requires sound { IsDecoder self.now (F.octets frame.old) }
-        ensures keeps { (bits : List Bool) → Holds C.check.folded (state self.now check.old (F.octets frame.old)) bits →
-            HoldsOctets C.check.folded (state self.now check.new (F.octets frame.new)) (octets bits) }
-        ensures sound { IsDecoder self.now (F.octets frame.new) }
-    {
-        if self.data_bits >= 8 {
-            return;
-        }
-        frame.clear();
-        *check = C::fresh();
-    }
-
-    /// Puts the lowest `count` octets of a number into the frame buffer and its check, as many as there is
-    /// room for.
-    #[inline(always)]
-    fn store<C: Check, F: FrameBuffer>(
-        &mut self,
-        check: &mut C,
-        frame: &mut F,
-        joined: u64,
-        count: u64,
-    )
-        requires sound { IsDecoder self.old (F.octets frame.old) }
-        requires few { count ≤ 7 }
-        requires room { self.old.stored + count ≤ self.old.assembled }
-        ensures stores { StoresOctets C.check (state self.old check.old (F.octets frame.old)) (low_octets count joined)
-            (state self.new check.new (F.octets frame.new)) }
-        ensures kept { self.new ≡ record self.old { folded = self.new.folded; stored = self.new.stored } }
-        ensures sound { IsDecoder self.new (F.octets frame.new) }
-    {
+        self.partial = joined >> (8 * count);
         let room = self.longest + 2 - frame.len() as u64;
         let stored = min(count, room);
         let mut spent = Spent {
@@ -87,5 +52,20 @@ impl DecoderWords {
         }
         self.folded = spent.folded;
         self.stored += stored;
+    }
+
+    /// Empties the frame buffer, and begins its check, where no octet of the piece is there yet.
+    #[inline(always)]
+    fn begin<C: Check, F: FrameBuffer>(&self, check: &mut C, frame: &mut F)
+        requires sound { IsDecoder self.now (F.octets frame.old) }
+        ensures keeps { (bits : List Bool) → Holds C.check.folded (state self.now check.old (F.octets frame.old)) bits →
+            HoldsOctets C.check.folded (state self.now check.new (F.octets frame.new)) (octets bits) }
+        ensures sound { IsDecoder self.now (F.octets frame.new) }
+    {
+        if self.data_bits >= 8 {
+            return;
+        }
+        frame.clear();
+        *check = C::fresh();
     }
 }

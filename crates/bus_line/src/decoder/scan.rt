@@ -8,6 +8,7 @@ ghost use Rattle.bus_bits.specs.Limits.{most_places};
 ghost use Rattle.bus_bits.specs.Octet.{bits_of};
 
 use crate::consumed::Consumed;
+use crate::decoder::stop::Stopped;
 use crate::decoder::time_fill::{flags_end, ones_end};
 use crate::decoder_words::{DecoderWords, NEVER, PLACES};
 use crate::frame_buffer::FrameBuffer;
@@ -19,6 +20,7 @@ use std::cmp::min;
 impl DecoderWords {
     ghost use Rattle.bus_line.specs.Words.{HasBits, IsDecoder, AreDecoderWords, state};
     ghost use Rattle.bus_line.specs.After.{AdvancesWith, Decides};
+    ghost use Rattle.bus_line.specs.Internal.RunsTo.{RunsToStop};
     ghost use Rattle.bus_line.specs.Internal.Flags.{SkipsFlags};
     ghost use Rattle.bus_line.specs.Internal.TimeFill.{SkipsOnes, AreFlags};
 
@@ -51,117 +53,62 @@ impl DecoderWords {
             return Err(PlaceLimit);
         }
         let count = min((end - at) as u64, room) as usize;
-        Ok(self.scan_all(check, frame, octets, at, at + count))
-    }
-
-    /// Takes bits up to the first that decides a report, or all, which have places.
-    #[inline(always)]
-    fn scan_all<C: Check, F: FrameBuffer>(
-        &mut self,
-        check: &mut C,
-        frame: &mut F,
-        octets: &[u8],
-        from: usize,
-        end: usize,
-    ) -> Consumed
-        requires sound { IsDecoder self.old (F.octets frame.old) }
-        requires bits { HasBits self.old octets.now from end }
-        ensures count { (1 ≤ result.count) × (result.count ≤ end - from) }
-        ensures all { result.event ≡ None → result.count ≡ end - from }
-        ensures advances { AdvancesWith C.check (state self.old check.old (F.octets frame.old))
-            (bits_from octets.now from result.count) result.event (state self.new check.new (F.octets frame.new)) }
-        ensures sound { IsDecoder self.new (F.octets frame.new) }
-    {
-        let mut at = from;
-        while at < end {
-            let scanned = self.scan_some(check, frame, octets, at, end);
-            at += scanned.count;
-            if scanned.event.is_some() {
-                return Consumed {
-                    count: at - from,
-                    event: scanned.event,
-                };
+        let past = at + count;
+        let mut reached = at;
+        while reached < past {
+            let run = self.run(check, frame, octets, reached, past);
+            reached += run.count;
+            if !run.is_stop {
+                continue;
+            }
+            let event = self.decide(check);
+            if event.is_some() {
+                return Ok(Consumed {
+                    count: reached - at,
+                    event,
+                });
             }
         }
-        Consumed {
-            count: end - from,
-            event: None,
-        }
+        Ok(Consumed { count, event: None })
     }
 
-    /// Takes bits up to the first that may decide a report: those of a piece by strides of 56, time fill as far as it
-    /// goes, and else up to 48.
+    /// Takes time fill as far as it goes, and else up to 48 bits, or those of them up to the first that may decide a
+    /// report.
     #[inline(always)]
-    pub(crate) fn scan_some<C: Check, F: FrameBuffer>(
+    pub(crate) fn run_fill<C: Check, F: FrameBuffer>(
         &mut self,
         check: &mut C,
         frame: &mut F,
         octets: &[u8],
         from: usize,
         end: usize,
-    ) -> Consumed
+    ) -> Stopped
         requires sound { IsDecoder self.old (F.octets frame.old) }
         requires bits { HasBits self.old octets.now from end }
         ensures count { (1 ≤ result.count) × (result.count ≤ end - from) }
-        ensures advances { AdvancesWith C.check (state self.old check.old (F.octets frame.old))
-            (bits_from octets.now from result.count) result.event (state self.new check.new (F.octets frame.new)) }
+        ensures reaches { RunsToStop C.check (state self.old check.old (F.octets frame.old))
+            (bits_from octets.now from result.count) result.is_stop (state self.new check.new (F.octets frame.new)) }
         ensures sound { IsDecoder self.new (F.octets frame.new) }
     {
-        if end - from < 64 {
-            return self.advance(check, frame, word_at(octets, from, end));
-        }
-        if self.begins_piece(octets, from) {
-            return self.scan_piece(check, frame, octets, from, end);
-        }
         let past = self.skip_time_fill::<C>(octets, from, end);
         if past == from {
-            return self.advance(check, frame, word_at(octets, from, end));
+            return self.run_word(check, frame, word_at(octets, from, end));
         }
-        Consumed {
+        Stopped {
             count: past - from,
-            event: None,
+            is_stop: false,
         }
     }
 
     /// Whether the last mark is a flag that no other follows directly. Between two such flags there is no piece
     /// (ISO/IEC 13239, interframe time fill).
     #[inline(always)]
-    fn begins_piece(&self, octets: &[u8], from: usize) -> bool
+    pub(crate) fn begins_piece(&self, octets: &[u8], from: usize) -> bool
         requires within { AreDecoderWords self.now }
         requires enough { from + 64 ≤ 8 * length octets.now }
     {
         self.settles_at < self.place + 8
             || self.settles_at == self.place + 8 && seven_octets_at(octets, from) & 0xff != 0x7e
-    }
-
-    /// Takes bits of the piece that the last flag opens.
-    #[inline(always)]
-    fn scan_piece<C: Check, F: FrameBuffer>(
-        &mut self,
-        check: &mut C,
-        frame: &mut F,
-        octets: &[u8],
-        from: usize,
-        end: usize,
-    ) -> Consumed
-        requires sound { IsDecoder self.old (F.octets frame.old) }
-        requires long { from + 64 ≤ end }
-        requires bits { HasBits self.old octets.now from end }
-        ensures count { (1 ≤ result.count) × (result.count ≤ end - from) }
-        ensures advances { AdvancesWith C.check (state self.old check.old (F.octets frame.old))
-            (bits_from octets.now from result.count) result.event (state self.new check.new (F.octets frame.new)) }
-        ensures sound { IsDecoder self.new (F.octets frame.new) }
-    {
-        let reached = self.run_to_stop(check, frame, octets, from, end);
-        let event = if reached.is_stop {
-            self.decide(check)
-        } else {
-            None
-        };
-        Consumed {
-            count: reached.count,
-            event,
-        }
     }
 
     /// Takes time fill, 56 bits at a time where 64 are left: ones where no piece is open, or flags after a flag.

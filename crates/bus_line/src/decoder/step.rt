@@ -6,9 +6,8 @@ ghost use Rattle.bus_bits.specs.Limits.{most_places};
 ghost use Rattle.bus_bits.specs.Octet.{bits_of};
 ghost use Rattle.bus_bits.specs.Word.{IsWordOf};
 
-use crate::consumed::Consumed;
 use crate::decoder::settled::data_in_word;
-use crate::decoder::stop::bits_before_stop;
+use crate::decoder::stop::{Stopped, up_to_stop};
 use crate::decoder_words::{DecoderWords, PLACES};
 use crate::event::Event;
 use crate::frame_buffer::FrameBuffer;
@@ -36,7 +35,7 @@ fn newest(last_bits: u64, bits: u64, count: u64) -> u64
 impl DecoderWords {
     ghost use Rattle.bus_line.specs.Words.{IsDecoder, AreDecoderWords, state};
     ghost use Rattle.bus_line.specs.After.{AdvancesWith};
-    ghost use Rattle.bus_line.specs.Internal.RunsTo.{ConsumesBits};
+    ghost use Rattle.bus_line.specs.Internal.RunsTo.{ConsumesBits, RunsToStop};
 
     /// Takes a bit as [`LineDecoder::push`](crate::LineDecoder::push) does, with the octets of the piece and their
     /// check in the caller's hands. Returns the report that it decides, if it decides one.
@@ -63,37 +62,25 @@ impl DecoderWords {
         Ok(self.decide(check))
     }
 
-    /// Takes the bits of a word up to the first after exactly six ones or exactly fourteen, or all of them, and
-    /// returns what the last of them decides.
+    /// Takes the bits of a word up to the first after exactly six ones or exactly fourteen, or all of them.
     #[inline(never)]
-    pub(crate) fn advance<C: Check, F: FrameBuffer>(
+    pub(crate) fn run_word<C: Check, F: FrameBuffer>(
         &mut self,
         check: &mut C,
         frame: &mut F,
         word: Word,
-    ) -> Consumed
+    ) -> Stopped
         requires sound { IsDecoder self.old (F.octets frame.old) }
         requires word { IsWordOf word.count word.bits }
         requires room { self.old.place + word.count ≤ most_places }
         ensures count { (1 ≤ result.count) × (result.count ≤ word.count) }
-        ensures advances { AdvancesWith C.check (state self.old check.old (F.octets frame.old))
-            (bits_of result.count word.bits) result.event (state self.new check.new (F.octets frame.new)) }
+        ensures reaches { RunsToStop C.check (state self.old check.old (F.octets frame.old))
+            (bits_of result.count word.bits) result.is_stop (state self.new check.new (F.octets frame.new)) }
         ensures sound { IsDecoder self.new (F.octets frame.new) }
     {
-        let Word { bits, count } = word;
-        let before = bits_before_stop(self.last_bits | bits << 16, count);
-        let taken = min(before + 1, count);
-        self.consume(check, frame, bits, u64::from(taken));
-        if before == count {
-            return Consumed {
-                count: count as usize,
-                event: None,
-            };
-        }
-        Consumed {
-            count: taken as usize,
-            event: self.decide(check),
-        }
+        let run = up_to_stop(self.last_bits | word.bits << 16, word.count);
+        self.consume(check, frame, word.bits, run.count as u64);
+        run
     }
 
     /// Takes so many of these bits, the lowest, of which none but the last may decide a report, and settles those that

@@ -1,13 +1,12 @@
 //! Bits that decide nothing, 56 at a time.
 
-ghost use Rattle.std.specs.Prelude.{◌≡◌, ◌≢◌, ◌+◌, ◌-◌, ◌*◌, ◌/◌, ◌%◌, ◌≤◌, ◌<◌, ◌^◌, false, true, length, ℕ};
+ghost use Rattle.std.specs.Prelude.{◌≡◌, ◌+◌, ◌-◌, ◌*◌, ◌/◌, ◌%◌, ◌≤◌, ◌<◌, ◌^◌, true, length};
 ghost use Rattle.std.specs.Prelude.{replicate};
 ghost use Rattle.bus_bits.specs.Bits.{bits_from};
 ghost use Rattle.bus_bits.specs.Octet.{bits_of};
 ghost use Rattle.bus_line.specs.Internal.Flags.{flags};
 ghost use Rattle.bus_line.specs.Internal.TimeFill.{AreFlags};
 
-use crate::decoder::piece::Stopped;
 use bus_bits::seven_octets_at;
 use std::cmp::min;
 
@@ -16,32 +15,6 @@ const ONES: u64 = 0xffff_ffff_ffff_ff00;
 
 /// Seven flags in a row, after eight 0s.
 const SEVEN_FLAGS: u64 = 0x7e7e_7e7e_7e7e_7e00;
-
-/// Where six ones may begin that end before one of 56 bits after eight others.
-const SIXES: u64 = 0x03ff_ffff_ffff_fffc;
-
-/// How many of the 56 bits after the eight lowest of the word there are up to the first before which six ones end, and
-/// that one; all of them, if there is none.
-#[inline(always)]
-pub(crate) fn up_to_six(word: u64) -> Stopped
-    ensures count { (1 ≤ result.count) × (result.count ≤ 56) }
-    ensures before { (i : ℕ) → i + 1 < result.count → word / 2 ^ (2 + i) % 64 ≢ 63 }
-    ensures none { result.is_stop ≡ false → (result.count ≡ 56) × ((i : ℕ) → i < 56 → word / 2 ^ (2 + i) % 64 ≢ 63) }
-{
-    let two = word & word >> 1;
-    let four = two & two >> 2;
-    let six = four & two >> 4 & SIXES;
-    if six == 0 {
-        return Stopped {
-            count: 56,
-            is_stop: false,
-        };
-    }
-    Stopped {
-        count: six.trailing_zeros() as usize - 1,
-        is_stop: true,
-    }
-}
 
 /// Where ones end that are looked for 56 at a time, and not in the last 63 bits. A call for each row
 /// of them costs nothing beside it, and its caller stays small enough to be inlined.

@@ -1,5 +1,7 @@
 // Numbers, truth values, dates and times of TOML.
 
+/** @typedef {import("./source.js").Source} Source */
+
 const NUMBER = new RegExp(
   "0(?:x[0-9A-Fa-f](?:_?[0-9A-Fa-f])*|b[01](?:_?[01])*|o[0-7](?:_?[0-7])*)" +
     "|[+-]?(?:0|[1-9](?:_?[0-9])*)((?:\\.[0-9](?:_?[0-9])*)?(?:[eE][+-]?[0-9](?:_?[0-9])*)?)",
@@ -29,12 +31,16 @@ export class DateTime {
   }
 }
 
+/** @param {number} year @param {number} month */
 function daysIn(year, month) {
   const isLeap = year % 4 === 0 && (year % 100 !== 0 || year % 400 === 0);
   return [31, isLeap ? 29 : 28, 31, 30, 31, 30, 31, 31, 30, 31, 30, 31][month - 1];
 }
 
-/** A date, with a time and an offset or without. */
+/**
+ * A date, with a time and an offset or without.
+ * @param {Source} source
+ */
 function dateTime(source) {
   const begin = source.at;
   const found = source.match(DATE_TIME);
@@ -49,11 +55,13 @@ function dateTime(source) {
   return new DateTime(text);
 }
 
+/** @param {Source} source */
 function localTime(source) {
   const found = source.match(LOCAL_TIME);
   return found === null ? undefined : new DateTime(found[0]);
 }
 
+/** @param {Source} source @param {string} text */
 function integer(source, text) {
   const value = BigInt(text);
   if (value < LEAST_INTEGER || value >= -LEAST_INTEGER) {
@@ -62,6 +70,7 @@ function integer(source, text) {
   return value;
 }
 
+/** @param {Source} source @param {string} text */
 function float(source, text) {
   const value = Number(text);
   if (!Number.isFinite(value)) {
@@ -70,6 +79,7 @@ function float(source, text) {
   return value;
 }
 
+/** @param {Source} source */
 function number(source) {
   const found = source.match(NUMBER);
   if (found === null) {
@@ -79,6 +89,7 @@ function number(source) {
   return found[1] ? float(source, text) : integer(source, text);
 }
 
+/** @param {Source} source */
 function specialFloat(source) {
   const found = source.match(SPECIAL_FLOAT);
   if (found === null) {
@@ -87,6 +98,7 @@ function specialFloat(source) {
   return found[2] === "nan" ? NaN : Number(`${found[1]}Infinity`);
 }
 
+/** @param {Source} source */
 function truthValue(source) {
   if (source.takes("true")) {
     return true;
@@ -96,7 +108,7 @@ function truthValue(source) {
 
 /**
  * A truth value, a date or time, or a number: an integer is a BigInt, a float a number.
- * @param {import("./source.js").Source} source
+ * @param {Source} source
  * @returns {boolean|DateTime|bigint|number}
  */
 export function readScalar(source) {

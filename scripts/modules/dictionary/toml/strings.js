@@ -2,6 +2,8 @@
 
 import { MOST_KEY_PARTS } from "./source.js";
 
+/** @typedef {import("./source.js").Source} Source */
+
 const BARE = /[A-Za-z0-9_-]+/y;
 
 // What strings must not have in them, those of one line and those of several.
@@ -32,8 +34,10 @@ const HEX_DIGITS = new Map([
   ["U", 8],
 ]);
 
+/** @param {number} code */
 const isScalar = (code) => code < 0xd800 || (code > 0xdfff && code < 0x110000);
 
+/** @param {Source} source @param {number} count */
 function hexCharacter(source, count) {
   const digits = source.text.slice(source.at, source.at + count);
   if (digits.length !== count || !/^[0-9A-Fa-f]+$/.test(digits)) {
@@ -47,7 +51,10 @@ function hexCharacter(source, count) {
   return String.fromCodePoint(code);
 }
 
-/** Goes from a backslash before the end of a line to the next text. */
+/**
+ * Goes from a backslash before the end of a line to the next text.
+ * @param {Source} source
+ */
 function cutLine(source) {
   source.match(CUT_SPACES);
   if (source.next() !== "\n" && source.next() !== "") {
@@ -57,7 +64,11 @@ function cutLine(source) {
   return "";
 }
 
-/** What a backslash and the characters after it stand for. */
+/**
+ * What a backslash and the characters after it stand for.
+ * @param {Source} source
+ * @param {boolean} isOfLines
+ */
 function escape(source, isOfLines) {
   const letter = source.text.charAt(source.at + 1);
   if (isOfLines && letter !== "" && " \t\n".includes(letter)) {
@@ -76,11 +87,15 @@ function escape(source, isOfLines) {
   return character;
 }
 
-/** A basic string after its first quotes, up to its last ones. */
+/**
+ * A basic string after its first quotes, up to its last ones.
+ * @param {Source} source
+ * @param {boolean} isOfLines
+ */
 function basicBody(source, isOfLines) {
   let text = "";
   for (;;) {
-    text += source.match(isOfLines ? PLAIN_WITH_ENDS : PLAIN)[0];
+    text += /** @type {RegExpExecArray} */ (source.match(isOfLines ? PLAIN_WITH_ENDS : PLAIN))[0];
     if (source.takes(isOfLines ? '"""' : '"')) {
       return text;
     }
@@ -94,6 +109,7 @@ function basicBody(source, isOfLines) {
   }
 }
 
+/** @param {Source} source */
 function lineString(source) {
   if (source.takes('"')) {
     return basicBody(source, false);
@@ -104,7 +120,11 @@ function lineString(source) {
   return text;
 }
 
-/** A string of several lines; up to two quotes may stand right before the three that end it. */
+/**
+ * A string of several lines; up to two quotes may stand right before the three that end it.
+ * @param {Source} source
+ * @param {string} mark
+ */
 function linesString(source, mark) {
   source.at += 3;
   source.takes("\n");
@@ -123,7 +143,7 @@ function linesString(source, mark) {
 
 /**
  * A string, at its first quote.
- * @param {import("./source.js").Source} source
+ * @param {Source} source
  * @returns {string}
  */
 export function readString(source) {
@@ -131,6 +151,7 @@ export function readString(source) {
   return source.startsWith(mark.repeat(3)) ? linesString(source, mark) : lineString(source);
 }
 
+/** @param {Source} source */
 function keyPart(source) {
   const bare = source.match(BARE);
   if (bare !== null) {
@@ -144,7 +165,7 @@ function keyPart(source) {
 
 /**
  * A key by its parts, and the spaces after it.
- * @param {import("./source.js").Source} source
+ * @param {Source} source
  * @returns {string[]}
  */
 export function readKey(source) {

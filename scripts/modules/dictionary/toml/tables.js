@@ -1,8 +1,16 @@
 // Which keys and heads of tables may stand after others.
 
-/** @typedef {Map<string, any>} Table */
+/** @typedef {import("./places.js").Place} Place */
 
-/** The last part of a key. @param {readonly string[]} key */
+/**
+ * A table, in the order of the text.
+ * @typedef {Map<string, unknown>} Table
+ */
+
+/**
+ * The last part of a key.
+ * @param {readonly string[]} key
+ */
 const lastOf = (key) => key[key.length - 1];
 
 // How a table came about: a head passed through it, dotted keys did, or a head named it; and an array of tables whose
@@ -12,6 +20,9 @@ const DOTTED = "dotted";
 const NAMED = "named";
 const ELEMENTS = "elements";
 
+/** @typedef {"passed"|"dotted"|"named"|"elements"} Origin */
+
+/** @param {unknown} value */
 const isCollection = (value) => value instanceof Map || Array.isArray(value);
 
 /** The tables of a document, or of an inline table, as they grow. */
@@ -21,12 +32,18 @@ export class Tables {
     this.source = source;
     /** @type {Table} */
     this.root = new Map();
-    /** @type {Map<Table|Table[], string>} */
+    /** @type {Map<unknown, Origin>} of tables, and of arrays of tables */
     this.origins = new Map();
   }
 
-  /** @returns {Table} a new table at a key */
+  /**
+   * A new table at a key.
+   * @param {Table} table
+   * @param {string} key
+   * @param {Origin} origin
+   */
   make(table, key, origin) {
+    /** @type {Table} */
     const made = new Map();
     table.set(key, made);
     this.origins.set(made, origin);
@@ -44,7 +61,7 @@ export class Tables {
   alongDots(section, head, parents, frozen) {
     let table = section;
     for (const [at, part] of parents.entries()) {
-      const found = table.get(part) ?? this.make(table, part, DOTTED);
+      const found = /** @type {Table} */ (table.get(part) ?? this.make(table, part, DOTTED));
       const origin = this.origins.get(found);
       if (origin === NAMED || origin === ELEMENTS) {
         throw this.source.fault(`Cannot redefine namespace ${[...head, ...parents.slice(0, at + 1)].join(".")}`);
@@ -58,7 +75,11 @@ export class Tables {
     return table;
   }
 
-  /** The fault where a value is in the way. */
+  /**
+   * The fault where a value is in the way.
+   * @param {unknown} value
+   * @param {readonly string[]} key
+   */
   inTheWay(value, key) {
     const isFrozen = isCollection(value);
     const frozen = `Cannot mutate immutable namespace ${key.join(".")}`;
@@ -100,7 +121,7 @@ export class Tables {
   /**
    * The table in which the last part of a head is, and where it stands.
    * @param {readonly string[]} parents
-   * @param {import("./places.js").Place} place of the document
+   * @param {Place} place of the document
    * @param {string} frozen what is said where a collection is in the way that is a value
    */
   alongHead(parents, place, frozen) {
@@ -111,9 +132,10 @@ export class Tables {
       if (origin === undefined) {
         throw this.source.fault(isCollection(found) ? frozen : "Cannot overwrite a value");
       }
+      const elements = /** @type {Table[]} */ (found);
       at = at.part(part);
-      at = origin === ELEMENTS ? at.part(found.length - 1) : at;
-      table = origin === ELEMENTS ? found[found.length - 1] : found;
+      at = origin === ELEMENTS ? at.part(elements.length - 1) : at;
+      table = origin === ELEMENTS ? elements[elements.length - 1] : /** @type {Table} */ (found);
     }
     return { table, at };
   }
@@ -121,14 +143,14 @@ export class Tables {
   /**
    * The table that a head names.
    * @param {readonly string[]} key
-   * @param {import("./places.js").Place} place of the document
+   * @param {Place} place of the document
    * @param {number} line
    */
   head(key, place, line) {
     const twice = `Cannot declare ${key.join(".")} twice`;
     const { table, at } = this.alongHead(key.slice(0, -1), place, twice);
     const last = lastOf(key);
-    const found = table.get(last) ?? this.make(table, last, PASSED);
+    const found = /** @type {Table} */ (table.get(last) ?? this.make(table, last, PASSED));
     if (this.origins.get(found) !== PASSED) {
       throw this.source.fault(isCollection(found) ? twice : "Cannot overwrite a value");
     }
@@ -141,7 +163,7 @@ export class Tables {
   /**
    * A new element of an array of tables.
    * @param {readonly string[]} key
-   * @param {import("./places.js").Place} place of the document
+   * @param {Place} place of the document
    * @param {number} line
    */
   element(key, place, line) {
@@ -152,12 +174,13 @@ export class Tables {
       table.set(last, []);
       this.origins.set(table.get(last), ELEMENTS);
     }
-    const found = table.get(last);
+    const found = /** @type {Table[]} */ (table.get(last));
     const origin = this.origins.get(found);
     if (origin !== ELEMENTS) {
       const isFrozen = isCollection(found) && origin === undefined;
       throw this.source.fault(isFrozen ? immutable : "Cannot overwrite a value");
     }
+    /** @type {Table} */
     const element = new Map();
     found.push(element);
     at.part(last).note(line);

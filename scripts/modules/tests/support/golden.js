@@ -9,7 +9,7 @@ const FILE = new URL("../golden.json", import.meta.url);
 const digestOf = (text) => createHash("sha256").update(text).digest("hex").slice(0, 12);
 
 /** What is kept by a name. @param {string} name @returns {string} */
-export const kept = (name) => JSON.parse(readFileSync(FILE, "utf8"))[name];
+const kept = (name) => JSON.parse(readFileSync(FILE, "utf8"))[name];
 
 /**
  * Compares texts with the digests of a name; with PORT1_KEEP=1 it keeps theirs.

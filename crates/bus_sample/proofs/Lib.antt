@@ -1,0 +1,7 @@
+pub mod MarksLemmas
+pub mod RecordLemmas
+pub mod RunLemmas
+pub mod ReadLemmas
+pub mod CloseLemmas
+pub mod AlikeLemmas
+pub mod ReadBackLemmas

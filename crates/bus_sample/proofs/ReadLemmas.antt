@@ -1,0 +1,145 @@
+-- A recording, with octets more.
+use Rattle.std.proofs.Common.{replicate, ◌≡◌, ℕ, ◌+◌, ◌-◌, ◌<◌, ◌≤◌, List, [], ◌∷◌, ◌++◌, length, take, drop, refl}
+use Rattle.std.proofs.Common.{sym, ap, ◌∙◌, arith}
+use Rattle.std.proofs.Common.{subst, append_assoc, length-append, Option, Result, Ok, Err, get_or}
+use Rattle.std.specs.Prelude.{MatchResult, slice_index}
+use Rattle.bus_text.proofs.KnownBytesLemmas.{take_both}
+use Rattle.std.proofs.lemmas.List.{get_or-drop}
+use Rattle.std.proofs.lemmas.Grind.{common_steps}
+use Rattle.std.specs.Io.KnownBytes.{IsAtEnd}
+use Rattle.arrayvec.specs.ArrayVec.{array_vec_len}
+use Rattle.bus_sample.specs.Recording.{recorded, cut_record, size_of}
+use Rattle.bus_sample.specs.Samples.{IsFrontOf}
+use Rattle.bus_sample.specs.Internal.Runs.{HasTaken, HasRead, HaltsIn, Finishes}
+use Rattle.bus_sample.specs.declared.options.Form.{Form}
+use Rattle.bus_sample.specs.declared.reader.SampleRun.{SampleRun}
+use Rattle.bus_sample.specs.declared.fault.SampleFault.{SampleFault}
+use Rattle.bus_sample.specs.declared.fault.SampleFault.TheVariants.{Octets, CutOff, TooMany, Read, ReadsLimit, Write}
+use Rattle.bus_sample.proofs.RecordLemmas.{recorded-grows}
+
+-- a record is whole
+pub read-whole : (start now : Option (List ℕ)) (new : SampleRun) (form : Form) (xs ss : List ℕ)
+    (r : Result (Unit {0}) SampleFault) → new.options.form ≡ form → recorded form xs ≡ ss → cut_record form xs ≡ [] →
+    new.part.items ≡ [] → new.octets ≡ length xs →
+    MatchResult r (λ _. HasTaken start now new ss) (λ fault. HaltsIn start now new ss fault) →
+    MatchResult r (λ _. HasRead start now new xs) (λ fault. HaltsIn start now new (recorded form xs) fault)
+read-whole start now new form xs ss (Ok _) same is none part octets taken = record {
+  taken = subst (λ f. HasTaken start now new (recorded f xs)) (sym same)
+      (subst (λ samples. HasTaken start now new samples) (sym is) taken);
+  part = part ∙ (sym none ∙ ap (λ f. cut_record f xs) (sym same));
+  octets = octets;
+}
+read-whole start now new form xs ss (Err fault) same is none part octets halts = rw is halts
+
+-- a fault among the first samples is one among more of them
+front-further : (xs ys zs : List ℕ) → IsFrontOf zs ys → IsFrontOf ys xs → IsFrontOf zs xs
+front-further xs ys zs further front = (
+  front.0 ++ further.0,
+  further.1 ∙ (ap (λ l. l ++ further.0) front.1 ∙ append_assoc xs front.0 further.0),
+)
+
+pub halts-further : (start now : Option (List ℕ)) (run : SampleRun) (samples more : List ℕ) (fault : SampleFault) →
+    IsFrontOf more samples → HaltsIn start now run samples fault → HaltsIn start now run more fault
+halts-further start now run samples more (Write sent) further halts = (
+  halts.0,
+  front-further halts.0 samples more further halts.1,
+  halts.2,
+)
+halts-further start now run samples more TooMany further halts = (
+  omega (arith, halts.0, ap length further.1, length-append samples further.0),
+  halts.1,
+  front-further halts.1 samples more further halts.2,
+  halts.3,
+)
+halts-further start now run samples more Octets further halts = absurd halts
+halts-further start now run samples more (CutOff octet) further halts = absurd halts
+halts-further start now run samples more Read further halts = absurd halts
+halts-further start now run samples more ReadsLimit further halts = absurd halts
+
+-- the octets so far, and one more
+pub front-next : (xs ys : List ℕ) (i x : ℕ) → i < length ys → x ≡ get_or ys i 0 →
+    (xs ++ take i ys) ++ x ∷ [] ≡ xs ++ take (i + 1) ys
+front-next xs ys i x inside is = grind (arith, common_steps)
+
+pub read-next : (start now : Option (List ℕ)) (run : SampleRun) (xs ys : List ℕ) (i x : ℕ) →
+    HasRead start now run ((xs ++ take i ys) ++ x ∷ []) → i < length ys → x ≡ get_or ys i 0 →
+    HasRead start now run (xs ++ take (i + 1) ys)
+read-next start now run xs ys i x read inside is =
+    subst (λ l. HasRead start now run l) (front-next xs ys i x inside is) read
+
+pub halts-at : (start now : Option (List ℕ)) (run : SampleRun) (form : Form) (xs ys : List ℕ) (i x : ℕ)
+    (fault : SampleFault) → 1 ≤ size_of form → i < length ys → x ≡ get_or ys i 0 →
+    HaltsIn start now run (recorded form ((xs ++ take i ys) ++ x ∷ [])) fault →
+    HaltsIn start now run (recorded form (xs ++ ys)) fault
+halts-at start now run form xs ys i x fault some inside is halts =
+    let front = (xs ++ take i ys) ++ x ∷ [] in
+    let whole : front ++ drop (i + 1) ys ≡ xs ++ ys = grind (arith, common_steps) in
+    halts-further start now run (recorded form front) (recorded form (xs ++ ys)) fault
+    (rw whole at (recorded-grows form front (drop (i + 1) ys) some)) halts
+
+pub all-octets : (i : ℕ) (ys : List ℕ) → length ys ≤ i → take i ys ≡ ys
+all-octets i ys all = grind (arith, common_steps)
+
+-- how the reading ended
+pub halts-finishes : (after start now : Option (List ℕ)) (run : SampleRun) (form : Form) (xs : List ℕ)
+    (fault : SampleFault) → run.options.form ≡ form → HaltsIn start now run (recorded form xs) fault →
+    Finishes after start now run xs (Err fault)
+halts-finishes after start now run form xs (Write sent) is halts = rw is halts
+halts-finishes after start now run form xs TooMany is halts = rw is halts
+halts-finishes after start now run form xs Octets is halts = absurd halts
+halts-finishes after start now run form xs (CutOff octet) is halts = absurd halts
+halts-finishes after start now run form xs Read is halts = absurd halts
+halts-finishes after start now run form xs ReadsLimit is halts = absurd halts
+
+pub ends-finishes : (after start now : Option (List ℕ)) (run : SampleRun) (xs : List ℕ)
+    (r : Result (Unit {0}) SampleFault) → IsAtEnd after → HasRead start now run xs →
+    MatchResult r (λ _. array_vec_len run.part ≡ 0)
+    (λ fault. (0 < array_vec_len run.part) × (fault ≡ CutOff (run.octets - array_vec_len run.part))) →
+    Finishes after start now run xs r
+ends-finishes after start now run xs (Ok _) end read none =
+    (end, nothing (cut_record run.options.form xs) (sym (ap length read.part) ∙ none), read)
+  where
+    nothing : (l : List ℕ) → length l ≡ 0 → l ≡ []
+    nothing [] empty = refl
+    nothing (x ∷ l) empty = absurd (let never : ⊥ = omega (arith, empty) in never)
+ends-finishes after start now run xs (Err fault) end read cut =
+    let count : array_vec_len run.part ≡ length (cut_record run.options.form xs) = ap length read.part in
+    rw (cut.1) (
+      end,
+      omega (arith, cut.0, count),
+      omega (arith, count, read.octets),
+      read,
+    )
+
+-- the octets so far, and some that are the same
+pub alike-next : (xs ys : List ℕ) (at n x : ℕ) → at < length ys → x ≡ get_or ys at 0 →
+    take n (take (length ys - at) (drop at ys)) ≡ replicate n (slice_index (take (length ys - at) (drop at ys)) 0) →
+    (xs ++ take at ys) ++ replicate n x ≡ xs ++ take (at + n) ys
+alike-next xs ys at n x inside is same =
+    let rest : take (length ys - at) (drop at ys) ≡ drop at ys = grind (arith, common_steps) in
+    let here : at + 0 ≡ at = omega arith in
+    let first : slice_index (drop at ys) 0 ≡ x =
+    get_or-drop at ys 0 0 ∙ (ap (λ i. get_or ys i 0) here ∙ sym is) in
+    let run : take n (drop at ys) ≡ replicate n x =
+    ap (take n) (sym rest) ∙ (same ∙ (ap (λ l. replicate n (slice_index l 0)) rest ∙ ap (replicate n) first)) in
+    append_assoc xs (take at ys) (replicate n x)
+    ∙ ap (λ l. xs ++ l) (ap (λ l. take at ys ++ l) (sym run) ∙ sym (take_both ys at n))
+
+pub read-alike : (start now : Option (List ℕ)) (run : SampleRun) (xs ys : List ℕ) (at n x : ℕ) →
+    HasRead start now run ((xs ++ take at ys) ++ replicate n x) → at < length ys → x ≡ get_or ys at 0 →
+    take n (take (length ys - at) (drop at ys)) ≡ replicate n (slice_index (take (length ys - at) (drop at ys)) 0) →
+    HasRead start now run (xs ++ take (at + n) ys)
+read-alike start now run xs ys at n x read inside is same =
+    subst (λ l. HasRead start now run l) (alike-next xs ys at n x inside is same) read
+
+pub halts-alike : (start now : Option (List ℕ)) (run : SampleRun) (form : Form) (xs ys : List ℕ) (at n x : ℕ)
+    (fault : SampleFault) → 1 ≤ size_of form → at < length ys → x ≡ get_or ys at 0 →
+    take n (take (length ys - at) (drop at ys)) ≡ replicate n (slice_index (take (length ys - at) (drop at ys)) 0) →
+    HaltsIn start now run (recorded form ((xs ++ take at ys) ++ replicate n x)) fault →
+    HaltsIn start now run (recorded form (xs ++ ys)) fault
+halts-alike start now run form xs ys at n x fault some inside is same halts =
+    let front = xs ++ take (at + n) ys in
+    let whole : front ++ drop (at + n) ys ≡ xs ++ ys = grind (arith, common_steps) in
+    halts-further start now run (recorded form front) (recorded form (xs ++ ys)) fault
+    (rw whole at (recorded-grows form front (drop (at + n) ys) some))
+    (rw (alike-next xs ys at n x inside is same) at halts)

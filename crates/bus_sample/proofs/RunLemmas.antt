@@ -1,0 +1,91 @@
+-- A tap, with a run of samples more.
+use Rattle.std.proofs.Common.{◌≡◌, ℕ, zero, suc, ◌+◌, ◌-◌, ◌≤◌, List, ◌∷◌, ◌++◌, length, map, replicate, refl, sym, ap}
+use Rattle.std.proofs.Common.{◌∙◌, arith, subst, length-append, append_assoc, append-nil, Option}
+use Rattle.std.proofs.lemmas.List.{map-append, length-replicate, length-map, replicate-append-replicate}
+use Rattle.bus_clocks.specs.Sampled.{sampled, bits_of_edges}
+use Rattle.bus_clocks.specs.Tapped.{TapState, AdvancesTap, IsTapAfter, channels}
+use Rattle.bus_clocks.specs.declared.sampler.Edges.{Edges}
+use Rattle.bus_sample.specs.Recording.{levels, arrivals}
+use Rattle.bus_sample.specs.Samples.{IsFrontOf}
+use Rattle.bus_sample.specs.Internal.Runs.{HasTaken, HasMarked}
+use Rattle.bus_sample.specs.declared.reader.SampleRun.{SampleRun}
+use Rattle.bus_sample.specs.declared.options.SampleOptions.{SampleOptions}
+
+map-same : (f : ℕ → ℕ) (n s : ℕ) → map f (replicate n s) ≡ replicate n (f s)
+map-same f zero s = refl
+map-same f (suc n) s = ap (λ xs. f s ∷ xs) (map-same f n s)
+
+pub levels-run : (o : SampleOptions) (ss : List ℕ) (n s : ℕ) →
+    levels o (ss ++ replicate n s) ≡ levels o ss ++ replicate n (channels o.wires s)
+levels-run o ss n s =
+    map-append (channels o.wires) ss (replicate n s)
+    ∙ ap (λ xs. levels o ss ++ xs) (map-same (channels o.wires) n s)
+
+module _ (o : SampleOptions) (old new : TapState) (ss : List ℕ) (n s l : ℕ) (e : Edges) (hold : old.hold ≡ o.hold)
+    (is : l ≡ channels o.wires s) (advances : AdvancesTap old (replicate n l) e new)
+    (after : IsTapAfter old (levels o ss)) where
+  same-levels : levels o (ss ++ replicate n s) ≡ levels o ss ++ replicate n l
+  same-levels = levels-run o ss n s ∙ ap (λ x. levels o ss ++ replicate n x) (sym is)
+
+  pub tap-more : IsTapAfter new (levels o (ss ++ replicate n s))
+  tap-more = subst (IsTapAfter new) (sym same-levels) (advances.after (levels o ss) after)
+
+  pub arrivals-more : arrivals o (ss ++ replicate n s) ≡ arrivals o ss ++ bits_of_edges e
+  arrivals-more =
+      ap (sampled o.hold) same-levels
+      ∙ subst (λ h. sampled h (levels o ss ++ replicate n l) ≡ sampled h (levels o ss) ++ bits_of_edges e) hold
+      (advances.sampled (levels o ss) after)
+
+-- and the text that was put
+pub taken-more : (start before now : Option (List ℕ)) (run new : SampleRun) (ss : List ℕ) (n s l : ℕ) (e : Edges) →
+    run.tap.hold ≡ run.options.hold → l ≡ channels run.options.wires s →
+    AdvancesTap run.tap (replicate n l) e new.tap → HasTaken start before run ss → new.options ≡ run.options →
+    HasMarked start now new.marks (arrivals run.options ss ++ bits_of_edges e) →
+    HasTaken start now new (ss ++ replicate n s)
+taken-more start before now run new ss n s l e hold is advances taken same marked =
+    rw same (record {
+      tap = tap-more run.options run.tap new.tap ss n s l e hold is advances taken.tap;
+      marks = rw (arrivals-more run.options run.tap new.tap ss n s l e hold is advances taken.tap) marked;
+    })
+
+pub count-of : (o : SampleOptions) (t : TapState) (ss : List ℕ) (n s : ℕ) → IsTapAfter t (levels o ss) →
+    length (ss ++ replicate n s) ≡ t.samples + n
+count-of o t ss n s after =
+    omega (
+      arith,
+      after.samples,
+      length-map ss (channels o.wires),
+      length-append ss (replicate n s),
+      length-replicate n s,
+    )
+
+-- the first of a run
+pub run-front : (ss : List ℕ) (m n s : ℕ) → n ≤ m → IsFrontOf (ss ++ replicate m s) (ss ++ replicate n s)
+run-front ss m n s within =
+    let all : m ≡ n + (m - n) = omega (arith, within) in (
+      replicate (m - n) s,
+      ap (λ k. ss ++ replicate k s) all ∙ (ap (λ xs. ss ++ xs) (sym (replicate-append-replicate n (m - n) s))
+          ∙ sym (append_assoc ss (replicate n s) (replicate (m - n) s))),
+    )
+
+-- a run as far as it goes, and a part of the rest
+pub run-none : (ss : List ℕ) (count s : ℕ) → ss ++ replicate (count - count) s ≡ ss
+run-none ss count s =
+    let none : count - count ≡ 0 = omega arith in
+    rw none (append-nil ss)
+
+pub run-on : (ss : List ℕ) (count left n s : ℕ) → left ≤ count → n ≤ left →
+    ss ++ replicate (count - (left - n)) s ≡ (ss ++ replicate (count - left) s) ++ replicate n s
+run-on ss count left n s within inside =
+    let both : count - (left - n) ≡ (count - left) + n = omega (arith, within, inside) in
+    ap (λ k. ss ++ replicate k s) both
+    ∙ (ap (λ xs. ss ++ xs) (sym (replicate-append-replicate (count - left) n s))
+    ∙ sym (append_assoc ss (replicate (count - left) s) (replicate n s)))
+
+pub run-all : (ss : List ℕ) (count left s : ℕ) → left ≤ count →
+    ss ++ replicate count s ≡ (ss ++ replicate (count - left) s) ++ replicate left s
+run-all ss count left s within =
+    let both : count ≡ (count - left) + left = omega (arith, within) in
+    ap (λ k. ss ++ replicate k s) both
+    ∙ (ap (λ xs. ss ++ xs) (sym (replicate-append-replicate (count - left) left s))
+    ∙ sym (append_assoc ss (replicate (count - left) s) (replicate left s)))

@@ -1,0 +1,24 @@
+use Rattle.std.proofs.Common.{refl, inr}
+use Rattle.bus_sample.specs.Recording.{recorded, levels}
+use Rattle.bus_sample.proofs.CloseLemmas.{whole-front}
+use Rattle.bus_sample.proofs.reader.SampleRun.end.Goals as goal
+
+pub returns-in-Ok : goal.returns-in-Ok
+returns-in-Ok g c = λ after start xs ends.
+    let self = c.args.self.now in
+    let facts = c.facts.ensures.facts (levels self.options (recorded self.options.form xs)) ends.2.taken.tap in (
+      c.requires.size,
+      ends.0,
+      ends.1,
+      c.in-Ok.ensures start _ ends.2.taken.marks,
+      rw (c.requires.given.0, c.requires.given.1) at facts,
+    )
+
+pub returns-in-Err : goal.returns-in-Err
+returns-in-Err g c = λ after start xs ends. (
+  recorded c.args.self.now.options.form xs,
+  _,
+  whole-front _,
+  inr refl,
+  c.in-Err.ensures start _ ends.2.taken.marks,
+)

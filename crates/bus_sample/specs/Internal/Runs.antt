@@ -1,0 +1,69 @@
+-- What is known while a recording is read.
+use Rattle.std.specs.Prelude.{◌≡◌, ℕ, ◌+◌, ◌-◌, ◌*◌, ◌%◌, ◌<◌, ◌≤◌, List, [], length, Option, Result, Ok, Err}
+use Rattle.std.specs.Io.KnownBytes.{IsAtEnd}
+use Rattle.arrayvec.specs.ArrayVec.{array_vec_len}
+use Rattle.bus_bits.specs.Limits.{most_places}
+use Rattle.bus_clocks.specs.Arrival.{Arrival}
+use Rattle.bus_clocks.specs.Tapped.{IsTapAfter}
+use Rattle.bus_text.specs.Pages.{Pages}
+use Rattle.bus_text.specs.Put.{Cuts}
+use Rattle.bus_sample.specs.Recording.{recorded, cut_record, levels, arrivals, size_of}
+use Rattle.bus_sample.specs.Marks.{marks_text}
+use Rattle.bus_sample.specs.Samples.{IsFrontOf, HasSize}
+use Rattle.bus_sample.specs.declared.marks.Marks.{Marks}
+use Rattle.bus_sample.specs.declared.reader.SampleRun.{SampleRun}
+use Rattle.bus_sample.specs.declared.fault.SampleFault.{SampleFault}
+use Rattle.bus_sample.specs.declared.fault.SampleFault.TheVariants.{CutOff, TooMany, Read, ReadsLimit, Write}
+
+-- the text of these arrivals was put on the page, or written
+pub record HasMarked (start now : Option (List ℕ)) (marks : Marks) (xs : List Arrival) : Type 0 where
+  pub page : Pages start now marks.page.text marks.page.written (marks_text xs)
+  pub column : marks.column ≡ length xs % 64
+
+-- how long the text is
+abbrev pub length_of : Marks → ℕ
+length_of marks = marks.page.written + array_vec_len marks.page.text
+
+-- these samples were taken, and their text was put
+pub record HasTaken (start now : Option (List ℕ)) (run : SampleRun) (samples : List ℕ) : Type 0 where
+  pub tap : IsTapAfter run.tap (levels run.options samples)
+  pub marks : HasMarked start now run.marks (arrivals run.options samples)
+
+-- the text is no longer than its samples allow, and there is room for an octet more of the open record
+pub record IsSound (run : SampleRun) : Type 0 where
+  pub given : (run.tap.hold ≡ run.options.hold) × (run.tap.jump ≡ run.options.jump)
+  pub size : HasSize run.options
+  pub samples : run.tap.samples ≤ most_places
+  pub few : length_of run.marks ≤ 4 * run.tap.samples
+  pub part : array_vec_len run.part < size_of run.options.form
+
+-- these octets were read
+pub record HasRead (start now : Option (List ℕ)) (run : SampleRun) (xs : List ℕ) : Type 0 where
+  pub taken : HasTaken start now run (recorded run.options.form xs)
+  pub part : run.part.items ≡ cut_record run.options.form xs
+  pub octets : run.octets ≡ length xs
+
+-- this fault stopped it among these samples
+abbrev pub HaltsIn : Option (List ℕ) → Option (List ℕ) → SampleRun → List ℕ → SampleFault → Type 0
+HaltsIn start now run samples (Write sent) =
+    (front : List ℕ) × IsFrontOf samples front × Cuts start now (marks_text (arrivals run.options front)) sent
+HaltsIn start now run samples TooMany =
+    (most_places < length samples)
+    × (front : List ℕ) × IsFrontOf samples front × HasMarked start now run.marks (arrivals run.options front)
+HaltsIn start now run samples _ = ⊥
+
+-- the open record stays
+abbrev pub IsSameRecord : SampleRun → SampleRun → Type 0
+IsSameRecord old new = (new.part ≡ old.part) × (new.octets ≡ old.octets) × (new.options ≡ old.options)
+
+-- how the reading of these octets ended, whose reader has `after` left
+abbrev pub Finishes : Option (List ℕ) → Option (List ℕ) → Option (List ℕ) → SampleRun → List ℕ
+    → Result (Unit {0}) SampleFault → Type 0
+Finishes after start now run xs (Ok _) =
+    IsAtEnd after × (cut_record run.options.form xs ≡ []) × HasRead start now run xs
+Finishes after start now run xs (Err (CutOff octet)) =
+    IsAtEnd after × (0 < length (cut_record run.options.form xs))
+    × (octet ≡ length xs - length (cut_record run.options.form xs)) × HasRead start now run xs
+Finishes after start now run xs (Err Read) = HasRead start now run xs
+Finishes after start now run xs (Err ReadsLimit) = (run.options.reads ≤ length xs) × HasRead start now run xs
+Finishes after start now run xs (Err fault) = HaltsIn start now run (recorded run.options.form xs) fault

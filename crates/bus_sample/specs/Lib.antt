@@ -1,0 +1,8 @@
+-- Definitions that the contracts cite.
+pub mod Recording
+pub mod Marks
+pub mod Facts
+pub mod Samples
+pub mod Executes
+pub mod Laws
+pub mod Internal

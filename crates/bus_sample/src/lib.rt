@@ -1,0 +1,20 @@
+//! The bits of the bus from the recording of a logic analyser: its samples are read, and the bits written as text in
+//! the order in which they arrive.
+#![tactic(auto)]
+
+mod arguments;
+mod facts;
+mod fault;
+pub mod laws;
+mod marks;
+mod octets;
+mod options;
+mod program;
+mod reader;
+mod sample;
+
+pub use facts::put_facts;
+pub use fault::SampleFault;
+pub use options::{Form, SampleOptions};
+pub use program::run;
+pub use sample::sample_recording;

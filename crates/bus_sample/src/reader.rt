@@ -1,0 +1,300 @@
+//! Reads a recording.
+
+ghost use Rattle.std.specs.Prelude.{◌≡◌, ◌+◌, ◌-◌, ◌<◌, ◌≤◌, ◌^◌, ◌⊎◌, ◌++◌, ◌∷◌, [], ℕ, List, Option, MatchResult};
+ghost use Rattle.std.specs.Prelude.{OnOk, IfOk};
+ghost use Rattle.std.specs.Prelude.{length, replicate, take, slice_index, IsTrue, ◌↔◌, Ok, Err};
+ghost use Rattle.std.specs.Io.KnownBytes.{Consumes};
+ghost use Rattle.bus_sample.specs.Recording.{recorded, record_number, run_of, size_of};
+ghost use Rattle.bus_sample.specs.Samples.{HasSize, SamplesBy};
+ghost use Rattle.bus_sample.specs.Internal.Runs.{HasTaken, HasRead, HaltsIn, Finishes, IsSameRecord, IsSound};
+ghost use Rattle.bus_sample.specs.declared.options.Form.TheVariants.{Samples};
+ghost use Rattle.bus_sample.specs.declared.fault.SampleFault.TheVariants.{Octets, CutOff, Write};
+ghost use Rattle.arrayvec.specs.ArrayVec.{array_vec_len};
+
+use crate::fault::SampleFault;
+use crate::marks::Marks;
+use crate::octets::{alike, number_of};
+use crate::options::{Form, SampleOptions};
+use arrayvec::ArrayVec;
+use bus_clocks::{Tap, TapFacts};
+use std::io::{Read, Write};
+
+/// How many octets are asked for at once.
+const ROOM: usize = 65536;
+
+/// Where the reading of a recording stands.
+#[derive(Drop)]
+pub(crate) struct SampleRun {
+    options: SampleOptions,
+    pub(crate) tap: Tap,
+    pub(crate) marks: Marks,
+    /// The octets of a record that is not whole yet.
+    part: ArrayVec<u8, 8>,
+    /// How many octets were read.
+    octets: u128,
+}
+
+/// Whether a write failed.
+fn is_cut(fault: &SampleFault) -> bool
+    ensures { IsTrue result ↔ ((sent : ℕ) × (fault.now ≡ Write sent)) }
+{
+    matches!(fault, SampleFault::Write(_))
+}
+
+impl SampleRun {
+    /// Before the first octet.
+    pub(crate) fn new(options: &SampleOptions) -> Result<Self, SampleFault>
+        ensures size { MatchResult result (λ _. HasSize options.now)
+            (λ fault. (fault ≡ Octets) × ((size_of options.now.form < 1) ⊎ (8 < size_of options.now.form))) }
+        ensures fresh { IfOk result (λ run. (start : Option (List ℕ)) → HasRead start start run []) }
+        ensures given { IfOk result (λ run. (run.options ≡ options.now) × (run.octets ≡ 0)) }
+        ensures sound { IfOk result IsSound }
+    {
+        if options.form.size() < 1 || options.form.size() > 8 {
+            return Err(SampleFault::Octets);
+        }
+        Ok(SampleRun {
+            options: *options,
+            tap: Tap::new(options.hold, options.jump),
+            marks: Marks::new(),
+            part: ArrayVec::new(),
+            octets: 0,
+        })
+    }
+
+    /// Takes some of these samples with the same levels, up to those that bring bits, and puts these. Returns how many.
+    fn consume_some<W: Write>(
+        &mut self,
+        sample: u64,
+        count: u64,
+        w: &mut W,
+    ) -> Result<u64, SampleFault>
+        requires sound { IsSound self.old }
+        requires some { 1 ≤ count }
+        ensures taken { (start : Option (List ℕ)) (ss : List ℕ) → HasTaken start (W.contents w.old) self.old ss →
+            MatchResult result (λ n. HasTaken start (W.contents w.new) self.new (ss ++ replicate n sample))
+            (λ fault. HaltsIn start (W.contents w.new) self.new (ss ++ replicate count sample) fault) }
+        ensures count { IfOk result (λ n. (1 ≤ n) × (n ≤ count)) }
+        ensures same { IsSameRecord self.old self.new }
+        ensures sound { IsSound self.new }
+    {
+        let levels = self.options.wires.channels(sample);
+        let taken = match self.tap.consume(levels, count) {
+            Ok(taken) => taken,
+            Err(_) => return Err(SampleFault::TooMany),
+        };
+        if taken.edges.is_none() {
+            return Ok(taken.samples);
+        }
+        match self.marks.put(taken.edges, w) {
+            Ok(()) => Ok(taken.samples),
+            Err(cut) => Err(SampleFault::Write(cut.sent)),
+        }
+    }
+
+    /// Takes samples with the same levels, and puts the bits that arrive.
+    fn consume_run<W: Write>(&mut self, sample: u64, count: u64, w: &mut W) -> Result<(), SampleFault>
+        requires { IsSound self.old }
+        ensures taken { (start : Option (List ℕ)) (ss : List ℕ) → HasTaken start (W.contents w.old) self.old ss →
+            MatchResult result (λ _. HasTaken start (W.contents w.new) self.new (ss ++ replicate count sample))
+            (λ fault. HaltsIn start (W.contents w.new) self.new (ss ++ replicate count sample) fault) }
+        ensures same { IsSameRecord self.old self.new }
+        ensures sound { IsSound self.new }
+    {
+        let mut left = count;
+        while left > 0 {
+            left -= self.consume_some(sample, left, w)?;
+        }
+        Ok(())
+    }
+
+    /// Takes what a record says.
+    fn consume_record<W: Write>(&mut self, number: u64, w: &mut W) -> Result<(), SampleFault>
+        requires { IsSound self.old }
+        ensures taken { (start : Option (List ℕ)) (ss : List ℕ) → HasTaken start (W.contents w.old) self.old ss →
+            MatchResult result
+            (λ _. HasTaken start (W.contents w.new) self.new (ss ++ run_of self.old.options.form number))
+            (λ fault. HaltsIn start (W.contents w.new) self.new (ss ++ run_of self.old.options.form number) fault) }
+        ensures same { IsSameRecord self.old self.new }
+        ensures sound { IsSound self.new }
+    {
+        match self.options.form {
+            Form::Samples { .. } => self.consume_run(number, 1, w),
+            Form::Runs => self.consume_run(number % 256, number / 256, w),
+        }
+    }
+
+    /// Takes the next octet.
+    fn consume_octet<W: Write>(&mut self, octet: u8, w: &mut W) -> Result<(), SampleFault>
+        requires sound { IsSound self.old }
+        requires few { self.old.octets < 2 ^ 100 }
+        ensures read { (start : Option (List ℕ)) (xs : List ℕ) → HasRead start (W.contents w.old) self.old xs →
+            MatchResult result (λ _. HasRead start (W.contents w.new) self.new (xs ++ octet ∷ []))
+            (λ fault. HaltsIn start (W.contents w.new) self.new (recorded self.old.options.form (xs ++ octet ∷ []))
+            fault) }
+        ensures octets { self.new.octets ≡ self.old.octets + 1 }
+        ensures options { self.new.options ≡ self.old.options }
+        ensures sound { IsSound self.new }
+    {
+        self.octets += 1;
+        self.part.push(octet);
+        if self.part.len() < usize::from(self.options.form.size()) {
+            return Ok(());
+        }
+        let number = number_of(self.part.as_slice());
+        self.part.clear();
+        self.consume_record(number, w)
+    }
+
+    /// Takes some octets, up to the first fault.
+    fn consume_octets<W: Write>(&mut self, octets: &[u8], w: &mut W) -> Result<(), SampleFault>
+        requires sound { IsSound self.old }
+        requires few { self.old.octets + length octets.now < 2 ^ 100 }
+        ensures read { (start : Option (List ℕ)) (xs : List ℕ) → HasRead start (W.contents w.old) self.old xs →
+            MatchResult result (λ _. HasRead start (W.contents w.new) self.new (xs ++ octets.now))
+            (λ fault. HaltsIn start (W.contents w.new) self.new (recorded self.old.options.form (xs ++ octets.now))
+            fault) }
+        ensures octets { OnOk result (self.new.octets ≡ self.old.octets + length octets.now) }
+        ensures options { self.new.options ≡ self.old.options }
+        ensures sound { IsSound self.new }
+    {
+        if self.options.form == (Form::Samples { octets: 1 }) {
+            return self.consume_samples(octets, w);
+        }
+        for octet in octets {
+            self.consume_octet(*octet, w)?;
+        }
+        Ok(())
+    }
+
+    /// Takes some samples of an octet each, up to the first fault.
+    fn consume_samples<W: Write>(&mut self, octets: &[u8], w: &mut W) -> Result<(), SampleFault>
+        requires form { self.old.options.form ≡ Samples 1 }
+        requires sound { IsSound self.old }
+        requires few { self.old.octets + length octets.now < 2 ^ 100 }
+        ensures read { (start : Option (List ℕ)) (xs : List ℕ) → HasRead start (W.contents w.old) self.old xs →
+            MatchResult result (λ _. HasRead start (W.contents w.new) self.new (xs ++ octets.now))
+            (λ fault. HaltsIn start (W.contents w.new) self.new (recorded self.old.options.form (xs ++ octets.now))
+            fault) }
+        ensures octets { OnOk result (self.new.octets ≡ self.old.octets + length octets.now) }
+        ensures options { self.new.options ≡ self.old.options }
+        ensures sound { IsSound self.new }
+    {
+        let mut at = 0;
+        while at < octets.len() {
+            let count = alike(&octets[at..]);
+            self.consume_alike(octets[at], count, w)?;
+            at += count;
+        }
+        Ok(())
+    }
+
+    /// Takes some samples of an octet each, which are the same.
+    fn consume_alike<W: Write>(
+        &mut self,
+        octet: u8,
+        count: usize,
+        w: &mut W,
+    ) -> Result<(), SampleFault>
+        requires form { self.old.options.form ≡ Samples 1 }
+        requires sound { IsSound self.old }
+        requires few { self.old.octets + count < 2 ^ 100 }
+        ensures read { (start : Option (List ℕ)) (xs : List ℕ) → HasRead start (W.contents w.old) self.old xs →
+            MatchResult result (λ _. HasRead start (W.contents w.new) self.new (xs ++ replicate count octet))
+            (λ fault. HaltsIn start (W.contents w.new) self.new
+            (recorded self.old.options.form (xs ++ replicate count octet)) fault) }
+        ensures octets { self.new.octets ≡ self.old.octets + count }
+        ensures options { self.new.options ≡ self.old.options }
+        ensures sound { IsSound self.new }
+    {
+        self.octets += count as u128;
+        self.consume_run(u64::from(octet), count as u64, w)
+    }
+
+    /// Takes what one read gave, and writes its text.
+    fn consume_read<W: Write>(&mut self, octets: &[u8], w: &mut W) -> Result<(), SampleFault>
+        requires sound { IsSound self.old }
+        requires few { self.old.octets + length octets.now < 2 ^ 100 }
+        ensures read { (start : Option (List ℕ)) (xs : List ℕ) → HasRead start (W.contents w.old) self.old xs →
+            MatchResult result (λ _. HasRead start (W.contents w.new) self.new (xs ++ octets.now))
+            (λ fault. HaltsIn start (W.contents w.new) self.new (recorded self.old.options.form (xs ++ octets.now))
+            fault) }
+        ensures octets { OnOk result (self.new.octets ≡ self.old.octets + length octets.now) }
+        ensures options { self.new.options ≡ self.old.options }
+        ensures sound { IsSound self.new }
+    {
+        self.consume_octets(octets, w)?;
+        match self.marks.page.write_out(w) {
+            Ok(()) => Ok(()),
+            Err(cut) => Err(SampleFault::Write(cut.sent)),
+        }
+    }
+
+    /// What is wrong where the input ends here.
+    fn finish(&self) -> Result<(), SampleFault>
+        ensures { MatchResult result (λ _. array_vec_len self.now.part ≡ 0)
+            (λ fault. (0 < array_vec_len self.now.part)
+            × (fault ≡ CutOff (self.now.octets - array_vec_len self.now.part))) }
+    {
+        if self.part.is_empty() {
+            return Ok(());
+        }
+        let part = self.part.len() as u128;
+        Err(SampleFault::CutOff(self.octets.saturating_sub(part)))
+    }
+
+    /// Reads to the end or the first fault.
+    pub(crate) fn read_to_end<R: Read, W: Write>(
+        &mut self,
+        r: &mut R,
+        w: &mut W,
+    ) -> Result<(), SampleFault>
+        requires sound { IsSound self.old }
+        requires fresh { (start : Option (List ℕ)) → HasRead start start self.old [] }
+        requires none { self.old.octets ≡ 0 }
+        ensures read { (xs : List ℕ) × Consumes (R.remaining r.old) (R.remaining r.new) xs
+            × Finishes (R.remaining r.new) (W.contents w.old) (W.contents w.new) self.new xs result }
+        ensures options { self.new.options ≡ self.old.options }
+        ensures sound { IsSound self.new }
+    {
+        let mut buffer = [0; ROOM];
+        for _turn in 0..self.options.reads {
+            let count = match r.read(&mut buffer) {
+                Ok(0) => return self.finish(),
+                Ok(count) => count,
+                Err(_) => return Err(SampleFault::Read),
+            };
+            self.consume_read(&buffer[..count], w)?;
+        }
+        Err(SampleFault::ReadsLimit)
+    }
+
+    /// Ends the text, writes it and flushes. Returns what was counted.
+    pub(crate) fn end<W: Write>(&mut self, w: &mut W) -> Result<TapFacts, SampleFault>
+        requires { IsSound self.old }
+        ensures { (after start : Option (List ℕ)) (xs : List ℕ) →
+            Finishes after start (W.contents w.old) self.old xs (Ok tt)
+            → SamplesBy self.old.options after start (W.contents w.new) xs result }
+    {
+        match self.marks.end(w) {
+            Ok(()) => Ok(self.tap.facts()),
+            Err(cut) => Err(SampleFault::Write(cut.sent)),
+        }
+    }
+
+    /// Writes the text so far and flushes, unless a write failed. Returns how the whole ended.
+    pub(crate) fn close_behind<W: Write>(&mut self, fault: SampleFault, w: &mut W) -> SampleFault
+        requires { IsSound self.old }
+        ensures { (after start : Option (List ℕ)) (xs : List ℕ) →
+            Finishes after start (W.contents w.old) self.old xs (Err fault)
+            → SamplesBy self.old.options after start (W.contents w.new) xs (Err result) }
+    {
+        if is_cut(&fault) {
+            return fault;
+        }
+        match self.marks.page.close(w) {
+            Ok(()) => fault,
+            Err(cut) => SampleFault::Write(cut.sent),
+        }
+    }
+}

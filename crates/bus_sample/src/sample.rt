@@ -1,0 +1,41 @@
+//! Samples a recording.
+
+ghost use Rattle.std.specs.Prelude.{ℕ, List};
+ghost use Rattle.std.specs.Io.KnownBytes.{Consumes};
+ghost use Rattle.bus_sample.specs.Samples.{SamplesBy};
+
+use crate::fault::SampleFault;
+use crate::options::SampleOptions;
+use crate::reader::SampleRun;
+use bus_clocks::TapFacts;
+use std::io::{Read, Write};
+
+/// Reads the samples of a recording to their end, and writes the bits that arrive in them as text, before each next
+/// read. Returns what is counted in the samples.
+///
+/// The text has `0` or `1` for a bit of the first line, `o` or `i` for one of the second, in the order of arrival, of
+/// two in one sample the first line's first. A line ends after each 64th, and at the end.
+///
+/// # Errors
+///
+/// In all but the first and the last the text of the samples so far was written, without its end.
+///
+/// - `Octets`: a sample is to have no octets, or more than eight. Nothing was read.
+/// - `CutOff`: the input ended within a record.
+/// - `TooMany`: a recording has at most 2^60 samples.
+/// - `Read`: the reader returned an error. `ReadsLimit`: it did not reach the end.
+/// - `Write`: a write or the flush failed, or a write took nothing. It comes in place of any other.
+pub fn sample_recording<R: Read, W: Write>(
+    options: &SampleOptions,
+    r: &mut R,
+    w: &mut W,
+) -> Result<TapFacts, SampleFault>
+    ensures { (xs : List ℕ) × Consumes (R.remaining r.old) (R.remaining r.new) xs
+        × SamplesBy options.now (R.remaining r.new) (W.contents w.old) (W.contents w.new) xs result }
+{
+    let mut run = SampleRun::new(options)?;
+    match run.read_to_end(r, w) {
+        Ok(()) => run.end(w),
+        Err(fault) => Err(run.close_behind(fault, w)),
+    }
+}

@@ -1,0 +1,225 @@
+import { BLOCK } from "./decoder.js";
+
+/** So many bits of the first line without one of the second bring the second to rest, by fifteen ones. */
+const SILENCE = 400;
+const REST = 15;
+
+/** Where the bits of the second line stand: each at the place of the last bit of the first line before it. */
+export class Places {
+  /** @type {number[]} own numbers of bits, and their places: between two of them, each bit is a place further */
+  owns = [];
+  /** @type {number[]} */
+  places = [];
+  /** The number of the next bit. */
+  count = 0;
+
+  /** @param {number} place of the next bit */
+  add(place) {
+    const last = this.owns.length - 1;
+    if (last < 0 || place - this.places[last] !== this.count - this.owns[last]) {
+      this.owns.push(this.count);
+      this.places.push(place);
+    }
+    this.count += 1;
+  }
+
+  /**
+   * The place of a bit.
+   * @param {number} own its number
+   */
+  of(own) {
+    const at = lastNotAbove(this.owns, own);
+    return this.places[at] + own - this.owns[at];
+  }
+
+  /**
+   * The number of the first bit that stands at a place or after it.
+   * @param {number} place
+   */
+  first(place) {
+    const at = lastNotAbove(this.places, place - 1);
+    if (at < 0) return 0;
+    const next = at + 1 < this.owns.length ? this.owns[at + 1] : this.count;
+    return Math.min(next, this.owns[at] + place - this.places[at]);
+  }
+}
+
+/**
+ * The last of rising numbers that is not above one; -1 where there is none.
+ * @param {number[]} numbers
+ * @param {number} most
+ */
+function lastNotAbove(numbers, most) {
+  let [low, high] = [0, numbers.length];
+  while (low < high) {
+    const middle = (low + high) >> 1;
+    if (numbers[middle] <= most) low = middle + 1;
+    else high = middle;
+  }
+  return low - 1;
+}
+
+/**
+ * Bits of two lines: of each its octets, how many bits they have, and of each bit how many came before it.
+ * @typedef {{ octets: Uint8Array[], counts: number[], ranks: Uint32Array[] }} Block
+ */
+
+/** How many bits a block has. */
+const MOST = 8 * BLOCK;
+
+/** Collects bits in the order of arrival, and hands them on in blocks. */
+class Blocks {
+  /** @param {(block: Block) => void} hand */
+  constructor(hand) {
+    this.hand = hand;
+    this.octets = [new Uint8Array(BLOCK), new Uint8Array(BLOCK)];
+    this.counts = [0, 0];
+    this.ranks = [new Uint32Array(MOST), new Uint32Array(MOST)];
+  }
+
+  /** @param {number} line @param {number} bit */
+  push(line, bit) {
+    const own = this.counts[line]++;
+    const octets = this.octets[line];
+    octets[own >> 3] = (own & 7 ? octets[own >> 3] : 0) | (bit << (own & 7));
+    this.ranks[line][own] = own + this.counts[1 - line];
+    if (own + 1 === MOST) this.flush();
+  }
+
+  flush() {
+    const { counts, ranks } = this;
+    const octets = this.octets.map((some, line) => some.subarray(0, (counts[line] + 7) >> 3));
+    if (counts[0] + counts[1] > 0) this.hand({ octets, counts, ranks });
+    this.counts = [0, 0];
+  }
+}
+
+/** The bits of one line, packed, in chunks. */
+class KeptLine {
+  chunks = [new Uint8Array(BLOCK)];
+  length = 0;
+  ones = 0;
+
+  /** @param {number} bit */
+  push(bit) {
+    const at = this.length >> 3;
+    if (at >= this.chunks.length * BLOCK) this.chunks.push(new Uint8Array(BLOCK));
+    if (bit) this.chunks[this.chunks.length - 1][at % BLOCK] |= 1 << (this.length & 7);
+    this.ones += bit;
+    this.length += 1;
+  }
+
+  /**
+   * Its bits from one number to another.
+   * @param {number} first
+   * @param {number} past
+   * @param {(own: number) => number} placeOf where a bit stands, by its number
+   */
+  between(first, past, placeOf) {
+    /** @type {import("./bits.js").Bit[]} */
+    const bits = [];
+    for (let own = Math.max(first, 0); own < Math.min(past, this.length); own++) {
+      const octet = this.chunks[Math.floor(own / (8 * BLOCK))][(own >> 3) % BLOCK];
+      bits.push({ place: placeOf(own), digit: (octet >> (own & 7)) & 1 });
+    }
+    return bits;
+  }
+}
+
+/** The bits of two lines with a clock each, by the places of the first. */
+export class KeptArrivals {
+  constructor() {
+    this.lines = [new KeptLine(), new KeptLine()];
+    this.places = new Places();
+  }
+
+  get length() {
+    return this.lines[0].length;
+  }
+
+  get ones() {
+    return this.lines.map(({ ones }) => ones);
+  }
+
+  /** How many bits each line has. */
+  get counts() {
+    return this.lines.map(({ length }) => length);
+  }
+
+  /** @param {number} line @param {number} bit */
+  push(line, bit) {
+    if (line === 1) this.places.add(Math.max(0, this.length - 1));
+    this.lines[line].push(bit);
+  }
+
+  /**
+   * The bits of a line from one place to another.
+   * @param {number} line
+   * @param {number} first
+   * @param {number} past
+   */
+  between(line, first, past) {
+    if (line === 0) return this.lines[0].between(first, past, (own) => own);
+    const { places } = this;
+    return this.lines[1].between(places.first(first), places.first(past), (own) => places.of(own));
+  }
+}
+
+/**
+ * Takes bits in the order of arrival, keeps them, and hands them on in blocks. Where the second line falls silent, it
+ * is brought to rest.
+ */
+export class Arrivals {
+  /** @param {KeptArrivals} kept @param {(block: Block) => void} hand */
+  constructor(kept, hand) {
+    this.kept = kept;
+    this.blocks = new Blocks(hand);
+    this.silent = SILENCE; // as before the first bit of the second line
+    this.ones = REST;
+  }
+
+  /** @param {number} line @param {number} bit */
+  arrive(line, bit) {
+    this.kept.push(line, bit);
+    this.blocks.push(line, bit);
+  }
+
+  /** @param {number} line @param {number} bit */
+  push(line, bit) {
+    this.arrive(line, bit);
+    if (line === 1) {
+      this.silent = 0;
+      this.ones = bit ? Math.min(REST, this.ones + 1) : 0;
+    } else if (this.silent < SILENCE) {
+      this.silent += 1;
+      if (this.silent === SILENCE && this.ones < REST) this.rest();
+    }
+  }
+
+  rest() {
+    for (let count = 0; count < REST; count++) this.arrive(1, 1);
+    this.ones = REST;
+  }
+
+  /**
+   * Takes a mark of a capture: a bit, and 2 where it is of the second line.
+   * @param {number} mark
+   */
+  add(mark) {
+    this.push(mark >> 1, mark & 1);
+  }
+
+  /**
+   * Takes an octet of a packed capture, with so many marks.
+   * @param {number} octet
+   * @param {number} marks
+   */
+  addOctet(octet, marks) {
+    for (let at = 0; at < marks; at++) this.add((octet >> (2 * at)) & 3);
+  }
+
+  /** Hands on what has been collected. */
+  flush() {
+    this.blocks.flush();
+  }
+}

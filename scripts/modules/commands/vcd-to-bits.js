@@ -1,1 +1,0 @@
-import "./recording-to-bits.js";

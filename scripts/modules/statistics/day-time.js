@@ -1,0 +1,51 @@
+import { Fault } from "../fault.js";
+
+const FORM = /^\d{4}-\d\d-\d\dT\d\d:\d\d(?::\d\d(?:\.\d+)?)?(Z|[+-]\d\d:\d\d)?$/;
+
+const MINUTE = 60000;
+
+/**
+ * How far a zone is ahead of UTC, in milliseconds; with no zone, that of this computer at some time.
+ * @param {string|undefined} zone
+ * @param {number} time
+ */
+function shiftOf(zone, time) {
+  if (zone === undefined) return -MINUTE * new Date(time).getTimezoneOffset();
+  if (zone === "Z") return 0;
+  const minutes = 60 * Number(zone.slice(1, 3)) + Number(zone.slice(4));
+  return (zone[0] === "-" ? -MINUTE : MINUTE) * minutes;
+}
+
+/** The time of day at which place 0 of a listing was, and so that of each place. */
+export class DayTime {
+  /** @param {string} text as ISO 8601 has it: with Z or an offset, or else a time of this computer */
+  constructor(text) {
+    const found = FORM.exec(text);
+    this.begin = found === null ? NaN : Date.parse(text); // milliseconds since 1970
+    if (Number.isNaN(this.begin)) throw new Fault(`${JSON.stringify(text)} is no time as 2026-11-27T03:00:00Z`);
+    this.zone = found?.[1];
+  }
+
+  /** @param {number} seconds */
+  iso(seconds) {
+    const time = this.begin + Math.floor(1000 * seconds);
+    return new Date(time + shiftOf(this.zone, time)).toISOString().slice(0, -1);
+  }
+
+  /**
+   * Date and time of day after so many seconds.
+   * @param {number} seconds
+   */
+  full(seconds) {
+    return this.iso(seconds).replace("T", " ") + (this.zone === "Z" ? " UTC" : "");
+  }
+
+  /**
+   * The time of day, on another day with its date.
+   * @param {number} seconds
+   */
+  of(seconds) {
+    const [date, time] = this.iso(seconds).split("T");
+    return this.iso(0).startsWith(date) ? time : `${date} ${time}`;
+  }
+}

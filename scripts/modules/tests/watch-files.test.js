@@ -1,0 +1,97 @@
+// What a watch has on disk: the ring, the log, and the places of what is packed.
+
+import assert from "node:assert/strict";
+import { appendFileSync, mkdtempSync, readFileSync, readdirSync, rmSync, statSync, writeFileSync } from "node:fs";
+import { tmpdir } from "node:os";
+import { join } from "node:path";
+import { test } from "node:test";
+
+import { ARRIVALS, PAIRS, Packer, octetsBefore } from "../watch/forms.js";
+import { Journal } from "../watch/journal.js";
+import { untold } from "../watch/memory.js";
+import { Ring, SEGMENT } from "../watch/ring.js";
+import { randomOf } from "./support/random.js";
+
+/** Runs a test in a folder of its own. */
+async function within(body) {
+  const folder = mkdtempSync(join(tmpdir(), "port1-"));
+  try {
+    await body(folder);
+  } finally {
+    rmSync(folder, { recursive: true, force: true });
+  }
+}
+
+for (const [form, marks, counted] of [[PAIRS, "0123", "0123"], [ARRIVALS, "01oi", "01"]]) {
+  test(`octets and places of ${form.option}, in pieces of any size`, () => {
+    const random = randomOf(3);
+    const text = Array.from({ length: 4000 }, () => random.one([...marks, "\n"])).join("");
+    const packer = new Packer(form);
+    const parts = [];
+    for (let at = 0; at < text.length; ) {
+      const past = at + random.below(50);
+      const before = [...text.slice(0, at)].filter((c) => marks.includes(c)).slice(0, 4 * parts.flat().length);
+      assert.equal(packer.begin, before.filter((c) => counted.includes(c)).length);
+      parts.push([...packer.take(Buffer.from(text.slice(at, past)))]);
+      at = past;
+    }
+    const whole = [...text].filter((c) => marks.includes(c));
+    assert.equal(packer.places, whole.filter((c) => counted.includes(c)).length);
+    const octets = parts.flat();
+    octets.forEach((octet, at) => {
+      const own = whole.slice(4 * at, 4 * at + 4).map((c) => marks.indexOf(c));
+      assert.equal(octet, own[0] + 4 * own[1] + 16 * own[2] + 64 * own[3]);
+    });
+    const { at, passed } = octetsBefore(form, octets, 500);
+    assert.equal(passed, whole.slice(0, 4 * at).filter((c) => counted.includes(c)).length);
+    assert.ok(passed <= 500 && passed > 496 - 4);
+  });
+}
+
+test("the ring keeps the last octets, never more than it may, and another run finds them", () =>
+  within(async (folder) => {
+    const random = randomOf(4);
+    const limits = { most: 6 * SEGMENT, floor: 0, warn: assert.fail };
+    const ring = new Ring(folder, 7, limits);
+    const made = Buffer.from(Array.from({ length: 1 << 18 }, () => random.below(256)));
+    for (let count = 0; count < 100; count++) {
+      ring.add(made, 4 * made.length * count);
+      await ring.packing;
+      const size = readdirSync(folder).reduce((sum, name) => sum + statSync(join(folder, name)).size, 0);
+      assert.ok(size <= 6 * SEGMENT + (1 << 16), `${size}`);
+    }
+    const past = 4 * made.length * 100;
+    const { octets, place } = new Ring(folder, 8, limits).read(PAIRS, 7, past - 6 * made.length, past - made.length);
+    assert.equal(place, past - 6 * made.length);
+    assert.deepEqual(octets, Buffer.concat([made, made]).subarray(made.length / 2, 7 * made.length / 4));
+    assert.equal(ring.read(PAIRS, 6, 0, past).octets.length, 0);
+  }));
+
+test("a line that a disk took half of is written again, and one that a kill cut off is dropped", () =>
+  within((folder) => {
+    const path = join(folder, "log");
+    writeFileSync(path, '{"event":"start"}\n{"event":"inci');
+    const journal = new Journal(path, () => {}, () => {});
+    journal.log({ event: "incident", id: "1-1" });
+    appendFileSync(path, '{"event":');
+    assert.deepEqual(new Journal(path, () => {}, () => {}).told("incident"), [{ event: "incident", id: "1-1" }]);
+    assert.equal(readFileSync(path, "utf8"), '{"event":"start"}\n{"event":"incident","id":"1-1"}\n');
+  }));
+
+test("a line that is cut within a character, or of which the end of a long log has a part, is no event", () =>
+  within((folder) => {
+    const path = join(folder, "log");
+    const long = `{"event":"incident","id":"1-1","causes":{"a":"${"x".repeat(1 << 18)}"}}\n`;
+    const line = `${long}{"event":"incident","id":"1-2"}\n`;
+    for (const cut of [1, 2, 3]) {
+      writeFileSync(path, Buffer.concat([Buffer.from(line), Buffer.from("{\"€").subarray(0, 2 + cut)]));
+      const journal = new Journal(path, () => {}, () => {});
+      assert.equal(readFileSync(path, "utf8"), line);
+      assert.deepEqual(journal.told("incident"), [{ event: "incident", id: "1-2" }]);
+    }
+  }));
+
+test("what the log has is told, what was open is cut, the rest is to be told", () => {
+  const kept = { run: 1, wall: 0, kinds: {}, open: { id: "1-3" }, waiting: [{ id: "1-1" }, { id: "1-2" }] };
+  assert.deepEqual(untold(kept, [{ id: "1-1" }]), [{ id: "1-2" }, { id: "1-3", cut: true }]);
+});

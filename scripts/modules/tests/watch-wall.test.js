@@ -1,0 +1,117 @@
+// The time of day of places, and input that is lost, by clocks that are made up.
+
+import assert from "node:assert/strict";
+import { test } from "node:test";
+
+import { Wall, iso } from "../watch/wall.js";
+import { randomOf } from "./support/random.js";
+
+const RATE = 153600;
+
+/** A wall whose clocks are told, and what it says while places come. */
+class Made {
+  time = 1000;
+  shift = 1_800_000_000;
+  place = 0;
+  lost = [];
+  ahead = 0; // seconds that the bits are behind the clock for good
+
+  constructor(seed = 1) {
+    this.random = randomOf(seed);
+    this.wall = new Wall(0.5, { steady: () => this.time, wall: () => this.time + this.shift });
+  }
+
+  /** Bits come for so many seconds, each piece some milliseconds late; the crystal is off by parts in a million. */
+  run(seconds, late = 0.03, ppm = 0) {
+    for (const past = this.time + seconds; this.time < past; ) {
+      this.time += 0.05;
+      const sent = (this.time - 1000 - this.ahead - (late * this.random.below(1000)) / 1000) * (1 + ppm / 1e6);
+      const lost = this.wall.take(Math.max(this.place, Math.floor(sent * RATE)));
+      this.place = Math.max(this.place, Math.floor(sent * RATE));
+      if (lost > 0) this.lost.push({ lost, time: this.time });
+    }
+    return this;
+  }
+
+  /** Nothing comes for a while, and later all of it. */
+  stall(seconds) {
+    this.time += seconds;
+    return this;
+  }
+
+  /** What is sent meanwhile is lost. */
+  lose(seconds) {
+    this.ahead += seconds;
+    return this.stall(seconds);
+  }
+
+  get error() {
+    return this.wall.zero + this.place / RATE - (this.time + this.shift);
+  }
+}
+
+test("a hundred losses are told with their length, and those below the limit are not", () => {
+  for (let number = 1; number <= 100; number++) {
+    const seconds = 0.05 * number;
+    const made = new Made(number).run(30).lose(seconds).run(30);
+    const told = made.lost.map(({ lost }) => lost);
+    assert.equal(told.length, seconds >= 0.51 ? 1 : seconds < 0.47 ? 0 : told.length, `${seconds} s: ${told}`);
+    for (const { lost, time } of made.lost) {
+      assert.ok(Math.abs(lost - seconds) < 0.03, `${lost} for ${seconds} s`);
+      assert.ok(time < 1030 + seconds + 20, `told after ${time - 1030} s`);
+    }
+  }
+});
+
+test("what comes late and is caught up is not lost", () => {
+  for (const seconds of [0.4, 1, 5, 20, 600]) assert.deepEqual(new Made().run(30).stall(seconds).run(30).lost, []);
+});
+
+test("what is caught up within some seconds is not lost", () => {
+  const made = new Made().run(30).lose(5);
+  for (let count = 0; count < 40; count++) {
+    made.ahead -= 5 / 40;
+    made.run(0.2);
+  }
+  assert.deepEqual(made.run(30).lost, []);
+});
+
+test("a crystal that is off is followed, for a day", () => {
+  for (const ppm of [-100, 100]) {
+    const made = new Made().run(3600, 0.03, ppm);
+    assert.deepEqual(made.lost, []);
+    assert.ok(Math.abs(made.error) < 0.05, `${ppm}: ${made.error}`);
+  }
+});
+
+test("a clock that is set is told, is no loss, and moves times", () => {
+  for (const step of [3600, -3600, 0.7]) {
+    const made = new Made().run(30);
+    made.shift += step;
+    assert.ok(Math.abs(made.wall.set() - step) < 1e-6);
+    assert.equal(made.wall.set(), 0);
+    assert.deepEqual(made.run(30).lost, []);
+    assert.ok(Math.abs(made.error) < 0.05, `${made.error}`);
+  }
+});
+
+test("a clock that is slowly led is not told", () => {
+  const made = new Made().run(30);
+  for (let count = 0; count < 100; count++) {
+    made.shift += 0.01;
+    assert.equal(made.wall.set(), 0);
+  }
+});
+
+test("another recording has a clock of its own, and until it comes the one before holds", () => {
+  const made = new Made().run(30);
+  const before = made.error;
+  made.time += 100;
+  made.wall.restart();
+  assert.ok(Math.abs(made.error + 100 - before) < 1e-6);
+  made.ahead += 100;
+  assert.deepEqual(made.run(30).lost, []);
+  assert.ok(Math.abs(made.error) < 0.05, `${made.error}`);
+});
+
+test("a time as ISO 8601 has it", () => assert.equal(iso(1795748400.25), "2026-11-27T03:00:00.250Z"));

@@ -1,0 +1,194 @@
+import { spawn } from "node:child_process";
+import { closeSync, mkdirSync, openSync, readdirSync, renameSync, rmSync, statSync, writeFileSync } from "node:fs";
+import { join } from "node:path";
+import { fileURLToPath } from "node:url";
+import { piecesOf } from "../commands/facts.js";
+import { rowsOfInput } from "../commands/input.js";
+import { page } from "../commands/program.js";
+import { readDictionary } from "../dictionary/dictionary.js";
+import { ANSWER, RATE } from "../port1.js";
+import { Bus } from "../statistics/bus.js";
+import { DayTime } from "../statistics/day-time.js";
+import { report } from "../statistics/report.js";
+import { wordsOfList } from "./decoder.js";
+import { captureOf, octetsBefore } from "./forms.js";
+import { roomIn } from "./ring.js";
+import { iso } from "./wall.js";
+
+/** @typedef {import("./incidents.js").Incident} Incident */
+
+/** What a folder of an incident takes beside its bits, as a multiple of these and in octets. */
+const [BESIDE, PAGE] = [2, 3 << 20];
+
+/** A flag, and some bits before it. */
+const BEFORE_COMMAND = 24;
+
+/**
+ * Runs a program from a file to a file, or to none.
+ * @param {string} program
+ * @param {string[]} words
+ * @param {string} input
+ * @param {string|null} output
+ * @returns {Promise<void>}
+ */
+function runOn(program, words, input, output) {
+  const [source, sink] = [openSync(input, "r"), output === null ? "ignore" : openSync(output, "w")];
+  const child = spawn(program, words, { stdio: [source, sink, "ignore"], detached: true });
+  closeSync(source);
+  if (typeof sink === "number") closeSync(sink);
+  return new Promise((done, fail) => {
+    const end = (/** @type {number|null} */ status) => fail(new Error(`${program} ended with ${status}`));
+    child.on("error", fail);
+    child.on("close", (status) => (status === 0 ? done(undefined) : end(status)));
+  });
+}
+
+/**
+ * A command of these scripts, which Node runs.
+ * @param {string} name
+ */
+const script = (name) => fileURLToPath(new URL(`../commands/${name}.js`, import.meta.url));
+
+/**
+ * The octets of a folder.
+ * @param {string} folder
+ */
+const sizeOf = (folder) => readdirSync(folder).reduce((sum, name) => sum + statSync(join(folder, name)).size, 0);
+
+/** Removes a folder, where it can: what the run before began to save may still be written there. */
+function removed(/** @type {string} */ folder) {
+  try {
+    rmSync(folder, { recursive: true, force: true });
+  } catch {
+    // the next run removes it
+  }
+}
+
+/**
+ * The cause in the name of a folder: what stands after its time.
+ * @param {string} name
+ */
+const causeOf = (name) => name.slice(name.indexOf("Z-") + 2);
+
+/**
+ * The words of a listing's first command, if it has one: where a cut before it makes no stray.
+ * @param {string} listing
+ */
+async function firstCommand(listing) {
+  for await (const rows of rowsOfInput(piecesOf(listing, 1 << 16))) {
+    for (const row of rows) {
+      if (row.kind === "frame" && row.line === 1 && row.type !== null && row.type < ANSWER) return row.first;
+    }
+  }
+  return null;
+}
+
+/** Saves the bits around incidents, each in a folder that is there whole or not at all. */
+export class Saver {
+  /**
+   * @param {string} folder
+   * @param {import("./ring.js").Ring} ring
+   * @param {{ program: string, form: import("./forms.js").Form, dictionary: () => string, file: string,
+   *   limits: { before: number, after: number, longest: number, keep: number, floor: number } }} decoding
+   */
+  constructor(folder, ring, decoding) {
+    this.folder = folder;
+    this.ring = ring;
+    this.decoding = decoding;
+    this.limits = decoding.limits;
+    mkdirSync(folder, { recursive: true });
+    const halves = readdirSync(folder).filter((name) => name.startsWith("."));
+    halves.forEach((name) => removed(join(folder, name)));
+  }
+
+  /** @param {Incident} incident */
+  nameOf({ first, zero, causes }) {
+    const stamp = iso(zero + first / RATE).replaceAll(":", "");
+    return `${stamp}-${Object.keys(causes)[0].replace(/[ /]/g, "-")}`;
+  }
+
+  /**
+   * Saves an incident.
+   * @param {Incident} incident
+   * @returns {Promise<string|null>} the name of its folder, if there is room and the bits are still there
+   */
+  async save(incident) {
+    const { before, after, longest, floor } = this.limits;
+    const { run, first } = incident;
+    const past = Math.min(incident.past, first + longest * RATE) + after * RATE;
+    const found = this.ring.read(this.decoding.form, run, Math.max(0, first - before * RATE), past);
+    const room = BESIDE * found.octets.length + PAGE;
+    this.prune(room);
+    if (found.octets.length === 0 || roomIn(this.folder) < floor + room) return null;
+    const [name, fresh] = [this.nameOf(incident), join(this.folder, `.${incident.id}-${process.pid}`)];
+    try {
+      rmSync(fresh, { recursive: true, force: true });
+      mkdirSync(fresh);
+      await this.fill(fresh, incident, found);
+      rmSync(join(this.folder, name), { recursive: true, force: true });
+      renameSync(fresh, join(this.folder, name));
+      return name;
+    } catch (fault) {
+      rmSync(fresh, { recursive: true, force: true });
+      throw fault;
+    }
+  }
+
+  /**
+   * Writes the files of a folder: the bits begin at a command, or its answer would be a stray.
+   * @param {string} fresh
+   * @param {Incident} incident
+   * @param {import("./ring.js").Bits} found
+   */
+  async fill(fresh, { first, zero, causes }, { octets, place }) {
+    const { form } = this.decoding;
+    const listing = join(fresh, "listing.txt");
+    await this.list(fresh, octets, place);
+    const head = Math.min((await firstCommand(listing)) ?? place, first);
+    const { at, passed } = octetsBefore(form, octets, Math.max(0, head - BEFORE_COMMAND - place));
+    if (at > 0) await this.list(fresh, octets.subarray(at), place + passed);
+    const begin = iso(zero);
+    const bus = new Bus(RATE, new DayTime(begin));
+    for await (const rows of rowsOfInput(piecesOf(listing, 1 << 16))) bus.takeSome(rows);
+    bus.end();
+    const entries = readDictionary(this.decoding.dictionary());
+    writeFileSync(join(fresh, "summary.txt"), report(bus, { end: null, entries }));
+    const packets = [script("list-to-pcap"), "--begin", begin, String(RATE), join(fresh, "frames.pcapng")];
+    await runOn(process.execPath, packets, listing, null);
+    if (page() === null) return;
+    const title = `${Object.keys(causes).join(", ")}, ${iso(zero + first / RATE)}`;
+    const words = [script("list-to-page"), "--dictionary", this.decoding.file, title];
+    await runOn(process.execPath, words, listing, join(fresh, "report.html"));
+  }
+
+  /**
+   * Writes the bits and their listing.
+   * @param {string} fresh
+   * @param {Uint8Array} octets
+   * @param {number} place
+   */
+  async list(fresh, octets, place) {
+    const { program, form, dictionary } = this.decoding;
+    const [bits, listing] = ["bits.ts2", "listing.txt"].map((name) => join(fresh, name));
+    writeFileSync(bits, captureOf(form, octets));
+    await runOn(program, wordsOfList(form, dictionary(), place), bits, listing);
+  }
+
+  /**
+   * Makes room: the oldest folders go first, but the first one of each cause stays as long as there are others.
+   * @param {number} room
+   */
+  prune(room) {
+    const folders = readdirSync(this.folder).filter((name) => !name.startsWith(".")).sort();
+    const sizes = new Map(folders.map((name) => [name, sizeOf(join(this.folder, name))]));
+    const causes = folders.map(causeOf);
+    const firsts = new Set(folders.filter((_, at) => causes.indexOf(causes[at]) === at));
+    const order = [...folders.filter((name) => !firsts.has(name)), ...folders.filter((name) => firsts.has(name))];
+    let total = [...sizes.values()].reduce((sum, size) => sum + size, 0);
+    for (const name of order) {
+      if (total + room <= this.limits.keep) return;
+      rmSync(join(this.folder, name), { recursive: true, force: true });
+      total -= sizes.get(name) ?? 0;
+    }
+  }
+}

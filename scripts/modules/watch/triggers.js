@@ -1,0 +1,165 @@
+import { ANSWER, RATE } from "../port1.js";
+import { DAMAGE } from "../listing/kinds.js";
+import { Kind } from "./kind.js";
+
+/** @typedef {import("../listing/listing.js").Row} Row */
+
+/** @typedef {{ line: string }|{ kind: string, commands?: number }} About what is well again */
+
+/**
+ * What is worth a capture, and what is well again.
+ * @typedef {object} Ears
+ * @property {(cause: string, first: number, past: number) => void} trigger
+ * @property {(about: About, first: number, past: number, since: number|null) => void} wellAgain
+ */
+
+/** Numbers of a trigger: answers in a row, damaged pieces in a second, and a rest of both lines in places. */
+export const USUAL = { row: 5, burst: 5, rest: RATE };
+
+/** Judges the lines of a listing, as they come, and what does not come. */
+export class Triggers {
+  /** @type {Map<string, Kind>} */
+  kinds = new Map();
+  frames = [0, 0, 0]; // by line
+  /** @type {Map<string, number>} */
+  damage = new Map(); // by line and cause
+  /** @type {number[]} */
+  pieces = []; // where the last damaged ones began
+  /** @type {number|null} */
+  lastHeard = null; // the end of the last frame or piece
+  isAtRest = false;
+
+  /** @param {Ears} ears @param {Map<string, number>} gaps by kind, in places @param {typeof USUAL} [numbers] */
+  constructor(ears, gaps, numbers = USUAL) {
+    this.ears = ears;
+    this.given = gaps;
+    this.numbers = numbers;
+  }
+
+  /** @param {string} name of a kind, as 16/0 */
+  kind(name) {
+    const known = this.kinds.get(name);
+    if (known) return known;
+    const fresh = new Kind(this.given.get(name));
+    this.kinds.set(name, fresh);
+    return fresh;
+  }
+
+  /**
+   * What an earlier run knew.
+   * @param {Record<string, ReturnType<Kind["kept"]>>} kept
+   * @param {number} place
+   */
+  restore(kept, place) {
+    for (const [name, { usual, isBad, isGone, since }] of Object.entries(kept)) {
+      Object.assign(this.kind(name), { usual, isBad, isGone, since, last: place, badFrom: place });
+    }
+  }
+
+  /**
+   * Bits were lost at a place: no gap, no row of bad answers and no burst goes over it.
+   * @param {number} place
+   */
+  seam(place) {
+    this.pieces = [];
+    if (this.lastHeard !== null) this.lastHeard = place;
+    for (const kind of this.kinds.values()) {
+      if (kind.last !== null && !kind.isGone) kind.last = place;
+      kind.bad = 0;
+    }
+  }
+
+  /** @param {Iterable<Row>} rows */
+  hear(rows) {
+    for (const row of rows) {
+      if (row.kind === "frame") this.frame(row);
+      else if (DAMAGE.includes(row.kind)) this.piece(row);
+      else if (row.kind === "answered") this.answered(row);
+      else if (row.kind === "late" || row.kind === "missing" || row.kind === "spoilt") this.badAnswer(row);
+    }
+  }
+
+  /** @param {Row} row */
+  heard({ first, past }) {
+    if (this.isAtRest) this.ears.wellAgain({ line: "both" }, /** @type {number} */ (this.lastHeard), first, null);
+    this.isAtRest = false;
+    this.lastHeard = past;
+  }
+
+  /** @param {Row} row */
+  frame(row) {
+    this.heard(row);
+    this.frames[row.line ?? 0] += 1;
+    if (row.line === 1 && row.type !== null && row.type < ANSWER) this.command(`${row.station}/${row.type}`, row.first);
+  }
+
+  /** @param {string} name @param {number} first */
+  command(name, first) {
+    const kind = this.kind(name);
+    kind.sent += 1;
+    const gap = kind.last === null ? null : first - kind.last;
+    if (kind.isGone) {
+      this.ears.wellAgain({ kind: name }, /** @type {number} */ (kind.last), first, kind.since);
+      if (!kind.isBad) kind.since = null;
+    } else if (gap !== null && gap > kind.limit) {
+      this.ears.trigger(`gap ${name}`, /** @type {number} */ (kind.last), first);
+    } else if (gap !== null) {
+      kind.learn(gap);
+    }
+    kind.last = first;
+    kind.isGone = false;
+  }
+
+  /** @param {Row} row */
+  answered(row) {
+    const name = `${row.station}/${row.type}`;
+    const kind = this.kind(name);
+    kind.verdicts.answered += 1;
+    if (row.replyBits !== null) kind.reply(row.replyBits);
+    if (kind.isBad) {
+      this.ears.wellAgain({ kind: name, commands: kind.bad }, kind.badFrom, row.first, kind.since);
+      kind.since = null;
+    }
+    kind.isBad = false;
+    kind.bad = 0;
+  }
+
+  /** @param {Row} row */
+  badAnswer(row) {
+    const name = `${row.station}/${row.type}`;
+    const kind = this.kind(name);
+    kind.verdicts[/** @type {"late"|"missing"|"spoilt"} */ (row.kind)] += 1;
+    if (row.replyBits !== null) kind.reply(row.replyBits);
+    if (kind.bad === 0 && !kind.isBad) kind.badFrom = row.first;
+    kind.bad += 1;
+    if (kind.isBad || kind.bad < this.numbers.row) return;
+    kind.isBad = true;
+    this.ears.trigger(`${row.kind} ${name}`, kind.badFrom, row.past);
+  }
+
+  /** @param {Row} row */
+  piece(row) {
+    this.heard(row);
+    const cause = `${row.line} ${row.cause || row.kind}`;
+    this.damage.set(cause, (this.damage.get(cause) ?? 0) + 1);
+    this.pieces.push(row.first);
+    if (this.pieces.length > this.numbers.burst) this.pieces.shift();
+    const isFull = this.pieces.length === this.numbers.burst;
+    if (isFull && row.first - this.pieces[0] < RATE) this.ears.trigger("burst", this.pieces[0], row.past);
+  }
+
+  /**
+   * Judges what time alone decides: all before a place has been heard.
+   * @param {number} mark
+   */
+  tick(mark) {
+    for (const [name, kind] of this.kinds) {
+      if (kind.isGone || kind.last === null || mark - kind.last <= kind.limit) continue;
+      kind.isGone = true;
+      this.ears.trigger(`gap ${name}`, kind.last, mark);
+    }
+    if (this.isAtRest || this.lastHeard === null || mark - this.lastHeard <= this.numbers.rest) return;
+    this.isAtRest = true;
+    this.ears.trigger("rest", this.lastHeard, mark);
+  }
+}

@@ -1,0 +1,250 @@
+import { mkdirSync } from "node:fs";
+import { join } from "node:path";
+import { RATE } from "../port1.js";
+import { called } from "./call.js";
+import { Decoder } from "./decoder.js";
+import { Packer } from "./forms.js";
+import { Incidents } from "./incidents.js";
+import { Journal, put } from "./journal.js";
+import { onceAMinute } from "./limits.js";
+import { keep, read, untold } from "./memory.js";
+import { metricsOf } from "./metrics.js";
+import { Ring } from "./ring.js";
+import { Saver } from "./saver.js";
+import { Triggers } from "./triggers.js";
+import { iso } from "./wall.js";
+
+/** How often what is known is written down, in seconds; the most incidents that wait to be saved. */
+const [KEEP, MOST_WAITING] = [10, 4];
+
+/** @typedef {import("./limits.js").Asked} Asked */
+/** @typedef {import("../listing/listing.js").Row} Row */
+
+/** A watch of a bus: what comes goes to the ring and to `port1`, whose lines are judged. */
+export class Watch {
+  lost = 0;
+  unsaved = 0;
+  saving = Promise.resolve();
+  kept = 0; // when what is known was written down, in seconds
+
+  decoder = /** @type {Decoder} */ (/** @type {unknown} */ (null)); // until it begins
+
+  /** @param {Asked} asked */
+  constructor(asked) {
+    this.asked = asked;
+    this.wall = asked.wall;
+    this.dictionary = asked.dictionary;
+    mkdirSync(asked.folder, { recursive: true });
+    this.state = this.path("state.json");
+    this.old = read(this.state);
+    this.number = this.old.run + 1;
+    this.complain = onceAMinute(asked.warn);
+    this.journal = new Journal(this.path("incidents.jsonl"), asked.write, this.complain);
+    this.packer = new Packer(asked.form);
+    const { ring: most, floor } = asked.limits;
+    this.ring = new Ring(this.path("ring"), this.number, { most, floor, warn: this.complain });
+    this.saver = new Saver(this.path("incidents"), this.ring, { ...asked, dictionary: () => this.dictionary });
+    this.incidents = new Incidents(this.number, asked.limits, this.office());
+    this.triggers = new Triggers({
+      trigger: (cause, first, past) => this.incidents.trigger(cause, first, past),
+      wellAgain: (about, first, past, since) => this.wellAgain(about, first, past, since),
+    }, asked.gaps);
+  }
+
+  /** @param {string} name */
+  path(name) {
+    return join(this.asked.folder, name);
+  }
+
+  /**
+   * What incidents need of the watch.
+   * @returns {import("./incidents.js").Office}
+   */
+  office() {
+    return {
+      zero: () => this.wall.zero,
+      keep: () => this.keep(),
+      log: (record) => this.journal.log(record),
+      save: (incident) => {
+        this.saving = this.saving.then(() => this.save(incident));
+      },
+    };
+  }
+
+  /** @param {number} place */
+  timeOf(place) {
+    return this.wall.zero + place / RATE;
+  }
+
+  /** @param {string} event @param {Record<string, unknown>} [more] */
+  log(event, more = {}) {
+    this.journal.log({ event, wall: iso(this.wall.now()), run: this.number, place: this.packer.places, ...more });
+  }
+
+  /** Begins: with what the run before knew, and did not tell. */
+  async begin() {
+    const since = this.old.wall === null ? {} : { since: iso(this.old.wall) };
+    this.log("start", since);
+    this.triggers.restore(this.old.kinds, 0);
+    this.incidents.seam(0);
+    this.incidents.takeOver(untold(this.old, this.journal.told("incident")));
+    this.keep();
+    await this.decode(0);
+  }
+
+  /**
+   * Starts `port1` for what comes from a place on.
+   * @param {number} place
+   */
+  async decode(place) {
+    const hear = (/** @type {Iterable<Row>} */ rows) => this.triggers.hear(rows);
+    this.decoder = new Decoder(this.asked.program, this.asked.form, this.dictionary, place, hear);
+    await this.decoder.begin();
+  }
+
+  /** Writes down what outlives the watch. */
+  keep() {
+    const { number, triggers, incidents } = this;
+    const timeOf = (/** @type {number} */ place) => this.timeOf(place);
+    const kinds = Object.fromEntries([...triggers.kinds].map(([name, kind]) => [name, kind.kept(timeOf)]));
+    const { open, waiting } = incidents;
+    this.tried("state", () => keep(this.state, { run: number, wall: this.wall.now(), kinds, open, waiting }));
+  }
+
+  /**
+   * Takes text that has come.
+   * @param {Buffer} text
+   */
+  async take(text) {
+    const { packer } = this;
+    const place = packer.begin;
+    const octets = packer.take(text);
+    if (octets.length > 0) this.ring.add(octets, place);
+    await this.decoder.feed(text, packer.places);
+    this.look(this.wall.take(packer.places));
+    this.judge();
+    if (this.incidents.waiting.length > MOST_WAITING) await this.saving;
+  }
+
+  /**
+   * Tells what the clocks say.
+   * @param {number} lost seconds of input
+   */
+  look(lost) {
+    const set = this.wall.set();
+    if (set !== 0) this.log("clock set", { seconds: Number(set.toFixed(3)) });
+    if (lost === 0) return;
+    this.lost += lost;
+    this.incidents.seam(this.packer.places);
+    this.log("input lost", { seconds: Number(lost.toFixed(3)) });
+  }
+
+  /** Judges by what `port1` has decided, never by what it was fed. */
+  judge() {
+    const { mark } = this.decoder;
+    this.triggers.tick(mark);
+    this.incidents.tick(mark);
+    const now = performance.now() / 1000;
+    if (now - this.kept < KEEP) return;
+    this.kept = now;
+    this.keep();
+    this.measure();
+  }
+
+  /** Writes the metrics. */
+  measure() {
+    const { lost, unsaved, ring, packer: { places } } = this;
+    const { prometheus } = this.asked;
+    const counts = { lost, unsaved, failed: ring.failed, places, last: this.timeOf(places) };
+    if (!prometheus) return;
+    this.tried("metrics", () => put(prometheus, metricsOf(this.triggers, this.incidents.tally, counts)));
+  }
+
+  /**
+   * Does what a full disk may keep from being done.
+   * @param {string} what
+   * @param {() => void} act
+   */
+  tried(what, act) {
+    try {
+      act();
+    } catch (fault) {
+      this.complain(`the ${what}: ${/** @type {Error} */ (fault).message}`);
+    }
+  }
+
+  /**
+   * Input did not come for a while, or is of another recording: nothing is judged over this.
+   * @param {string} event
+   * @param {Record<string, unknown>} [more]
+   */
+  seam(event, more = {}) {
+    this.incidents.seam(this.packer.places);
+    this.triggers.seam(this.packer.places);
+    this.wall.restart();
+    this.log(event, more);
+  }
+
+  /**
+   * @param {import("./triggers.js").About} about
+   * @param {number} first
+   * @param {number} past
+   * @param {number|null} since
+   */
+  wellAgain(about, first, past, since) {
+    this.incidents.wellAgain(past);
+    const seconds = since === null ? (past - first) / RATE : this.timeOf(past) - since;
+    const wall = iso(this.timeOf(past));
+    const length = Number(seconds.toFixed(3));
+    this.journal.log({ event: "well again", wall, run: this.number, place: past, ...about, seconds: length });
+  }
+
+  /**
+   * Saves an incident, and tells it, also where it cannot be saved.
+   * @param {import("./incidents.js").Incident} incident
+   */
+  async save(incident) {
+    let saved = null;
+    try {
+      saved = await this.saver.save(incident);
+    } catch (fault) {
+      this.complain(`an incident: ${/** @type {Error} */ (fault).message}`);
+    }
+    if (saved === null) this.unsaved += 1;
+    this.incidents.told(incident, saved);
+    const { run } = this.asked;
+    const folder = saved === null ? "" : join(this.path("incidents"), saved);
+    const fault = run ? await called(run, folder, Object.keys(incident.causes)) : "";
+    if (fault !== "") this.complain(`--run: ${fault}`);
+  }
+
+  /**
+   * Reads the dictionary anew: what comes from now on is decoded by it.
+   * @param {string} dictionary
+   */
+  async change(dictionary) {
+    await this.decoder.end();
+    this.dictionary = dictionary;
+    await this.decode(this.packer.places);
+    this.triggers.seam(this.packer.places);
+    this.log("dictionary");
+  }
+
+  /**
+   * Ends: all that came is judged, and the incident saved that was open.
+   * @param {boolean} isWell
+   */
+  async end(isWell = true) {
+    const { places } = this.packer;
+    if (isWell) await this.decoder.end();
+    if (isWell) this.triggers.tick(places);
+    this.incidents.tick(places);
+    this.incidents.close();
+    await this.saving;
+    this.ring.close();
+    await this.ring.packing;
+    this.keep();
+    this.measure();
+    this.log("end");
+  }
+}

@@ -1,0 +1,217 @@
+"""The scripts beside a recording that goes on: signals, and how soon what comes in goes out."""
+
+import os
+import signal
+import subprocess
+import threading
+import time
+from pathlib import Path
+from typing import Dict, Iterator, List, NamedTuple, Sequence, Tuple
+
+from needs import needs
+from tests.case import DICTIONARY, SCRIPTS, SECONDS, Run, is_of_node, lines
+
+RUNS: List[Run] = []
+
+SIGNALS = (signal.SIGINT, signal.SIGTERM)
+
+# How long a script may take to begin, and then for a line, in seconds.
+BEGIN, SOON = 20.0, 1.0
+
+LISTING = b"1 48 89 frame 108300fde5 station 16 type 0 call\n" * 3
+
+
+class Stream(NamedTuple):
+    """A script that reads a stream: its words, what it reads before the signal, and what it then writes."""
+
+    words: Sequence[str]
+    stdin: bytes
+    stdout: bytes
+    stderr: bytes = b""
+
+
+# A clock and its data: eight bits.
+SAMPLES = bytes([0, 1, 2, 3]) * 4096
+
+STREAMS: Dict[str, Stream] = {
+    "bus-summary": Stream([], LISTING, b"3 frames, 0 damaged pieces."),
+    "draft-dictionary": Stream([], LISTING, b"# 3 frames, to station 16."),
+    "flip-bits": Stream(["1"], b"0101", b"0001"),
+    "list-to-jsonl": Stream([], LISTING, b'"octets": "108300fde5", "station": 16, "type": 0, "name": "call"}\n'),
+    "list-to-page": Stream(["--page", str(SCRIPTS / "tests" / "page.html"), "title"], LISTING, b"</script>"),
+    "list-to-pcap": Stream(["153600", "--text"], LISTING, b"0.000312\n000000 10 83 00\n" * 3),
+    "pack-bits": Stream([], b"0101", b"TS2BITS1" + (4).to_bytes(8, "little") + b"\x0a"),
+    "recording-to-bits": Stream(["0", "1"], SAMPLES, lines("01" * 4096), b"recording-to-bits: 0 has 8192 edges\n"),
+}
+
+
+def started(name: str, words: Sequence[str]) -> "subprocess.Popen[bytes]":
+    if is_of_node(name):
+        needs("node")
+    environment = {key: value for key, value in os.environ.items() if key != "PYTHONUNBUFFERED"}
+    pipes = {"stdin": subprocess.PIPE, "stdout": subprocess.PIPE, "stderr": subprocess.PIPE}
+    return subprocess.Popen([SCRIPTS / name, *words], env=environment, bufsize=0, **pipes)
+
+
+def await_read(child: "subprocess.Popen[bytes]") -> None:
+    """Waits until a child has read all that was written, and reads again: until it sleeps, and nothing waits."""
+    deadline = time.monotonic() + BEGIN
+    rest = 0.0
+    while rest < 0.2 and time.monotonic() < deadline:
+        before = Path(f"/proc/{child.pid}/io").read_text()
+        time.sleep(0.1)
+        is_still = before == Path(f"/proc/{child.pid}/io").read_text() and "rchar: 0" not in before
+        rest = rest + 0.1 if is_still else 0.0
+
+
+def ended(child: "subprocess.Popen[bytes]", numbers: Sequence[int]) -> Tuple[bytes, bytes]:
+    """What a child writes that these signals end, while its input stays open."""
+    for number in numbers:
+        child.send_signal(number)
+        time.sleep(0.02)
+    out, err = child.stdout, child.stderr
+    assert out is not None and err is not None
+    timer = threading.Timer(BEGIN, child.kill)
+    timer.start()
+    found = out.read(), err.read()
+    timer.cancel()
+    return found
+
+
+def problems_of_signal(name: str, stream: Stream, number: int) -> Iterator[str]:
+    child = started(name, stream.words)
+    assert child.stdin is not None
+    child.stdin.write(stream.stdin)
+    await_read(child)
+    out, err = ended(child, [number])
+    if child.wait(SECONDS) != -number or stream.stdout not in out or not err.startswith(stream.stderr):
+        yield f"{name}: {signal.Signals(number).name}: status {child.returncode}, {out[-200:]!r}, {err!r}"
+    child.stdin.close()
+
+
+def first_signal_ends_the_stream(_: Path) -> List[str]:
+    """The first signal is the end of a stream: what came before is written whole, and the status is of the signal."""
+    rows = [(name, stream, number) for name, stream in STREAMS.items() for number in SIGNALS]
+    return [problem for row in rows for problem in problems_of_signal(*row)]
+
+
+def second_signal_ends_at_once(_: Path) -> List[str]:
+    """The second one ends a script at once: the status is of that one, and nothing is written of a whole."""
+    problems = []
+    for name in ("bus-summary", "draft-dictionary"):
+        child = started(name, [])
+        assert child.stdin is not None
+        child.stdin.write(LISTING)
+        await_read(child)
+        out, _ = ended(child, SIGNALS)
+        if child.wait(SECONDS) != -signal.SIGTERM or out:
+            problems.append(f"{name}: status {child.returncode}, {out!r}")
+        child.stdin.close()
+    return problems
+
+
+def half_a_dictionary_is_none(_: Path) -> List[str]:
+    """A signal ends a script at once that reads no stream."""
+    child = started("dictionary-to-lua", [])
+    assert child.stdin is not None
+    child.stdin.write(DICTIONARY.encode())
+    await_read(child)
+    out, _ = ended(child, [signal.SIGTERM])
+    child.stdin.close()
+    return [] if child.wait(SECONDS) == -signal.SIGTERM and not out else [f"status {child.returncode}, {out!r}"]
+
+
+def unfinished_files_are_removed(folder: Path) -> List[str]:
+    """A capture file is there whole after the first signal, and not at all after two; no other file stays."""
+    problems = []
+    for numbers, wanted in ((SIGNALS[1:], ["a.pcapng"]), (SIGNALS, [])):
+        child = started("list-to-pcap", ["153600", str(folder / "a.pcapng")])
+        assert child.stdin is not None
+        child.stdin.write(LISTING)
+        await_read(child)
+        ended(child, numbers)
+        child.wait(SECONDS)
+        child.stdin.close()
+        found = sorted(path.name for path in folder.iterdir())
+        problems += [] if found == wanted else [f"after {len(numbers)} signals: {found}"]
+        for path in folder.iterdir():
+            path.unlink()
+    return problems
+
+
+def lines_come_at_once(_: Path) -> List[str]:
+    """A single line of a listing is an object while nothing follows it."""
+    child = started("list-to-jsonl", [])
+    assert child.stdin is not None and child.stdout is not None
+    problems = []
+    for number in range(5):
+        begun = time.monotonic()
+        child.stdin.write(LISTING[: len(LISTING) // 3])
+        os.read(child.stdout.fileno(), 4096)
+        waited = time.monotonic() - begun
+        if waited > (SOON if number else BEGIN):
+            problems.append(f"line {number} after {waited:.1f} s")
+    child.stdin.close()
+    child.wait(SECONDS)
+    return problems
+
+
+def samples_of(hertz: int) -> bytes:
+    """A tenth of a second of four channels: both clocks, and data that changes now and then."""
+    period = hertz / 153600
+    found = bytearray()
+    for bit in range(15360):
+        data = 0b1010 if bit % 48 < 40 or bit % 2 else 0b1000 if bit % 96 < 48 else 0b0010
+        past = round((bit + 1) * period)
+        half = (past - len(found)) // 2
+        found += bytes([data]) * half + bytes([data | 0b0101]) * (past - len(found) - half)
+    return bytes(found)
+
+
+def delays_of(hertz: int, seconds: float) -> List[float]:
+    """How late the bits are of a recording in real time, each time some come."""
+    tenth = samples_of(hertz)
+    child = started("recording-to-bits", ["--samplerate", str(hertz), "0", "1", "2", "3"])
+    assert child.stdin is not None and child.stdout is not None
+    begun, found = time.monotonic(), []
+
+    def read() -> None:
+        bits = 0
+        while piece := os.read(child.stdout.fileno(), 1 << 20):
+            bits += len(piece.translate(None, b"\noi"))
+            found.append(time.monotonic() - begun - bits / 153600)
+
+    # Whoever writes must not wait for what is to be read.
+    reader = threading.Thread(target=read)
+    reader.start()
+    sent = 0
+    while (now := time.monotonic() - begun) < seconds:
+        past = min(int(now * hertz), sent + (1 << 15))
+        at = sent % len(tenth)
+        child.stdin.write(tenth[at : at + past - sent])
+        sent += min(past - sent, len(tenth) - at)
+        time.sleep(0.002 if now * hertz - past < 1 else 0)
+    child.kill()
+    child.wait(SECONDS)
+    reader.join(SECONDS)
+    return found[len(found) // 2 :]
+
+
+def bits_come_soon(_: Path) -> List[str]:
+    """From sample to bit: 95 of 100 within a tenth of a second, at 1 and at 4 million samples a second."""
+    problems = []
+    for hertz in (1_000_000, 4_000_000):
+        delays = sorted(delays_of(hertz, 4.0))
+        late = delays[len(delays) * 95 // 100]
+        problems += [] if late <= 0.1 else [f"{hertz} samples a second: {late:.2f} s"]
+    return problems
+
+
+TESTS = [
+    first_signal_ends_the_stream,
+    second_signal_ends_at_once,
+    half_a_dictionary_is_none,
+    unfinished_files_are_removed,
+    lines_come_at_once,
+    bits_come_soon,
+]

@@ -1,0 +1,267 @@
+"""bus-watch on a simulated cabinet: what it finds, and what becomes of it when its input, its disk or itself fails."""
+
+import json
+import os
+import random
+import re
+import shutil
+import signal
+import subprocess
+import time
+from pathlib import Path
+from typing import List, NamedTuple, Sequence
+
+from needs import Skipped, needs
+from tests.case import SCRIPTS, SECONDS, TOP, Run
+from tests.watched import DICTIONARY, RATE, SIMULATOR, Cabinet, Fault, Watched, judged, schedule, watched_with_kills
+
+RUNS: List[Run] = []
+
+
+def problems_of_time(
+    folder: Path, seed: int, seconds: int, count: int, kills: Sequence[float], form: str = "pairs"
+) -> List[str]:
+    cabinet = Cabinet(folder, schedule(seed, seconds, count), ["--ring", "256M"], form=form)
+    runs = watched_with_kills(cabinet, seconds, kills)
+    last = runs[-1]
+    problems = [] if last.status == 0 and last.stderr == "" else [f"status {last.status}, {last.stderr[-300:]}"]
+    return problems + judged(cabinet, runs)
+
+
+def an_hour(folder: Path) -> List[str]:
+    """A simulated hour with a fault each four minutes, and two kill -9."""
+    return problems_of_time(folder, 11, 3600, 15, [4.0, 5.0])
+
+
+def arrivals(folder: Path) -> List[str]:
+    """Bits in order of arrival: a simulated quarter of an hour."""
+    return problems_of_time(folder, 12, 900, 4, [1.5], "arrivals")
+
+
+def a_day(folder: Path) -> List[str]:
+    """A simulated day with 150 faults and seven kill -9."""
+    return problems_of_time(folder, 23, 86400, 150, [30.0, 41.0, 17.0, 26.0, 38.0, 22.0, 33.0])
+
+
+def problems_of_kills(folder: Path, moments: Sequence[float], scripts: Path = SCRIPTS) -> List[str]:
+    problems = []
+    for number, moment in enumerate(moments):
+        own = folder / str(number)
+        own.mkdir()
+        cabinet = Cabinet(own, [Fault(15 * RATE, 17 * RATE, "silent", 2)], scripts=scripts)
+        runs = [cabinet.run(0, 200 * RATE, moment, is_begun=True)]
+        runs.append(cabinet.run(300 * RATE, 320 * RATE))
+        told = cabinet.incidents
+        if len(told) != 1 or told[0]["saved"] is None or runs[1].status != 0:
+            problems.append(f"killed {moment:.3f} s after it began: {told}, {runs[1].stderr}")
+        problems += judged(cabinet, runs) if len(told) == 1 else []
+    return problems
+
+
+def kills(folder: Path) -> List[str]:
+    """An incident is told once and saved, whenever after its beginning the watch is killed."""
+    return problems_of_kills(folder, [0, 0.05, 0.1, 0.2, 0.3, 0.6])
+
+
+def many_kills(folder: Path) -> List[str]:
+    generator = random.Random(5)
+    return problems_of_kills(folder, [generator.uniform(0, 1.0) for _ in range(50)])
+
+
+def full_disk(folder: Path) -> List[str]:
+    """On a disk of 12 MB every incident is told, the watch goes on to the end, and the disk is never full."""
+    disk = folder / "watch"
+    disk.mkdir()
+    mounted = subprocess.run(["mount", "-t", "tmpfs", "-o", "size=12m", "none", disk], capture_output=True)
+    if mounted.returncode != 0:
+        raise Skipped("no disk of 12 MB: it takes root to mount one")
+    try:
+        cabinet = Cabinet(folder, schedule(3, 1800, 10), ["--floor", "1M", "--keep", "4M"])
+        run = cabinet.run(0, 1800 * RATE)
+        problems = [problem for problem in judged(cabinet, [run]) if not problem.startswith("not saved")]
+        problems = [problem for problem in problems if not problem.endswith("is not there")]
+        lines = run.stderr.splitlines()
+        return problems + ([] if run.status == 0 and len(lines) < 20 else [f"status {run.status}, {lines[:5]}"])
+    finally:
+        subprocess.run(["umount", disk], check=True)
+
+
+def child_of(watch: "subprocess.Popen[bytes]") -> int:
+    """The `port1` of a watch."""
+    for _ in range(200):
+        found = Path(f"/proc/{watch.pid}/task/{watch.pid}/children").read_text().split()
+        if found:
+            return int(found[-1])
+        time.sleep(0.05)
+    return 0
+
+
+def stalls(folder: Path) -> List[str]:
+    """In real time: a `port1` held up, a source that stalls, a dictionary read again: no faults of the cabinet."""
+    cabinet = Cabinet(folder, [], speed="1")
+    source = cabinet.simulator(0, 60 * RATE)
+    watch = cabinet.watch(source.stdout, None)
+    assert source.stdout is not None
+    source.stdout.close()
+    time.sleep(3)
+    watch.send_signal(signal.SIGHUP)
+    time.sleep(1.5)
+    port1 = child_of(watch)
+    for process, held in ((port1, 1.5), (source.pid, 4.5)):
+        os.kill(process, signal.SIGSTOP)
+        time.sleep(held)
+        os.kill(process, signal.SIGCONT)
+        time.sleep(1.5)
+    os.killpg(watch.pid, signal.SIGINT)
+    out, err = watch.communicate(timeout=SECONDS)
+    source.kill()
+    source.communicate()
+    events = [json.loads(line)["event"] for line in out.decode().splitlines()]
+    wanted = ["start", "dictionary", "input stalled", "input goes on", "end"]
+    return [] if events == wanted and watch.returncode == 0 and not err else [f"{events}, {watch.returncode}, {err!r}"]
+
+
+def port1_is_killed(folder: Path) -> List[str]:
+    """Where `port1` ends, one line says so, with status 2, and a new run goes on."""
+    cabinet = Cabinet(folder, [], speed="1")
+    source = cabinet.simulator(0, 60 * RATE)
+    watch = cabinet.watch(source.stdout, None)
+    assert source.stdout is not None
+    source.stdout.close()
+    time.sleep(2)
+    os.kill(child_of(watch), signal.SIGKILL)
+    _, err = watch.communicate(timeout=SECONDS)
+    source.communicate(timeout=SECONDS)
+    is_told = err.decode().startswith("bus-watch: port1 ended") and err.count(b"\n") == 1
+    return [] if watch.returncode == 2 and is_told else [f"status {watch.returncode}, {err!r}"]
+
+
+def source_that_ends(folder: Path) -> List[str]:
+    """A source is started again when it ends; what it said is told, and no seam is a fault of the cabinet."""
+    needs("node")
+    command = f"echo bad luck >&2; node {SIMULATOR} 7 0 {8 * RATE} '' 0; exit 3"
+    words = [SCRIPTS / "bus-watch", folder / "watch", "--dictionary", DICTIONARY, "--floor", "0", "--two", "--source", command]
+    watch = subprocess.Popen(words, stdin=subprocess.DEVNULL, stdout=subprocess.PIPE, stderr=subprocess.PIPE)
+    time.sleep(5)
+    watch.send_signal(signal.SIGINT)
+    out, err = watch.communicate(timeout=SECONDS)
+    records = [json.loads(line) for line in out.decode().splitlines()]
+    ended = [(r["status"], r["said"].split("\n")[0], r["again"]) for r in records if r["event"] == "source ended"]
+    others = {record["event"] for record in records} - {"source ended"}
+    is_well = ended[:2] == [(3, "bad luck", 1), (3, "bad luck", 2)] and others == {"start", "end"}
+    return [] if is_well and watch.returncode == 0 and not err else [f"{records}, {watch.returncode}, {err!r}"]
+
+
+def dead_wires(folder: Path) -> List[str]:
+    """Wires without a bus are no incident at the first start; a bus that was known and does not come is one."""
+    cabinet = Cabinet(folder, [Fault(0, 60 * RATE, "rest", 0), Fault(120 * RATE, 180 * RATE, "rest", 0)])
+    first = cabinet.run(0, 50 * RATE)
+    problems = [] if cabinet.incidents == [] and first.status == 0 else [f"at first: {first}"]
+    cabinet.run(70 * RATE, 100 * RATE)
+    cabinet.run(125 * RATE, 170 * RATE)
+    told = [(record["run"], record["place"]) for record in cabinet.incidents]
+    return problems + ([] if told == [(3, 0)] else [f"then: {cabinet.incidents}"])
+
+
+def commands_for_incidents(folder: Path) -> List[str]:
+    """--run runs for each incident, and knows its folder and its causes."""
+    told = folder / "told"
+    words = ["--run", f'echo "$PORT1_CAUSES" >> {told}; test -f "$PORT1_INCIDENT/summary.txt" && echo there >> {told}']
+    run = Cabinet(folder, [Fault(15 * RATE, 17 * RATE, "silent", 2)], words).run(0, 60 * RATE)
+    found = told.read_text() if told.exists() else ""
+    return [] if found == "missing 2/1\nthere\n" and run.status == 0 else [f"{found!r}, {run.stderr}"]
+
+
+def unit_and_metrics(folder: Path) -> List[str]:
+    """The unit of the examples is one that systemd takes; each family of metrics has its help and type before it."""
+    needs("systemd-analyze")
+    unit = folder / "bus-watch.service"
+    text = (TOP / "examples" / "watch" / unit.name).read_text(encoding="utf-8")
+    unit.write_text(text.replace("/usr/local/bin/bus-watch", str(SCRIPTS / "bus-watch")), encoding="utf-8")
+    told = subprocess.run(["systemd-analyze", "verify", unit], capture_output=True, text=True)
+    problems = [told.stdout + told.stderr] if told.returncode or unit.name in told.stderr else []
+    metrics = folder / "port1.prom"
+    Cabinet(folder, [Fault(15 * RATE, 17 * RATE, "silent", 2)], ["--prometheus", str(metrics)]).run(0, 60 * RATE)
+    known: List[str] = []
+    label = r'\w+="[^"]*"'
+    form = rf"(port1_\w+?)(?:_bucket|_sum|_count)?(?:\{{{label}(?:,{label})*\}})? [0-9.]+"
+    for line in metrics.read_text().splitlines():
+        head = re.fullmatch(r"# (HELP|TYPE) (port1_\w+) .+", line)
+        sample = re.fullmatch(form, line)
+        known += [head[2]] if head and head[1] == "TYPE" else []
+        problems += [] if head or sample and sample[1] in known else [line]
+    counted = 'port1_incidents_total{cause="missing"} 1' in metrics.read_text()
+    return problems + ([] if counted else ["no incident is counted"])
+
+
+class Wrong(NamedTuple):
+    """A wrong form: its file, what stands there, and what in its place."""
+
+    file: str
+    old: str
+    new: str
+
+
+WRONG = [
+    Wrong("watch.js", "const { mark } = this.decoder;", "const mark = this.packer.places;"),
+    Wrong("incidents.js", "waiting.push(open);\n    this.office.keep();", "office.keep(), this.waiting.push(open);"),
+    Wrong("incidents.js", "this.office.keep();\n    if (Object", "if (Object"),
+    Wrong("saver.js", "if (at > 0) await", "if (at < 0) await"),
+    Wrong("saver.js", "renameSync(fresh, join(this.folder, name))", "undefined"),
+]
+
+
+def problems_with(folder: Path, wrong: Wrong) -> List[str]:
+    """What the judge says of a wrong form: on a short time with a fault, and on kills."""
+    scripts = folder / "scripts"
+    shutil.copytree(SCRIPTS, scripts, ignore=shutil.ignore_patterns("tests"))
+    path = scripts / "modules" / "watch" / wrong.file
+    text = path.read_text(encoding="utf-8")
+    if text.count(wrong.old) != 1:
+        return []
+    path.write_text(text.replace(wrong.old, wrong.new), encoding="utf-8")
+    cabinet = Cabinet(folder, [Fault(30 * RATE, 32 * RATE, "silent", 2)], scripts=scripts)
+    problems = judged(cabinet, [cabinet.run(0, 120 * RATE)])
+    return problems or problems_of_kills(folder, [0.05 * at for at in range(16)], scripts)
+
+
+def wrong_forms(folder: Path) -> List[str]:
+    """Triggers by what was fed, a state that lacks what is to be saved, no cut at a command, no rename."""
+    problems = []
+    for number, wrong in enumerate(WRONG):
+        own = folder / str(number)
+        own.mkdir()
+        problems += [] if problems_with(own, wrong) else [f"{wrong.file}: {wrong.new!r} is not refused"]
+    return problems
+
+
+def lost_input(folder: Path) -> List[str]:
+    """In real time: samples that are lost are told with their length, and are no fault of the cabinet."""
+    cabinet = Cabinet(folder, [Fault(15 * RATE, int(16.5 * RATE), "lose", 0)], speed="1")
+    source = cabinet.simulator(0, 40 * RATE)
+    watch = cabinet.watch(source.stdout, None)
+    assert source.stdout is not None
+    source.stdout.close()
+    out, _ = watch.communicate(timeout=SECONDS)
+    source.communicate(timeout=SECONDS)
+    records = [json.loads(line) for line in out.decode().splitlines()]
+    lost = [record["seconds"] for record in records if record["event"] == "input lost"]
+    is_told = len(lost) == 1 and abs(lost[0] - 1.5) < 0.02 and cabinet.incidents == []
+    return [] if is_told else [f"{records}"]
+
+TESTS = [
+    an_hour,
+    arrivals,
+    kills,
+    full_disk,
+    stalls,
+    port1_is_killed,
+    source_that_ends,
+    dead_wires,
+    commands_for_incidents,
+    unit_and_metrics,
+    wrong_forms,
+    lost_input,
+    a_day,
+    many_kills,
+]

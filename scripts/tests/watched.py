@@ -1,0 +1,177 @@
+"""A simulated cabinet and the watch of it: its faults, its runs, and a judge of what was found."""
+
+import json
+import random
+import subprocess
+import time
+from pathlib import Path
+from typing import Any, Dict, Iterator, List, NamedTuple, Optional, Sequence
+
+from needs import needs
+from tests.case import SCRIPTS, SECONDS, TOP, Word
+
+RATE, ROUND = 153600, 6144
+
+SIMULATOR = SCRIPTS / "modules" / "tests" / "support" / "simulated_cabinet.js"
+
+DICTIONARY = TOP / "examples" / "port1-failure.toml"
+
+# When place 0 was, in seconds since 1970: 2026-11-27T03:00:00Z.
+BEGIN = 1795748400
+
+# The places that stand in pipes where bits come as fast as they can, and that a kill loses.
+IN_PIPES = 4 * RATE
+
+Record = Dict[str, Any]
+
+# How long a run may take on a simulated day, in seconds.
+LONG = 3000
+
+
+class Fault(NamedTuple):
+    """A fault of the cabinet: its places, its kind and a number."""
+
+    begin: int
+    past: int
+    kind: str
+    number: float
+
+    @property
+    def is_small(self) -> bool:
+        """Whether it is below all thresholds: two commands."""
+        return self.past - self.begin < 0.1 * RATE
+
+
+def fault_of(generator: random.Random, second: float, longest: float) -> Fault:
+    """A fault at a second, some of them too short to be told."""
+    kind = generator.choice(["destroy", "skip", "silent", "late", "burst", "rest"])
+    number, length = 0.0, generator.uniform(0.35, 8)
+    if kind in ("silent", "late"):
+        number = generator.choice([1, 2, 16])
+    elif kind == "burst":
+        number, length = generator.choice([0.01, 0.03]), generator.uniform(0.5, 3)
+    if kind not in ("burst", "rest") and generator.random() < 0.15:
+        length = 2 * ROUND / RATE - 0.01
+    elif generator.random() < 0.1:
+        kind, number, length = generator.choice([("rest", 0, longest), ("silent", 2, longest)])
+    return Fault(int(second * RATE), int((second + length) * RATE), kind, number)
+
+
+def schedule(seed: int, seconds: int, count: int) -> List[Fault]:
+    generator = random.Random(seed)
+    step = (seconds - 120) / count
+    begins = [60 + (at + generator.uniform(0, 0.3)) * step for at in range(count)]
+    return [fault_of(generator, begin, min(3600, 0.5 * step)) for begin in begins]
+
+
+class Watched(NamedTuple):
+    """A run of the watch: its places, what it wrote, and its status."""
+
+    begin: int
+    past: int
+    records: List[Record]
+    stderr: str
+    status: int
+
+
+class Cabinet(NamedTuple):
+    """A simulated cabinet and its watch, in a folder."""
+
+    folder: Path
+    faults: Sequence[Fault]
+    words: Sequence[str] = ()
+    speed: str = "0"
+    form: str = "pairs"
+    scripts: Path = SCRIPTS
+
+    def simulator(self, begin: int, past: int) -> "subprocess.Popen[bytes]":
+        plan = self.folder / "schedule"
+        plan.write_text("".join(f"{f.begin} {f.past} {f.kind} {f.number}\n" for f in self.faults))
+        words = ["node", SIMULATOR, "7", str(begin), str(past), plan, self.speed, self.form]
+        return subprocess.Popen(words, stdout=subprocess.PIPE, stderr=subprocess.PIPE)
+
+    def watch(self, source: Any, begin: Optional[int]) -> "subprocess.Popen[bytes]":
+        needs("node")
+        zero = time.gmtime(BEGIN + (begin or 0) / RATE)
+        date = [] if begin is None else ["--begin", time.strftime("%Y-%m-%dT%H:%M:%SZ", zero)]
+        form = ["--two"] if self.form == "pairs" else []
+        words: List[Word] = [self.scripts / "bus-watch", self.folder / "watch", "--dictionary", DICTIONARY]
+        pipes = {"stdin": source, "stdout": subprocess.PIPE, "stderr": subprocess.PIPE}
+        return subprocess.Popen([*words, *date, *form, "--floor", "0", *self.words], start_new_session=True, **pipes)
+
+    def run(self, begin: int, past: int, kill: Optional[float] = None, is_begun: bool = False) -> Watched:
+        """Runs the watch on some places; it is killed after so many seconds, or so long after an incident began."""
+        source = self.simulator(begin, past)
+        watch = self.watch(source.stdout, begin)
+        assert source.stdout is not None and watch.stdout is not None
+        source.stdout.close()
+        out = b""
+        while is_begun and b'"begun"' not in out:
+            out += watch.stdout.readline()
+        if kill is not None:
+            time.sleep(kill)
+            watch.kill()
+        rest, err = watch.communicate(timeout=LONG)
+        _, told = source.communicate(timeout=SECONDS)
+        records = [json.loads(line) for line in (out + rest).decode().splitlines() if line.endswith("}")]
+        return Watched(begin, int(told.split()[-1]), records, err.decode(), watch.returncode)
+
+    @property
+    def log(self) -> List[Record]:
+        return [json.loads(line) for line in (self.folder / "watch" / "incidents.jsonl").read_text().splitlines()]
+
+    @property
+    def incidents(self) -> List[Record]:
+        return [record for record in self.log if record["event"] == "incident"]
+
+
+def problems_of_folder(folder: Path, record: Record) -> Iterator[str]:
+    """What is wrong with a folder: whole, of that time, and its bits begin at a command."""
+    if not folder.is_dir():
+        yield f"{folder.name} is not there"
+        return
+    files = {"bits.ts2", "listing.txt", "summary.txt", "frames.pcapng"}
+    found = {path.name for path in folder.iterdir()} - {"report.html"}
+    summary = (folder / "summary.txt").read_text() if "summary.txt" in found else ""
+    if found != files:
+        yield f"{folder.name} has {sorted(found)}"
+    frames = [line for line in (folder / "listing.txt").read_text().splitlines() if " frame " in line]
+    if not frames or frames[0].split()[8:9] not in (["0"], ["1"]) or frames[0][0] != "1":
+        yield f"{folder.name} begins with {frames[:1]}"
+    date = record["wall"][:10]
+    if f"It begins on {date}" not in summary:
+        yield f"{folder.name}: {summary[:120]}"
+
+
+def judged(cabinet: Cabinet, runs: Sequence[Watched]) -> List[str]:
+    """What is wrong: each fault that was watched is found once, nothing else is told, and all of it was saved."""
+    begins = {number: run.begin for number, run in enumerate(runs, 1)}
+    told = []
+    for record in cabinet.incidents:
+        first = begins[record["run"]] + record["place"]
+        told.append((first, first + int(record["seconds"] * RATE), record))
+    problems = []
+    for fault in cabinet.faults:
+        near = (fault.begin - 2 * RATE, fault.past + 2 * RATE)
+        own = [record for first, past, record in told if near[0] < past and first < near[1]]
+        fresh = [record for record in own if "continues" not in record]
+        is_watched = any(run.begin < fault.past - RATE and fault.begin < run.past - IN_PIPES for run in runs)
+        wanted = 0 if fault.is_small or not is_watched else 1
+        problems += [] if len(fresh) == wanted or len(own) > wanted == 0 and not is_watched else [f"{fault}: {fresh}"]
+    for first, past, record in told:
+        if not any(f.begin - 2 * RATE < past and first < f.past + 2 * RATE for f in cabinet.faults):
+            problems.append(f"false: {record}")
+        folder = record["saved"] and cabinet.folder / "watch" / "incidents" / record["saved"]
+        problems += list(problems_of_folder(folder, record)) if folder else [f"not saved: {record}"]
+    ids = [record["id"] for record in cabinet.incidents]
+    return problems + [f"{found} twice" for found in set(ids) if ids.count(found) > 1]
+
+
+def watched_with_kills(cabinet: Cabinet, seconds: int, kills: Sequence[float]) -> List[Watched]:
+    """Runs over so much time, each but the last killed after some seconds; half a minute is not watched after each."""
+    runs: List[Watched] = []
+    begin = 0
+    for kill in [*kills, None]:
+        runs.append(cabinet.run(begin, seconds * RATE, kill))
+        begin = runs[-1].past + 30 * RATE
+    return runs
