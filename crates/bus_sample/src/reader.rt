@@ -93,7 +93,12 @@ impl SampleRun {
     }
 
     /// Takes samples with the same levels, and puts the bits that arrive.
-    fn consume_run<W: Write>(&mut self, sample: u64, count: u64, w: &mut W) -> Result<(), SampleFault>
+    fn consume_run<W: Write>(
+        &mut self,
+        sample: u64,
+        count: u64,
+        w: &mut W,
+    ) -> Result<(), SampleFault>
         requires { IsSound self.old }
         ensures taken { (start : Option (List ℕ)) (ss : List ℕ) → HasTaken start (W.contents w.old) self.old ss →
             MatchResult result (λ _. HasTaken start (W.contents w.new) self.new (ss ++ replicate count sample))
