@@ -4,8 +4,8 @@ ghost use Rattle.std.specs.Prelude.{◌≡◌, ◌≤◌, ℕ, List, Option, ◌
 ghost use Rattle.bus_calls.specs.Captures.{arrival_of};
 ghost use Rattle.bus_calls.specs.Internal.Arrivals.{arrivals_kind};
 ghost use Rattle.bus_calls.specs.Internal.Watching.{Halts, IsSame, IsSound, Watches};
-ghost use Rattle.bus_clocks.specs.Arrival.{Arrival};
-ghost use Rattle.bus_clocks.specs.Rested.{fill};
+ghost use Rattle.bus_tap.specs.Arrival.{Arrival};
+ghost use Rattle.bus_tap.specs.Rested.{fill};
 
 use crate::capture_kind::CaptureKind;
 use crate::run::CaptureRun;
@@ -13,7 +13,8 @@ use arrayvec::ArrayVec;
 use bus_bits::laws::{arrival_captures_grow, arrivals_are_head_and_body};
 use bus_bits::{ArrivalHead, BadMark, HeadFault, PackedFault, PackedPairs, TextArrivals};
 use bus_clocks::laws::arrivals_are;
-use bus_clocks::{Arrival, RestRule, TwoClockAnalyser};
+use bus_clocks::{Arrival, TwoClockAnalyser};
+use bus_tap::RestRule;
 use bus_dictionary::Dictionary;
 use bus_fcs::Check;
 use bus_text::{Page, Printer, ShortWrite, ToolFault, put_kept};

@@ -15,40 +15,12 @@ use Rattle.bus_pairing.specs.declared.line.Line.{Line}
 use Rattle.bus_pairing.specs.declared.line.Line.TheVariants.{First, Second}
 use Rattle.bus_line.proofs.DueLemmas.{class-due}
 use Rattle.bus_watch.proofs.MergedLemmas.{merged-more, length-firsts, length-seconds}
-use Rattle.bus_clocks.specs.Arrival.{Arrival, own, firsts_before, place_of, at_places, due_on, decided_at, arrived}
+use Rattle.bus_tap.specs.Arrival.{Arrival, own, firsts_before}
+use Rattle.bus_clocks.specs.Arrival.{place_of, at_places, due_on, decided_at, arrived}
 use Rattle.bus_clocks.specs.Arrival.{decides}
 use Rattle.bus_clocks.specs.Laws.{in_turn, ArrivalsGrow}
-use Rattle.bus_clocks.proofs.EachLemmas.{each-more, alone-front, alone-last}
-
--- the bits of a line
-pub own-append : (line : Line) (xs ys : List Arrival) → own line (xs ++ ys) ≡ own line xs ++ own line ys
-own-append First [] ys = refl
-own-append Second [] ys = refl
-own-append First ((First, bit) ∷ xs) ys = ap (λ b. bit ∷ b) (own-append First xs ys)
-own-append First ((Second, bit) ∷ xs) ys = own-append First xs ys
-own-append Second ((First, bit) ∷ xs) ys = own-append Second xs ys
-own-append Second ((Second, bit) ∷ xs) ys = ap (λ b. bit ∷ b) (own-append Second xs ys)
-
--- the places of the second line stay when more arrives
-pub before-append : (k : ℕ) (xs ys : List Arrival) → k < length (own Second xs) →
-    firsts_before k (xs ++ ys) ≡ firsts_before k xs
-before-append k [] ys inside = absurd (omega (arith, inside))
-before-append k ((First, bit) ∷ xs) ys inside = ap suc (before-append k xs ys inside)
-before-append zero ((Second, bit) ∷ xs) ys inside = refl
-before-append (suc k) ((Second, bit) ∷ xs) ys inside = before-append k xs ys (omega (arith, inside))
-
--- before the next bit of the second line come all bits of the first
-pub before-now : (xs : List Arrival) (bit : Bool) →
-    firsts_before (length (own Second xs)) (xs ++ (Second, bit) ∷ []) ≡ length (own First xs)
-before-now [] bit = refl
-before-now ((First, b) ∷ xs) bit = ap suc (before-now xs bit)
-before-now ((Second, b) ∷ xs) bit = before-now xs bit
-
-pub before-within : (k : ℕ) (xs : List Arrival) → firsts_before k xs ≤ length (own First xs)
-before-within k [] = omega arith
-before-within k ((First, bit) ∷ xs) = omega (arith, before-within k xs)
-before-within zero ((Second, bit) ∷ xs) = omega arith
-before-within (suc k) ((Second, bit) ∷ xs) = before-within k xs
+use Rattle.bus_tap.proofs.ArrivalLemmas.{own-append, before-append}
+use Rattle.bus_tap.proofs.EachLemmas.{each-more, alone-front, alone-last}
 
 -- where the span of a report lies that bit `n` decides
 pub record IsNear (n : ℕ) (r : Report) : Type 0 where

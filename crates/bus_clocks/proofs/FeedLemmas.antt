@@ -5,9 +5,9 @@ use Rattle.std.proofs.lemmas.Bool.{cases_lt, leb-true, le-leb}
 use Rattle.std.proofs.lemmas.List.{take_more, take-append-drop}
 use Rattle.bus_pairing.specs.declared.line.Line.{Line}
 use Rattle.bus_pairing.specs.declared.line.Line.TheVariants.{First, Second}
-use Rattle.bus_clocks.specs.Arrival.{Arrival, own}
+use Rattle.bus_tap.specs.Arrival.{Arrival, own}
 use Rattle.bus_clocks.specs.Clocks.{ClockState, RunsPast, decoder_on}
-use Rattle.bus_clocks.proofs.ArrivalLemmas.{own-append}
+use Rattle.bus_tap.proofs.ArrivalLemmas.{own-append}
 use Rattle.bus_clocks.proofs.RoomLemmas.{own-count}
 
 -- arrival `i`, as it is read

@@ -5,14 +5,7 @@ pub mod PushLemmas
 pub mod ApartLemmas
 pub mod HeadlineLemmas
 pub mod StepsLemmas
-pub mod EachLemmas
-pub mod RestLemmas
-pub mod SampledLemmas
-pub mod SameSampleLemmas
 pub mod FeedLemmas
 pub mod RunLemmas
 pub mod ScanLemmas
 pub mod SumLemmas
-pub mod CountedLemmas
-pub mod FactsLemmas
-pub mod TapLemmas

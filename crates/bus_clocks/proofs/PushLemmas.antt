@@ -23,14 +23,16 @@ use Rattle.bus_pairing.specs.declared.line.Line.TheVariants.{First, Second}
 use Rattle.bus_pairing.proofs.SeenLemmas.{seen-more}
 use Rattle.bus_watch.specs.Internal.Decodes.{line_reports_of}
 use Rattle.bus_watch.proofs.AnalyserViewLemmas.{whole}
-use Rattle.bus_clocks.specs.Arrival.{Arrival, own, place_of, at_places, decides, arrived}
+use Rattle.bus_tap.specs.Arrival.{Arrival, own}
+use Rattle.bus_clocks.specs.Arrival.{place_of, at_places, decides, arrived}
 use Rattle.bus_clocks.specs.Clocks.{ClockState, PlacesState, KeepsPlaces, IsAfterArrivals, AdvancesArrivals}
 use Rattle.bus_clocks.specs.Clocks.{arrival_reports}
 use Rattle.bus_clocks.specs.Clocks.{CountsOn}
 use Rattle.bus_clocks.specs.Internal.Pushes.{DecodesBit, OpensWith, Notes, IsLocated, AreLocated, IsLocatable}
 use Rattle.bus_clocks.specs.Internal.Pushes.{AdvancesConversationBy, FitsPast}
 use Rattle.bus_clocks.specs.Laws.{ArrivalsGrow}
-use Rattle.bus_clocks.proofs.ArrivalLemmas.{own-append, IsNear, report-near, before-append, before-within}
+use Rattle.bus_tap.proofs.ArrivalLemmas.{own-append, before-append, before-within}
+use Rattle.bus_clocks.proofs.ArrivalLemmas.{IsNear, report-near}
 use Rattle.bus_clocks.proofs.ArrivalLemmas.{decides-first, decides-second}
 use Rattle.bus_clocks.proofs.PlacesLemmas.{places-first, places-second, was-open, WasOpen, begun-within}
 

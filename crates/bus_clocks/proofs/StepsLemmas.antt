@@ -11,7 +11,7 @@ use Rattle.bus_pairing.specs.Ledger.{steps, handled, total, sum_of_steps, IsAnal
 use Rattle.bus_pairing.specs.declared.line.Line.TheVariants.{First, Second}
 use Rattle.bus_pairing.proofs.LedgerLemmas.{cost-within}
 use Rattle.bus_watch.specs.Laws.{StepsWithinFour, StepsWithinThree}
-use Rattle.bus_clocks.specs.Arrival.{Arrival, own}
+use Rattle.bus_tap.specs.Arrival.{Arrival, own}
 use Rattle.bus_clocks.specs.Clocks.{ClockState, IsAfterArrivals}
 use Rattle.bus_clocks.specs.Ledger.{IsClockLedger}
 use Rattle.bus_clocks.specs.Laws.{ArrivalsGrow}

@@ -1,6 +1,6 @@
 -- Sums over the reports of arrivals.
-use Rattle.std.proofs.Common.{◌≡◌, ℕ, ◌+◌, Bool, List, [], ◌∷◌, ◌++◌, length, map, Option, Some, None, refl, sym, ap}
-use Rattle.std.proofs.Common.{◌∙◌, subst, arith, append-nil, append_assoc}
+use Rattle.std.proofs.Common.{◌≡◌, ℕ, ◌+◌, Bool, List, [], ◌∷◌, ◌++◌, length, map, Option, Some, None, refl, ap}
+use Rattle.std.proofs.Common.{◌∙◌, arith, append-nil}
 use Rattle.std.specs.List.{sum_by}
 use Rattle.std.specs.Option.{option_map, option_to_list}
 use Rattle.std.proofs.lemmas.List.Sums.{sum_by-append}
@@ -10,20 +10,11 @@ use Rattle.bus_line.specs.Laws.{OneMore}
 use Rattle.bus_pairing.specs.LineReport.{LineReport, line_report}
 use Rattle.bus_pairing.specs.declared.line.Line.{Line}
 use Rattle.bus_pairing.specs.declared.line.Line.TheVariants.{First, Second}
-use Rattle.bus_clocks.specs.Arrival.{Arrival, own, at_places, decides, arrived}
+use Rattle.bus_tap.specs.Arrival.{Arrival, own}
+use Rattle.bus_clocks.specs.Arrival.{at_places, decides, arrived}
 use Rattle.bus_clocks.specs.Laws.{ArrivalsGrow}
-use Rattle.bus_clocks.proofs.ArrivalLemmas.{own-append, decides-first, decides-second}
-
--- what holds of no arrivals, and stays with one more, holds of all
-from-front : (P : List Arrival → Type 0) → ((xs : List Arrival) (x : Arrival) → P xs → P (xs ++ x ∷ [])) →
-    (before after : List Arrival) → P before → P (before ++ after)
-from-front P step before [] holds = subst P (sym (append-nil before)) holds
-from-front P step before (x ∷ after) holds =
-    subst P (append_assoc before (x ∷ []) after) (from-front P step (before ++ x ∷ []) after (step before x holds))
-
-pub one-by-one : (P : List Arrival → Type 0) → P [] → ((xs : List Arrival) (x : Arrival) → P xs → P (xs ++ x ∷ [])) →
-    (xs : List Arrival) → P xs
-one-by-one P none step xs = from-front P step [] xs none
+use Rattle.bus_tap.proofs.ArrivalLemmas.{own-append, one-by-one}
+use Rattle.bus_clocks.proofs.ArrivalLemmas.{decides-first, decides-second}
 
 -- of a number that a report has whatever its places
 module _ (f : Report → ℕ) (same : (kind : Kind) (a b c d : ℕ) →

@@ -3,7 +3,7 @@
 -- The first line's bits number the places. The second line has a clock of its own: it may be quicker or slower, and may
 -- stop. So a bit of the second line has no place of its own, and stands at that of the last bit of the first line
 -- before it. Each line is decoded from its own bits alone, and its reports come when these decide.
-use Rattle.std.specs.Prelude.{ℕ, zero, suc, ◌+◌, ◌-◌, Bool, List, [], ◌∷◌, ◌++◌, length, map, take, drop, Option, Some}
+use Rattle.std.specs.Prelude.{ℕ, ◌+◌, ◌-◌, List, [], ◌∷◌, ◌++◌, length, map, take, drop, Option, Some}
 use Rattle.std.specs.Prelude.{option_map}
 use Rattle.std.specs.List.{flat_map}
 use Rattle.std.specs.Option.{option_to_list}
@@ -13,26 +13,7 @@ use Rattle.bus_line.specs.Due.{places, due_at, begun}
 use Rattle.bus_pairing.specs.LineReport.{LineReport, line_report, line_reports_at}
 use Rattle.bus_pairing.specs.declared.line.Line.{Line}
 use Rattle.bus_pairing.specs.declared.line.Line.TheVariants.{First, Second}
-
--- a bit, and the line that it arrived on
-abbrev pub Arrival : Type 0
-Arrival = Line × Bool
-
--- the bits of either line
-abbrev pub own : Line → List Arrival → List Bool
-own First [] = []
-own Second [] = []
-own First ((First, bit) ∷ xs) = bit ∷ own First xs
-own First ((Second, bit) ∷ xs) = own First xs
-own Second ((First, bit) ∷ xs) = own Second xs
-own Second ((Second, bit) ∷ xs) = bit ∷ own Second xs
-
--- how many bits of the first line come before bit `k` of the second
-abbrev pub firsts_before : ℕ → List Arrival → ℕ
-firsts_before k [] = 0
-firsts_before k ((First, bit) ∷ xs) = suc (firsts_before k xs)
-firsts_before zero ((Second, bit) ∷ xs) = 0
-firsts_before (suc k) ((Second, bit) ∷ xs) = firsts_before k xs
+use Rattle.bus_tap.specs.Arrival.{Arrival, own, firsts_before}
 
 -- the place of bit `k` of the second line: that of the last bit of the first line before it, and place 0 where there
 -- is none

@@ -1,6 +1,3 @@
 -- What proofs and private functions speak of: the state behind a contract, and what holds of it between two steps.
 pub mod ClockView
 pub mod Pushes
-pub mod Held
-pub mod Tallies
-pub mod Taps

@@ -1,5 +1,5 @@
 -- Laws over the definitions.
-use Rattle.std.specs.Prelude.{◌≡◌, ◌↔◌, ℕ, ◌+◌, Bool, List, [], ◌∷◌, ◌++◌, map, replicate}
+use Rattle.std.specs.Prelude.{◌≡◌, ℕ, Bool, List, [], ◌∷◌, ◌++◌, map}
 use Rattle.std.specs.List.{flat_map}
 use Rattle.bus_fcs.specs.Check.{CheckView}
 use Rattle.bus_line.specs.Due.{reports, placed}
@@ -7,10 +7,9 @@ use Rattle.bus_line.specs.Report.{moved}
 use Rattle.bus_pairing.specs.LineReport.{merged, of_side}
 use Rattle.bus_pairing.specs.declared.line.Line.TheVariants.{First, Second}
 use Rattle.bus_watch.specs.Laws.{IsAnyCut}
-use Rattle.bus_clocks.specs.Arrival.{Arrival, own, at_places, arrived, decides}
+use Rattle.bus_tap.specs.Arrival.{Arrival, own}
+use Rattle.bus_clocks.specs.Arrival.{at_places, arrived, decides}
 use Rattle.bus_clocks.specs.Clocks.{two_clocks}
-use Rattle.bus_clocks.specs.Rested.{rested}
-use Rattle.bus_clocks.specs.Sampled.{Channel, IsCounted, counted_level, sampled}
 
 -- pairs of bits as they arrive with one clock for both: first a bit of the first line, then one of the second
 abbrev pub in_turn : List (Bool × Bool) → List Arrival
@@ -36,18 +35,3 @@ LinesApart = (origin longest : ℕ) (xs : List Arrival) →
 -- however arrivals are cut into calls, what these show is what is seen of the whole list
 abbrev pub AnyCutOfArrivals : {C : Type 0} → CheckView C → Type 0
 AnyCutOfArrivals view = IsAnyCut (two_clocks view)
-
--- the rule of rest puts no bit into the first line, so that all places stay
-abbrev pub RestLeavesFirst : Type 0
-RestLeavesFirst = (most : ℕ) (xs : List Arrival) → own First (rested most xs) ≡ own First xs
-
--- which level counts is computed
-abbrev pub CountedIsIt : Type 0
-CountedIsIt = (hold : ℕ) (channel : Channel) (ss : List ℕ) (i : ℕ) (l : Bool) →
-    (counted_level hold channel ss i ≡ l) ↔ IsCounted hold channel ss i l
-
--- of samples in a row that are the same, those after the first `hold + 1` bring no bit, and change none that comes
--- later; where each level counts at once, a sample that changes nothing may be left out
-abbrev pub SameSamplesBringNothing : Type 0
-SameSamplesBringNothing = (hold s : ℕ) (ss ts : List ℕ) →
-    sampled hold ((ss ++ replicate (hold + 1) s) ++ s ∷ ts) ≡ sampled hold ((ss ++ replicate (hold + 1) s) ++ ts)

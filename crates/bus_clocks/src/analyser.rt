@@ -7,7 +7,7 @@ ghost use Rattle.std.specs.Option.{option_map, option_to_list};
 ghost use Rattle.std.specs.Borrow.{sem};
 ghost use Rattle.std.specs.Io.BufRead.{Rests};
 ghost use Rattle.bus_bits.specs.Limits.{most_places};
-ghost use Rattle.bus_clocks.specs.Arrival.{Arrival};
+ghost use Rattle.bus_tap.specs.Arrival.{Arrival};
 ghost use Rattle.bus_clocks.specs.Internal.Pushes.{OpensWith, DecodesBit, AdvancesConversationBy};
 ghost use Rattle.bus_line.specs.Limits.{most_octets};
 ghost use Rattle.bus_line.specs.Shown.{reported};
@@ -108,7 +108,8 @@ fn enter(conversation: &mut Conversation, line: Line, event: Option<Event>, octe
 
 impl<C: Check> TwoClockAnalyser<C> {
     ghost use Rattle.bus_clocks.specs.contracts.analyser.TwoClockAnalyser.{the_row};
-    ghost use Rattle.bus_clocks.specs.Arrival.{own, begun_places};
+    ghost use Rattle.bus_tap.specs.Arrival.{own};
+    ghost use Rattle.bus_clocks.specs.Arrival.{begun_places};
     ghost use Rattle.bus_clocks.specs.Clocks.{IsAfterArrivals, AdvancesArrivals, arrival_reports, seen_after_arrivals};
     ghost use Rattle.bus_clocks.specs.Clocks.{decoder_on};
     ghost use Rattle.bus_clocks.specs.Clocks.{CountsOn};

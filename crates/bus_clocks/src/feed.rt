@@ -2,7 +2,7 @@
 
 ghost use Rattle.std.specs.Prelude.{◌≡◌, ◌-◌, ◌<◌, ◌≤◌, ◌^◌, ◌↔◌, ◌∷◌, [], IsErrOf, IfErr, OnOk, OnErr, IsTrue, length};
 ghost use Rattle.bus_bits.specs.Limits.{most_places};
-ghost use Rattle.bus_clocks.specs.Arrival.{own};
+ghost use Rattle.bus_tap.specs.Arrival.{own};
 ghost use Rattle.bus_clocks.specs.Clocks.{two_clocks, decoder_on, CountsOn, RunsPast};
 ghost use Rattle.bus_pairing.specs.Sink.{SinkTook};
 ghost use Rattle.bus_pairing.specs.declared.line.Line.TheVariants.{First};

@@ -1,7 +1,7 @@
 //! Laws over the definitions.
 
 ghost use Rattle.bus_clocks.specs.Laws.{InTurnIsMerged, ArrivalsGrow, LinesApart, AnyCutOfArrivals};
-ghost use Rattle.bus_clocks.specs.Laws.{CountedIsIt, RestLeavesFirst, SameSamplesBringNothing};
+ghost use Rattle.bus_tap.specs.Laws.{CountedIsIt, RestLeavesFirst, SameSamplesBringNothing};
 
 use bus_fcs::Check;
 use bus_line::laws::{reports_are, reports_grow};
@@ -22,20 +22,4 @@ pub fn arrivals_are()
 /// order.
 pub fn any_cut_of_arrivals<C: Check>()
     ensures { AnyCutOfArrivals C.check }
-{}
-
-/// Rest is put into the second line alone, so that no place changes.
-pub fn rest_leaves_the_first_line()
-    ensures { RestLeavesFirst }
-{}
-
-/// Which level of a channel counts is the last one that stood long enough.
-pub fn counted_levels_stood()
-    ensures { CountedIsIt }
-{}
-
-/// Of samples in a row that are the same, those after the first `hold` + 1 may be left out. With `hold` 0 each sample
-/// that changes nothing may be.
-pub fn same_samples_bring_nothing()
-    ensures { SameSamplesBringNothing }
 {}

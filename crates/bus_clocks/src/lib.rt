@@ -5,22 +5,12 @@
 #![tactic(auto)]
 
 mod analyser;
-mod facts;
 mod feed;
 pub mod laws;
 mod places;
-mod rest;
 mod run;
-mod sampler;
 mod scan;
-mod tap;
-mod wires;
 
 pub use analyser::TwoClockAnalyser;
-pub use facts::{Gap, Levels, LineFacts, Occurrences, TapFacts};
 pub use feed::Arrival;
-pub use rest::RestRule;
 pub use run::{ClockRun, run_clocks};
-pub use sampler::{Edges, Sampler};
-pub use tap::{SampleLimit, Taken, Tap};
-pub use wires::{Wire, Wires};

@@ -2,8 +2,8 @@
 use Rattle.std.proofs.Common.{◌≡◌, ℕ, suc, ◌+◌, ◌%◌, ◌<◌, ◌≤◌, ◌==◌, false, List, [], ◌∷◌, ◌++◌}
 use Rattle.std.proofs.Common.{length, map, refl, sym, ap, ◌∙◌, arith, append-nil, append_assoc, Option}
 use Rattle.std.proofs.lemmas.Nat.{mod_below}
-use Rattle.bus_clocks.specs.Arrival.{Arrival}
-use Rattle.bus_clocks.proofs.EachLemmas.{each-more, alone-front, alone-last, length-more}
+use Rattle.bus_tap.specs.Arrival.{Arrival}
+use Rattle.bus_tap.proofs.EachLemmas.{each-more, alone-front, alone-last, length-more}
 use Rattle.arrayvec.specs.ArrayVec.{ArrayVec}
 use Rattle.bus_text.specs.Pages.{Pages}
 use Rattle.bus_text.proofs.PagesLemmas.{pages-more}

@@ -12,7 +12,7 @@ use Rattle.std.proofs.lemmas.Grind.{common_steps}
 use Rattle.bus_bits.specs.Capture.{is_arrival, is_space, mark_arrival, text_arrivals, text_arrivals_fault, front_by}
 use Rattle.bus_bits.specs.Capture.{bad_mark}
 use Rattle.bus_pairing.specs.declared.line.Line.TheVariants.{First, Second}
-use Rattle.bus_clocks.specs.Arrival.{Arrival}
+use Rattle.bus_tap.specs.Arrival.{Arrival}
 use Rattle.bus_sample.specs.Marks.{mark, marks_text, whole_text, line_end}
 use Rattle.bus_sample.specs.Laws.{captured}
 use Rattle.bus_sample.proofs.MarksLemmas.{marks-more}

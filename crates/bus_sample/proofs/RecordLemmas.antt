@@ -8,8 +8,9 @@ use Rattle.std.proofs.lemmas.Nat.{div-add-mod', div-mul-add, mod_below, row_fits
 use Rattle.std.proofs.lemmas.List.{drop-append-le, take-append-le, take_all, drop_all}
 use Rattle.std.proofs.lemmas.Bool.{cases_lt}
 use Rattle.bus_line.specs.Due.{places}
-use Rattle.bus_clocks.proofs.EachLemmas.{places-same, places-more, length-more}
-use Rattle.bus_sample.specs.Recording.{recorded, cut_record, record_at, record_number, run_of, size_of}
+use Rattle.bus_tap.proofs.EachLemmas.{places-same, places-more, length-more}
+use Rattle.bus_tap.specs.Recorded.{record_at, record_number}
+use Rattle.bus_sample.specs.Recording.{recorded, cut_record, run_of, size_of}
 use Rattle.bus_sample.specs.declared.options.Form.{Form}
 use Rattle.bus_sample.specs.declared.options.Form.TheVariants.{Samples}
 

@@ -2,9 +2,9 @@
 use Rattle.std.proofs.Common.{◌≡◌, ℕ, zero, suc, ◌+◌, ◌-◌, ◌≤◌, List, ◌∷◌, ◌++◌, length, map, replicate, refl, sym, ap}
 use Rattle.std.proofs.Common.{◌∙◌, arith, subst, length-append, append_assoc, append-nil, Option}
 use Rattle.std.proofs.lemmas.List.{map-append, length-replicate, length-map, replicate-append-replicate}
-use Rattle.bus_clocks.specs.Sampled.{sampled, bits_of_edges}
-use Rattle.bus_clocks.specs.Tapped.{TapState, AdvancesTap, IsTapAfter, channels}
-use Rattle.bus_clocks.specs.declared.sampler.Edges.{Edges}
+use Rattle.bus_tap.specs.Sampled.{sampled, bits_of_edges}
+use Rattle.bus_tap.specs.Tapped.{TapState, AdvancesTap, IsTapAfter, channels}
+use Rattle.bus_tap.specs.declared.sampler.Edges.{Edges}
 use Rattle.bus_sample.specs.Recording.{levels, arrivals}
 use Rattle.bus_sample.specs.Samples.{IsFrontOf}
 use Rattle.bus_sample.specs.Internal.Runs.{HasTaken, HasMarked}
@@ -22,7 +22,7 @@ levels-run o ss n s =
     ∙ ap (λ xs. levels o ss ++ xs) (map-same (channels o.wires) n s)
 
 module _ (o : SampleOptions) (old new : TapState) (ss : List ℕ) (n s l : ℕ) (e : Edges) (hold : old.hold ≡ o.hold)
-    (is : l ≡ channels o.wires s) (advances : AdvancesTap old (replicate n l) e new)
+    (is : l ≡ channels o.wires s) (advances : AdvancesTap old (replicate n l) (bits_of_edges e) new)
     (after : IsTapAfter old (levels o ss)) where
   same-levels : levels o (ss ++ replicate n s) ≡ levels o ss ++ replicate n l
   same-levels = levels-run o ss n s ∙ ap (λ x. levels o ss ++ replicate n x) (sym is)
@@ -39,7 +39,7 @@ module _ (o : SampleOptions) (old new : TapState) (ss : List ℕ) (n s l : ℕ) 
 -- and the text that was put
 pub taken-more : (start before now : Option (List ℕ)) (run new : SampleRun) (ss : List ℕ) (n s l : ℕ) (e : Edges) →
     run.tap.hold ≡ run.options.hold → l ≡ channels run.options.wires s →
-    AdvancesTap run.tap (replicate n l) e new.tap → HasTaken start before run ss → new.options ≡ run.options →
+    AdvancesTap run.tap (replicate n l) (bits_of_edges e) new.tap → HasTaken start before run ss → new.options ≡ run.options →
     HasMarked start now new.marks (arrivals run.options ss ++ bits_of_edges e) →
     HasTaken start now new (ss ++ replicate n s)
 taken-more start before now run new ss n s l e hold is advances taken same marked =

@@ -1,7 +1,7 @@
 -- What the program does to its reader and its writers, and its status.
 use Rattle.std.specs.Prelude.{◌≡◌, ℕ, ◌<◌, ◌⊎◌, true, false, Bool, List, length, take, Option, Result, Ok, Err}
 use Rattle.std.specs.Io.KnownBytes.{Appends, Consumes}
-use Rattle.bus_clocks.specs.declared.facts.TapFacts.{TapFacts}
+use Rattle.bus_tap.specs.declared.facts.TapFacts.{TapFacts}
 use Rattle.bus_sample.specs.Facts.{facts_text}
 use Rattle.bus_sample.specs.Samples.{SamplesBy}
 use Rattle.bus_sample.specs.declared.arguments.Request.{Request}

@@ -1,8 +1,8 @@
 -- The lines of facts.
 use Rattle.std.specs.Prelude.{ℕ, Bool, List, ◌++◌, codes, decimal, if◌then◌else◌}
-use Rattle.bus_clocks.specs.declared.facts.Occurrences.{Occurrences}
-use Rattle.bus_clocks.specs.declared.facts.Gap.{Gap}
-use Rattle.bus_clocks.specs.declared.facts.TapFacts.{TapFacts}
+use Rattle.bus_tap.specs.declared.facts.Occurrences.{Occurrences}
+use Rattle.bus_tap.specs.declared.facts.Gap.{Gap}
+use Rattle.bus_tap.specs.declared.facts.TapFacts.{TapFacts}
 
 abbrev pub number_line : List ℕ → ℕ → List ℕ
 number_line name n = name ++ codes " " ++ decimal n ++ codes "\n"

@@ -1,11 +1,11 @@
 -- Recordings: the samples that octets are.
 use Rattle.std.specs.Prelude.{ℕ, ◌-◌, ◌*◌, ◌/◌, ◌%◌, List, [], ◌∷◌, ◌++◌, length, map, take, drop, replicate}
-use Rattle.std.specs.Int.{w64, from_le_bytes}
 use Rattle.std.specs.List.{flat_map}
 use Rattle.bus_line.specs.Due.{places}
-use Rattle.bus_clocks.specs.Arrival.{Arrival}
-use Rattle.bus_clocks.specs.Sampled.{sampled}
-use Rattle.bus_clocks.specs.Tapped.{channels}
+use Rattle.bus_tap.specs.Arrival.{Arrival}
+use Rattle.bus_tap.specs.Recorded.{record_at}
+use Rattle.bus_tap.specs.Sampled.{sampled}
+use Rattle.bus_tap.specs.Tapped.{channels}
 use Rattle.bus_sample.specs.declared.options.Form.{Form}
 use Rattle.bus_sample.specs.declared.options.Form.TheVariants.{Samples, Runs}
 use Rattle.bus_sample.specs.declared.options.SampleOptions.{SampleOptions}
@@ -14,14 +14,6 @@ use Rattle.bus_sample.specs.declared.options.SampleOptions.{SampleOptions}
 abbrev pub size_of : Form → ℕ
 size_of (Samples octets) = octets
 size_of Runs = 8
-
--- the number that up to eight octets are, the lowest first
-abbrev pub record_number : List ℕ → ℕ
-record_number xs = from_le_bytes w64 (xs ++ replicate (8 - length xs) 0)
-
--- record `k` of these octets
-abbrev pub record_at : ℕ → List ℕ → ℕ → ℕ
-record_at size xs k = record_number (take size (drop (k * size) xs))
 
 -- a record is a sample or, of runs, its low octet as often as the rest of it says
 abbrev pub run_of : Form → ℕ → List ℕ

@@ -2,8 +2,8 @@
 use Rattle.std.specs.Prelude.{◌≡◌, ℕ, ◌-◌, ◌<◌, ◌≤◌, ◌⊎◌, List, [], ◌++◌, length, Option, Result, Ok, Err}
 use Rattle.std.specs.Io.KnownBytes.{Appends, IsAtEnd}
 use Rattle.bus_bits.specs.Limits.{most_places}
-use Rattle.bus_clocks.specs.Facts.{AreTapFacts}
-use Rattle.bus_clocks.specs.declared.facts.TapFacts.{TapFacts}
+use Rattle.bus_tap.specs.Facts.{AreTapFacts}
+use Rattle.bus_tap.specs.declared.facts.TapFacts.{TapFacts}
 use Rattle.bus_text.specs.Put.{Cuts}
 use Rattle.bus_sample.specs.Recording.{recorded, cut_record, levels, arrivals, size_of}
 use Rattle.bus_sample.specs.Marks.{marks_text, whole_text}

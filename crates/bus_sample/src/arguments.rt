@@ -3,7 +3,7 @@
 ghost use Rattle.std.specs.Prelude.{◌≡◌, ◌^◌, IfOk};
 
 use crate::options::{Form, SampleOptions};
-use bus_clocks::{Wire, Wires};
+use bus_tap::{Wire, Wires};
 use clap::{Arg, ArgAction, ArgMatches, Command, Error, value_parser};
 use std::alloc::Global;
 

@@ -7,7 +7,7 @@ ghost use Rattle.bus_text.specs.Adds.{Adds};
 ghost use Rattle.bus_sample.specs.Facts.{facts_text, gap_line, level_line, number_line, occurrences_line};
 
 use arrayvec::ArrayVec;
-use bus_clocks::{Gap, LineFacts, Occurrences, TapFacts};
+use bus_tap::{Gap, LineFacts, Occurrences, TapFacts};
 use bus_text::{ShortWrite, push_number, push_octets, put_text};
 use std::io::Write;
 

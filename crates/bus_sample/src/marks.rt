@@ -2,16 +2,16 @@
 
 ghost use Rattle.std.specs.Prelude.{◌≡◌, ◌+◌, ◌<◌, ◌≤◌, ◌^◌, ◌++◌, ◌∷◌, [], ℕ, List, Option, MatchResult, OnErr, OnOk};
 ghost use Rattle.arrayvec.specs.ArrayVec.{array_vec_len};
-ghost use Rattle.bus_clocks.specs.Arrival.{Arrival};
-ghost use Rattle.bus_clocks.specs.Sampled.{bits_of_edges, bit_on};
+ghost use Rattle.bus_tap.specs.Arrival.{Arrival};
+ghost use Rattle.bus_tap.specs.Sampled.{bits_of_edges, bit_on};
 ghost use Rattle.bus_text.specs.Pages.{Pages};
 ghost use Rattle.bus_text.specs.Put.{Cuts};
 ghost use Rattle.bus_sample.specs.Marks.{mark, marks_text, whole_text};
 ghost use Rattle.bus_sample.specs.Internal.Runs.{HasMarked, length_of};
 ghost use Rattle.std.specs.Io.KnownBytes.{Appends};
 
-use bus_clocks::Edges;
 use bus_pairing::Line;
+use bus_tap::Edges;
 use bus_text::{Page, ShortWrite};
 use std::io::Write;
 

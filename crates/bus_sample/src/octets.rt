@@ -1,25 +1,6 @@
-//! Octets of a recording: the number that some are, and how many are the same.
+//! How many octets of a recording are the same.
 
 ghost use Rattle.std.specs.Prelude.{◌≡◌, ◌-◌, ◌≤◌, ◌++◌, length, replicate, take, slice_index};
-ghost use Rattle.bus_sample.specs.Recording.{record_number};
-
-/// Up to eight octets, and zeros behind them.
-fn eight_of(octets: &[u8]) -> [u8; 8]
-    requires { length octets.now ≤ 8 }
-    ensures { result ≡ octets.now ++ replicate (8 - length octets.now) 0 }
-{
-    let mut whole = [0; 8];
-    whole[..octets.len()].copy_from_slice(octets);
-    whole
-}
-
-/// The number that up to eight octets are, the lowest first.
-pub(crate) fn number_of(octets: &[u8]) -> u64
-    requires { length octets.now ≤ 8 }
-    ensures { result ≡ record_number octets.now }
-{
-    u64::from_le_bytes(eight_of(octets))
-}
 
 /// How many of these octets, from the first on and by eights, are this one.
 fn eights_alike(octets: &[u8], first: u8) -> usize

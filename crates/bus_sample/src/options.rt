@@ -3,7 +3,7 @@
 ghost use Rattle.std.specs.Prelude.{◌≡◌};
 ghost use Rattle.bus_sample.specs.Recording.{size_of};
 
-use bus_clocks::Wires;
+use bus_tap::Wires;
 
 /// How a recording is written.
 #[derive(Clone, Copy, Debug, PartialEq, Eq)]

@@ -8,7 +8,7 @@ use crate::arguments::{Refusal, Request, read_arguments};
 use crate::facts::put_facts;
 use crate::fault::SampleFault;
 use crate::sample::sample_recording;
-use bus_clocks::TapFacts;
+use bus_tap::TapFacts;
 use bus_text::put_text;
 use clap::Error;
 use std::alloc::{AllocError, Global};

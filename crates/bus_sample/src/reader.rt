@@ -4,7 +4,7 @@ ghost use Rattle.std.specs.Prelude.{◌≡◌, ◌+◌, ◌-◌, ◌<◌, ◌≤
 ghost use Rattle.std.specs.Prelude.{OnOk, IfOk};
 ghost use Rattle.std.specs.Prelude.{length, replicate, take, slice_index, IsTrue, ◌↔◌, Ok, Err};
 ghost use Rattle.std.specs.Io.KnownBytes.{Consumes};
-ghost use Rattle.bus_sample.specs.Recording.{recorded, record_number, run_of, size_of};
+ghost use Rattle.bus_sample.specs.Recording.{recorded, run_of, size_of};
 ghost use Rattle.bus_sample.specs.Samples.{HasSize, SamplesBy};
 ghost use Rattle.bus_sample.specs.Internal.Runs.{HasTaken, HasRead, HaltsIn, Finishes, IsSameRecord, IsSound};
 ghost use Rattle.bus_sample.specs.declared.options.Form.TheVariants.{Samples};
@@ -13,10 +13,10 @@ ghost use Rattle.arrayvec.specs.ArrayVec.{array_vec_len};
 
 use crate::fault::SampleFault;
 use crate::marks::Marks;
-use crate::octets::{alike, number_of};
+use crate::octets::alike;
 use crate::options::{Form, SampleOptions};
 use arrayvec::ArrayVec;
-use bus_clocks::{Tap, TapFacts};
+use bus_tap::{Tap, TapFacts, number_of};
 use std::io::{Read, Write};
 
 /// How many octets are asked for at once.

@@ -7,7 +7,7 @@ ghost use Rattle.bus_sample.specs.Samples.{SamplesBy};
 use crate::fault::SampleFault;
 use crate::options::SampleOptions;
 use crate::reader::SampleRun;
-use bus_clocks::TapFacts;
+use bus_tap::TapFacts;
 use std::io::{Read, Write};
 
 /// Reads the samples of a recording to their end, and writes the bits that arrive in them as text, before each next

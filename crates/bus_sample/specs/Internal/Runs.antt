@@ -3,8 +3,8 @@ use Rattle.std.specs.Prelude.{◌≡◌, ℕ, ◌+◌, ◌-◌, ◌*◌, ◌%◌
 use Rattle.std.specs.Io.KnownBytes.{IsAtEnd}
 use Rattle.arrayvec.specs.ArrayVec.{array_vec_len}
 use Rattle.bus_bits.specs.Limits.{most_places}
-use Rattle.bus_clocks.specs.Arrival.{Arrival}
-use Rattle.bus_clocks.specs.Tapped.{IsTapAfter}
+use Rattle.bus_tap.specs.Arrival.{Arrival}
+use Rattle.bus_tap.specs.Tapped.{IsTapAfter}
 use Rattle.bus_text.specs.Pages.{Pages}
 use Rattle.bus_text.specs.Put.{Cuts}
 use Rattle.bus_sample.specs.Recording.{recorded, cut_record, levels, arrivals, size_of}

@@ -2,7 +2,7 @@
 
 use super::{Arrival, CALL, Turn, analyser, arrivals_in, push};
 use crate::expect::same;
-use bus_clocks::RestRule;
+use bus_tap::RestRule;
 use bus_fcs::OctetCheck;
 use bus_watch::Line;
 use std::alloc::Global;

@@ -1,7 +1,7 @@
 //! Bits from samples of four channels.
 
 use crate::expect::same;
-use bus_clocks::Sampler;
+use bus_tap::Sampler;
 
 /// In how many samples more a level has to stand, samples as hexadecimal digits, and the bits that arrive: `0` and `1`
 /// on the first line, `o` and `i` on the second.

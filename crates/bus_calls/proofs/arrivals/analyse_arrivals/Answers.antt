@@ -1,6 +1,6 @@
 use Rattle.std.proofs.Common.{◌≡◌, ◌-◌, ◌^◌, ◌++◌, min, List, length, take, subst, arith}
 use Rattle.std.proofs.lemmas.List.{length-take, take_all}
-use Rattle.bus_clocks.specs.Arrival.{Arrival}
+use Rattle.bus_tap.specs.Arrival.{Arrival}
 use Rattle.bus_clocks.specs.Clocks.{bits_taken}
 use Rattle.bus_calls.specs.declared.arrivals.ClockAnalyser.{ClockAnalyser}
 use Rattle.bus_calls.specs.declared.run.CaptureRun.{CaptureRun}

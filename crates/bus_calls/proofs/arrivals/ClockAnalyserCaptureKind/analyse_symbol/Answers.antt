@@ -1,7 +1,7 @@
 use Rattle.std.proofs.Common.{◌≡◌, ◌∷◌, [], ◌++◌, List, map, take, refl, sym, ap, ◌∙◌}
 use Rattle.std.proofs.lemmas.List.{map-append}
-use Rattle.bus_clocks.specs.Arrival.{Arrival}
-use Rattle.bus_clocks.specs.Rested.{IsRestAfter, rested}
+use Rattle.bus_tap.specs.Arrival.{Arrival}
+use Rattle.bus_tap.specs.Rested.{IsRestAfter, rested}
 use Rattle.bus_calls.specs.Captures.{arrival_of}
 use Rattle.bus_calls.proofs.ArrivalsLemmas.{symbol-taken, watched-behind}
 use Rattle.bus_calls.proofs.arrivals.ClockAnalyserCaptureKind.analyse_symbol.Goals as goal

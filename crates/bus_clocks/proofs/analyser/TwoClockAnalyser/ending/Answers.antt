@@ -1,5 +1,5 @@
 use Rattle.bus_pairing.specs.declared.line.Line.TheVariants.{First}
-use Rattle.bus_clocks.specs.Arrival.{own}
+use Rattle.bus_tap.specs.Arrival.{own}
 use Rattle.bus_clocks.proofs.analyser.TwoClockAnalyser.ending.Goals as goal
 
 pub returns-clause-first : goal.returns-clause-first

@@ -1,7 +1,7 @@
 use Rattle.std.proofs.Common.{append_assoc}
 use Rattle.std.proofs.lemmas.Result.{err_from_is_err_and}
 use Rattle.bus_text.proofs.PagesLemmas.{cuts-more}
-use Rattle.bus_clocks.specs.Sampled.{bits_of_edges}
+use Rattle.bus_tap.specs.Sampled.{bits_of_edges}
 use Rattle.bus_sample.proofs.MarksLemmas.{marks-grow}
 use Rattle.bus_sample.proofs.marks.Marks.put.Goals as goal
 

@@ -1,6 +1,7 @@
 use Rattle.std.proofs.Common.{◌≡◌, ◌+◌, ◌<◌, ◌≤◌, ◌++◌, ◌∷◌, [], length, sym, ap, ◌∙◌, arith}
-use Rattle.bus_clocks.proofs.EachLemmas.{length-more}
-use Rattle.bus_sample.specs.Recording.{cut_record, size_of, record_number, run_of, recorded}
+use Rattle.bus_tap.proofs.EachLemmas.{length-more}
+use Rattle.bus_tap.specs.Recorded.{record_number}
+use Rattle.bus_sample.specs.Recording.{cut_record, size_of, run_of, recorded}
 use Rattle.bus_sample.proofs.RecordLemmas.{part-cut, part-recorded, whole-cut, whole-recorded, cut-short}
 use Rattle.bus_sample.proofs.ReadLemmas.{read-whole}
 use Rattle.bus_sample.proofs.reader.SampleRun.consume_octet.Goals as goal

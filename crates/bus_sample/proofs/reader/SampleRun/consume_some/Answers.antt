@@ -1,5 +1,5 @@
 use Rattle.std.proofs.Common.{◌≡◌, ◌++◌, ◌∙◌, [], replicate, refl, sym, ap, subst, append-nil, arith}
-use Rattle.bus_clocks.specs.Sampled.{bits_of_edges}
+use Rattle.bus_tap.specs.Sampled.{bits_of_edges}
 use Rattle.bus_sample.specs.Recording.{arrivals}
 use Rattle.bus_sample.specs.Internal.Runs.{HasMarked}
 use Rattle.std.proofs.lemmas.List.{length-replicate}

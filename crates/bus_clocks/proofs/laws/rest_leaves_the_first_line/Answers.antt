@@ -1,5 +1,0 @@
-use Rattle.bus_clocks.proofs.RestLemmas.{rest-first}
-use Rattle.bus_clocks.proofs.laws.rest_leaves_the_first_line.Goals as goal
-
-pub returns : goal.returns
-returns c = rest-first

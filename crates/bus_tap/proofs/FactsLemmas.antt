@@ -1,0 +1,183 @@
+-- What is counted, with one more.
+use Rattle.std.proofs.Common.{◌≡◌, ℕ, ◌+◌, ◌-◌, ◌<◌, ◌≤◌, true, false, if◌then◌else◌, List, []}
+use Rattle.std.proofs.Common.{◌∷◌, ◌++◌, length, refl, sym, ap, ◌∙◌, arith, subst, inl, inr}
+use Rattle.std.specs.Prelude.{slice_index, ◌&&◌, nat_lt, nat_le}
+use Rattle.std.specs.Int.{abs_diff}
+use Rattle.std.proofs.lemmas.List.{get_or_append_left}
+use Rattle.std.proofs.Math.Seq.{get_or-append_seam}
+use Rattle.std.proofs.lemmas.Bool.{cases_lt}
+use Rattle.bus_tap.specs.Facts.{IsTallied, IsLongest, step, is_jump, jumps}
+use Rattle.bus_tap.specs.Internal.Tallies.{where_is}
+use Rattle.bus_tap.specs.declared.facts.Occurrences.{Occurrences}
+use Rattle.bus_tap.specs.declared.facts.Gap.{Gap}
+use Rattle.bus_tap.proofs.EachLemmas.{each-more, length-more}
+use Rattle.std.proofs.Common.{append-nil, not, Bool, true, false}
+use Rattle.std.specs.Bool.{beq}
+use Rattle.bus_tap.specs.Facts.{AreFactsOf}
+use Rattle.bus_tap.specs.declared.facts.Levels.{Levels}
+use Rattle.bus_tap.specs.declared.facts.LineFacts.{LineFacts}
+
+module _ (es : List ℕ) (s : ℕ) where
+  pub last-more : slice_index (es ++ s ∷ []) (length es) ≡ s
+  last-more = get_or-append_seam es s [] 0
+
+  pub front-same : (i : ℕ) → i < length es → slice_index (es ++ s ∷ []) i ≡ slice_index es i
+  front-same i inside = get_or_append_left es (s ∷ []) 0 i inside
+
+  pub last-at : (i : ℕ) → i ≡ length es → slice_index (es ++ s ∷ []) i ≡ s
+  last-at i is = ap (slice_index (es ++ s ∷ [])) is ∙ last-more
+
+  -- with the first one, and with one more
+  pub tallied-first : (o : Occurrences) → length es ≡ 0 → o.count ≡ 1 → o.first ≡ s → o.last ≡ s
+      → IsTallied o (es ++ s ∷ [])
+  tallied-first o none count first last = record {
+    count = omega (arith, count, none, length-more es s);
+    first = first ∙ sym (last-at 0 (sym none));
+    last = last ∙ sym (last-at (length (es ++ s ∷ []) - 1) (omega (arith, length-more es s)));
+  }
+
+  pub tallied-more : (o : Occurrences) → 1 ≤ length es → o.count ≡ length es + 1 → o.first ≡ slice_index es 0
+      → o.last ≡ s → IsTallied o (es ++ s ∷ [])
+  tallied-more o some count first last = record {
+    count = omega (arith, count, length-more es s);
+    first = first ∙ sym (front-same 0 (omega (arith, some)));
+    last = last ∙ sym (last-at (length (es ++ s ∷ []) - 1) (omega (arith, length-more es s)));
+  }
+
+  pub step-front : (k : ℕ) → k < length es → step (es ++ s ∷ []) k ≡ step es k
+  step-front k inside = rw (front-same k inside, front-same (k - 1) (omega (arith, inside))) refl
+
+  pub step-last : (k : ℕ) → k ≡ length es → 1 ≤ k → step (es ++ s ∷ []) k ≡ s - slice_index es (length es - 1)
+  step-last k is some =
+      rw (last-at k is, front-same (k - 1) (omega (arith, is, some)), is) refl
+
+  pub step-first : length es ≡ 0 → step (es ++ s ∷ []) (length es) ≡ 0
+  step-first none = rw none (omega arith)
+
+  -- the longest step, which stays or is the last one
+  pub longest-first : (g : Gap) → length es ≡ 0 → IsLongest g es → IsLongest g (es ++ s ∷ [])
+  longest-first g none (inl (few, from, len)) = inl (omega (arith, none, length-more es s), from, len)
+  longest-first g none (inr (k, at)) = absurd (omega (arith, none, at.inside))
+
+  pub longest-stays : (g : Gap) → 2 ≤ length es → s - slice_index es (length es - 1) ≤ g.length → IsLongest g es
+      → IsLongest g (es ++ s ∷ [])
+  longest-stays g two less (inl (few, from, len)) = absurd (omega (arith, few, two))
+  longest-stays g two less (inr (k, at)) = inr (
+    k,
+    record {
+      some = at.some;
+      inside = omega (arith, at.inside, length-more es s);
+      from = at.from ∙ sym (front-same (k - 1) (omega (arith, at.inside)));
+      reaches = at.reaches ∙ sym (step-front k at.inside);
+      first = λ j some before. rw (step-front j (omega (arith, before, at.inside))) (at.first j some before);
+      longest = λ j some inside. elim (cases_lt j (length es)) [
+        | inl before ↦ rw (step-front j before) (at.longest j some before)
+        | inr last ↦
+            rw (step-last j (omega (arith, inside, last, length-more es s)) some) less
+      ];
+    },
+  )
+
+  pub longest-last : (g new : Gap) → 1 ≤ length es → new.length ≡ s - slice_index es (length es - 1)
+      → new.from ≡ slice_index es (length es - 1)
+      → (2 ≤ length es → g.length < s - slice_index es (length es - 1)) → IsLongest g es
+      → IsLongest new (es ++ s ∷ [])
+  longest-last g new some len from more old = inr (
+    length es,
+    record {
+      some = some;
+      inside = omega (arith, length-more es s);
+      from = from ∙ sym (front-same (length es - 1) (omega (arith, some)));
+      reaches = len ∙ sym (step-last (length es) refl some);
+      first = λ j one before. rw (step-front j before, len) (shorter j one before old);
+      longest = λ j one inside. elim (cases_lt j (length es)) [
+        | inl before ↦
+            (let less : step es j < s - slice_index es (length es - 1) = shorter j one before old in
+            rw (step-front j before, len) (omega (arith, less)))
+        | inr last ↦
+            rw (step-last j (omega (arith, inside, last, length-more es s)) one, len) (omega arith)
+      ];
+    },
+  )
+    where
+      shorter : (j : ℕ) → 1 ≤ j → j < length es → IsLongest g es → step es j < s - slice_index es (length es - 1)
+      shorter j one before (inl (few, from, len)) = absurd (omega (arith, one, before, few))
+      shorter j one before (inr (k, at)) =
+          omega (arith, at.longest j one before, more (omega (arith, one, before)))
+
+  -- the jumps, of which this may be one more
+  pub jumps-more : (most : ℕ) → jumps most (es ++ s ∷ [])
+      ≡ jumps most es ++ (if is_jump most (es ++ s ∷ []) (length es) then s ∷ [] else [])
+  jumps-more most =
+      each-more (λ k. if is_jump most (es ++ s ∷ []) k then slice_index (es ++ s ∷ []) k ∷ [] else [])
+      (λ k. if is_jump most es k then slice_index es k ∷ [] else []) es s
+      (λ k inside. rw (
+        step-front k inside,
+        step-front (k - 1) (omega (arith, inside)),
+        front-same k inside,
+      ) refl)
+      ∙ ap (λ e. jumps most es ++ (if is_jump most (es ++ s ∷ []) (length es) then e ∷ [] else [])) last-more
+
+  -- whether it is
+  pub is-jump-few : (most : ℕ) → length es ≤ 1 → is_jump most (es ++ s ∷ []) (length es) ≡ false
+  is-jump-few most few =
+      rw none refl
+    where
+      none : nat_le 2 (length es) ≡ false
+      none = grind (arith, few)
+
+  pub is-jump-at : (most : ℕ) → 2 ≤ length es → is_jump most (es ++ s ∷ []) (length es)
+      ≡ nat_lt most (abs_diff (s - slice_index es (length es - 1)) (step es (length es - 1)))
+  is-jump-at most two =
+      ap (λ b. b && nat_lt most (abs_diff (step (es ++ s ∷ []) (length es)) (step (es ++ s ∷ []) (length es - 1)))) some
+      ∙ rw (step-last (length es) refl (omega (arith, two)), step-front (length es - 1) (omega (arith, two))) refl
+    where
+      some : nat_le 2 (length es) ≡ true
+      some = grind (arith, two)
+
+  -- the step to it and the step before decide
+  pub jumps-at : (o : Occurrences) (most last before : ℕ) → 2 ≤ length es → last ≡ slice_index es (length es - 1)
+      → before ≡ step es (length es - 1)
+      → IsTallied o (jumps most es ++ where_is (nat_lt most (abs_diff (s - last) before)) s)
+      → IsTallied o (jumps most (es ++ s ∷ []))
+  jumps-at o most last before two is was tallied =
+      subst (IsTallied o) (sym (jumps-more most
+      ∙ ap (λ b. jumps most es ++ where_is b s) (is-jump-at most two
+      ∙ (ap (λ x. nat_lt most (abs_diff (s - x) (step es (length es - 1)))) (sym is)
+      ∙ ap (λ x. nat_lt most (abs_diff (s - last) x)) (sym was))))) tallied
+
+-- no facts of no samples
+pub tallied-none : (o : Occurrences) → o.count ≡ 0 → o.first ≡ 0 → o.last ≡ 0 → IsTallied o []
+tallied-none o count first last = record { count = count; first = first; last = last }
+
+pub length-less : (es : List ℕ) (s : ℕ) → length (es ++ s ∷ []) - 1 ≡ length es
+length-less es s = omega (arith, length-more es s)
+
+-- a sample that changes no level of a line adds nothing
+unchanged : (b : Bool) → not (beq b b) ≡ false
+unchanged true = refl
+unchanged false = refl
+
+no-rise : (b : Bool) → (not b && b) ≡ false
+no-rise true = refl
+no-rise false = refl
+
+pub nothing-noted : (jump : ℕ) (f : LineFacts) (cs ls hs bs : List ℕ) (s : ℕ) (before after : Levels) → before ≡ after →
+    AreFactsOf jump f cs ls hs bs →
+    AreFactsOf jump f (cs ++ where_is (not (beq before.clock after.clock)) s)
+    (ls ++ where_is (not (beq before.bits after.bits)) s)
+    (hs ++ where_is (not (beq before.bits after.bits) && after.clock) s)
+    (bs ++ where_is (not before.clock && after.clock) s)
+nothing-noted jump f cs ls hs bs s before after same facts =
+    subst (λ (l : Levels). AreFactsOf jump f (cs ++ where_is (not (beq before.clock l.clock)) s)
+    (ls ++ where_is (not (beq before.bits l.bits)) s) (hs ++ where_is (not (beq before.bits l.bits) && l.clock) s)
+    (bs ++ where_is (not before.clock && l.clock) s)) same
+    (rw (
+      unchanged before.clock,
+      unchanged before.bits,
+      no-rise before.clock,
+      append-nil cs,
+      append-nil ls,
+      append-nil hs,
+      append-nil bs,
+    ) facts)

@@ -1,0 +1,268 @@
+-- A tap, with one sample more.
+use Rattle.std.proofs.Common.{◌≡◌, ℕ, zero, suc, ◌+◌, ◌-◌, ◌<◌, ◌&&◌, not, Bool, true, false, if◌then◌else◌, List, []}
+use Rattle.std.proofs.Common.{◌∷◌, ◌++◌, length, replicate, refl, sym, ap, ◌∙◌, arith, append-nil, append_assoc}
+use Rattle.std.proofs.Common.{length-append, subst}
+use Rattle.std.proofs.Common.{Some, None}
+use Rattle.std.specs.Bool.{beq}
+use Rattle.bus_pairing.specs.declared.line.Line.{Line}
+use Rattle.bus_pairing.specs.declared.line.Line.TheVariants.{First, Second}
+use Rattle.bus_tap.specs.Facts.{AreFacts, AreFactsOf, AreLevels, places_where, changes, changes_high, bit_samples}
+use Rattle.bus_tap.specs.Sampled.{Channel, clock_of, data_of, counted_level, rises, sampled, bits_of_edges}
+use Rattle.bus_tap.specs.Sampled.{SamplerState, HeldState, IsHeldAfter, IsAfterSamples, edge}
+use Rattle.bus_tap.specs.Internal.Tallies.{where_is}
+use Rattle.bus_tap.specs.Internal.Held.{IsHeldAt, IsSettled, next_state, no_edges, clock_state, data_state}
+use Rattle.std.specs.Prelude.{Option, MatchOption}
+use Rattle.bus_tap.specs.Arrival.{Arrival}
+use Rattle.bus_tap.specs.Tapped.{TapState, AdvancesTap}
+use Rattle.bus_tap.specs.declared.sampler.Edges.{Edges}
+use Rattle.bus_tap.specs.declared.facts.Levels.{Levels}
+use Rattle.bus_tap.specs.declared.facts.LineFacts.{LineFacts}
+use Rattle.bus_tap.proofs.EachLemmas.{each-more, length-more}
+use Rattle.bus_tap.proofs.SampledLemmas.{counted-front, held-more, sampled-more}
+
+module _ (hold : ℕ) (ss : List ℕ) (s : ℕ) where
+  abbrev more : List ℕ
+  more = ss ++ s ∷ []
+
+  where-more : (is was : ℕ → Bool) → ((i : ℕ) → i < length ss → is i ≡ was i) →
+      places_where is (length more) ≡ places_where was (length ss) ++ where_is (is (length ss)) (length ss)
+  where-more is was same =
+      each-more (λ i. if is i then i ∷ [] else []) (λ i. if was i then i ∷ [] else []) ss s
+      (λ i inside. ap (λ b. if b then i ∷ [] else []) (same i inside))
+
+  -- samples that come later change no level
+  same-level : (channel : Channel) (i : ℕ) → i < length ss →
+      counted_level hold channel more i ≡ counted_level hold channel ss i
+  same-level channel i inside = counted-front channel ss (s ∷ []) hold i inside
+
+  same-before : (channel : Channel) (i : ℕ) → i < length ss →
+      counted_level hold channel more (i - 1) ≡ counted_level hold channel ss (i - 1)
+  same-before channel i inside = same-level channel (i - 1) (omega (arith, inside))
+
+  pub changes-more : (channel : Channel) → places_where (changes hold channel more) (length more)
+      ≡ places_where (changes hold channel ss) (length ss)
+      ++ where_is (changes hold channel more (length ss)) (length ss)
+  changes-more channel =
+      where-more (changes hold channel more) (changes hold channel ss)
+      (λ i inside. rw (same-before channel i inside, same-level channel i inside) refl)
+
+  pub high-more : (line : Line) → places_where (changes_high hold line more) (length more)
+      ≡ places_where (changes_high hold line ss) (length ss)
+      ++ where_is (changes_high hold line more (length ss)) (length ss)
+  high-more line =
+      where-more (changes_high hold line more) (changes_high hold line ss)
+      (λ i inside. rw (
+        same-before (data_of line) i inside,
+        same-level (data_of line) i inside,
+        same-level (clock_of line) i inside,
+      ) refl)
+
+  pub bits-more : (line : Line) → bit_samples hold line more
+      ≡ bit_samples hold line ss ++ where_is (rises hold (clock_of line) more (length ss)) (length ss)
+  bits-more line =
+      where-more (rises hold (clock_of line) more) (rises hold (clock_of line) ss)
+      (λ i inside. rw (same-before (clock_of line) i inside, same-level (clock_of line) i inside) refl)
+
+  -- the facts of a line, whose levels these are before the sample and after it
+  pub facts-more : (jump : ℕ) (line : Line) (f : LineFacts) (before after : Levels) →
+      AreLevels hold line more (length ss - 1) before → AreLevels hold line more (length ss) after →
+      AreFactsOf jump f
+      (places_where (changes hold (clock_of line) ss) (length ss)
+      ++ where_is (not (beq before.clock after.clock)) (length ss))
+      (places_where (changes hold (data_of line) ss) (length ss)
+      ++ where_is (not (beq before.bits after.bits)) (length ss))
+      (places_where (changes_high hold line ss) (length ss)
+      ++ where_is (not (beq before.bits after.bits) && after.clock) (length ss))
+      (bit_samples hold line ss ++ where_is (not before.clock && after.clock) (length ss)) →
+      AreFacts hold jump line f more
+  facts-more jump line f before after was now of =
+      rw (changes-more (clock_of line), changes-more (data_of line), high-more line, bits-more line)
+      (rw (was.clock, was.bits, now.clock, now.bits) at of)
+
+-- with further samples
+pub advances-nothing : (t : TapState) → AdvancesTap t [] [] t
+advances-nothing t = record {
+  hold = refl;
+  jump = refl;
+  samples = omega arith;
+  after = λ ss after. rw (append-nil ss) after;
+  sampled = λ ss after. rw (append-nil ss) (sym (append-nil (sampled t.hold ss)));
+}
+
+pub advances-further : (old mid new : TapState) (ss ts : List ℕ) (xs ys : List Arrival) →
+    AdvancesTap old ss xs mid → AdvancesTap mid ts ys new → AdvancesTap old (ss ++ ts) (xs ++ ys) new
+advances-further old mid new before behind xs ys one two = record {
+  hold = two.hold ∙ one.hold;
+  jump = two.jump ∙ one.jump;
+  samples = omega (arith, one.samples, two.samples, length-append before behind);
+  after = λ ss after. rw (← append_assoc) (two.after (ss ++ before) (one.after ss after));
+  sampled = λ ss after. rw (← append_assoc)
+      (rw (one.hold) at (two.sampled (ss ++ before) (one.after ss after))
+      ∙ ap (λ zs. zs ++ ys) (one.sampled ss after) ∙ append_assoc (sampled old.hold ss) xs ys);
+}
+
+pub replicate-more : (n s : ℕ) → replicate (n + 1) s ≡ replicate n s ++ s ∷ []
+replicate-more zero s = refl
+replicate-more (suc n) s =
+    let next : suc n + 1 ≡ suc (n + 1) = omega arith in
+    rw next (ap (λ xs. s ∷ xs) (replicate-more n s))
+
+pub replicate-both : (m n s : ℕ) → replicate (m + n) s ≡ replicate m s ++ replicate n s
+replicate-both zero n s =
+    let none : zero + n ≡ n = omega arith in
+    ap (λ k. replicate k s) none
+replicate-both (suc m) n s =
+    let next : suc m + n ≡ suc (m + n) = omega arith in
+    rw next (ap (λ xs. s ∷ xs) (replicate-both m n s))
+
+-- a settled channel stays as it is
+same-next : (hold : ℕ) (channel : Channel) (h : HeldState) (s : ℕ) → IsHeldAt channel h s →
+    next_state hold h (channel s) ≡ h
+same-next hold channel h s is = rw is (cases (channel s))
+  where
+    cases : (b : Bool) → next_state hold (record { level = b; others = 0 }) b ≡ record { level = b; others = 0 }
+    cases true = refl
+    cases false = refl
+
+module _ (hold : ℕ) (sampler : SamplerState) (s : ℕ) (of : sampler.hold ≡ hold) (settled : IsSettled sampler s) where
+  stays : (channel : Channel) (h : HeldState) (ss : List ℕ) → IsHeldAt channel h s
+      → IsHeldAfter sampler.hold channel h ss → IsHeldAfter sampler.hold channel h (ss ++ s ∷ [])
+  stays channel h ss is after =
+      subst (λ x. IsHeldAfter sampler.hold channel x (ss ++ s ∷ [])) (same-next sampler.hold channel h s is)
+      (held-more sampler.hold channel h ss s after)
+
+  pub sampler-stays : (ss : List ℕ) → IsAfterSamples sampler ss → IsAfterSamples sampler (ss ++ s ∷ [])
+  sampler-stays ss after = record {
+    first_clock = stays (clock_of First) sampler.first_clock ss settled.first_clock after.first_clock;
+    first_bits = stays (data_of First) sampler.first_bits ss settled.first_bits after.first_bits;
+    second_clock = stays (clock_of Second) sampler.second_clock ss settled.second_clock after.second_clock;
+    second_bits = stays (data_of Second) sampler.second_bits ss settled.second_bits after.second_bits;
+  }
+
+  -- and its level counts before the sample and at it
+  level-stays : (channel : Channel) (h : HeldState) (ss : List ℕ) → IsHeldAfter sampler.hold channel h ss →
+      IsHeldAfter sampler.hold channel h (ss ++ s ∷ []) →
+      counted_level hold channel (ss ++ s ∷ []) (length ss - 1) ≡ counted_level hold channel (ss ++ s ∷ []) (length ss)
+  level-stays channel h ss before after =
+      let last : length (ss ++ s ∷ []) - 1 ≡ length ss = omega (arith, length-more ss s) in
+      ap (λ n. counted_level n channel (ss ++ s ∷ []) (length ss - 1)) (sym of)
+      ∙ (counted-front channel ss (s ∷ []) sampler.hold (length ss - 1) (omega (arith, before.some))
+      ∙ (sym before.counts ∙ (after.counts
+      ∙ (ap (counted_level sampler.hold channel (ss ++ s ∷ [])) last
+      ∙ ap (λ n. counted_level n channel (ss ++ s ∷ []) (length ss)) of))))
+
+  beq-self : (x y : Bool) → x ≡ y → not (beq x y) ≡ false
+  beq-self true true same = refl
+  beq-self false false same = refl
+  beq-self true false same = absurd (cc)
+  beq-self false true same = absurd (cc)
+
+  rise-self : (x y : Bool) → x ≡ y → (not x && y) ≡ false
+  rise-self true y same = refl
+  rise-self false true same = absurd (cc)
+  rise-self false false same = refl
+
+  -- so nothing is counted, and no bit arrives
+  module _ (ss : List ℕ) (after : IsAfterSamples sampler ss) where
+    abbrev next : IsAfterSamples sampler (ss ++ s ∷ [])
+    next = sampler-stays ss after
+
+    clock-stays : (line : Line) → counted_level hold (clock_of line) (ss ++ s ∷ []) (length ss - 1)
+        ≡ counted_level hold (clock_of line) (ss ++ s ∷ []) (length ss)
+    clock-stays First = level-stays (clock_of First) sampler.first_clock ss after.first_clock next.first_clock
+    clock-stays Second = level-stays (clock_of Second) sampler.second_clock ss after.second_clock next.second_clock
+
+    data-stays : (line : Line) → counted_level hold (data_of line) (ss ++ s ∷ []) (length ss - 1)
+        ≡ counted_level hold (data_of line) (ss ++ s ∷ []) (length ss)
+    data-stays First = level-stays (data_of First) sampler.first_bits ss after.first_bits next.first_bits
+    data-stays Second = level-stays (data_of Second) sampler.second_bits ss after.second_bits next.second_bits
+
+    pub facts-stay : (jump : ℕ) (line : Line) (f : LineFacts) → AreFacts hold jump line f ss
+        → AreFacts hold jump line f (ss ++ s ∷ [])
+    facts-stay jump line f facts =
+        rw (
+          changes-more hold ss s (clock_of line),
+          changes-more hold ss s (data_of line),
+          high-more hold ss s line,
+          bits-more hold ss s line,
+          beq-self _ _ (clock-stays line),
+          beq-self _ _ (data-stays line),
+          rise-self _ _ (clock-stays line),
+          append-nil (places_where (changes hold (clock_of line) ss) (length ss)),
+          append-nil (places_where (changes hold (data_of line) ss) (length ss)),
+          append-nil (places_where (changes_high hold line ss) (length ss)),
+          append-nil (bit_samples hold line ss),
+        ) facts
+
+    no-edge : (line : Line) → edge hold (ss ++ s ∷ []) line (length ss) ≡ []
+    no-edge line = rw (rise-self _ _ (clock-stays line)) refl
+
+    pub sampled-stays : sampled hold (ss ++ s ∷ []) ≡ sampled hold ss
+    sampled-stays =
+        sampled-more hold ss s ∙ (ap (λ xs. sampled hold ss ++ xs)
+        (ap (λ xs. xs ++ edge hold (ss ++ s ∷ []) Second (length ss)) (no-edge First) ∙ no-edge Second)
+        ∙ append-nil (sampled hold ss))
+
+-- a settled tap passes samples
+pub passes : (t : TapState) (sampler : SamplerState) → t.sampler ≡ Some sampler → (s : ℕ) → IsSettled sampler s →
+    (n : ℕ) → AdvancesTap t (replicate n s) [] (record t { samples = t.samples + n })
+passes t sampler is s settled zero = rw (samples-none) (advances-nothing t)
+  where
+    samples-none : t.samples + 0 ≡ t.samples
+    samples-none = omega arith
+passes t sampler is s settled (suc n) =
+    let next : suc n ≡ n + 1 = omega arith in
+    let more : replicate (suc n) s ≡ replicate n s ++ s ∷ [] =
+    ap (λ k. replicate k s) next ∙ replicate-more n s in
+    rw more
+    (advances-further t (record t { samples = t.samples + n }) (record t { samples = t.samples + suc n })
+    (replicate n s) (s ∷ []) [] [] (passes t sampler is s settled n) (record {
+      hold = refl;
+      jump = refl;
+      samples = omega arith;
+      after = λ ss after.
+          let old = rw is at after.sampler in record {
+            samples = omega (arith, after.samples, length-more ss s);
+            sampler = rw is (old.0, sampler-stays t.hold sampler s old.0 settled ss old.1);
+            first = facts-stay t.hold sampler s old.0 settled ss old.1 t.jump First t.first after.first;
+            second = facts-stay t.hold sampler s old.0 settled ss old.1 t.jump Second t.second after.second;
+          };
+      sampled = λ ss after.
+          let old = rw is at after.sampler in
+          sampled-stays t.hold sampler s old.0 settled ss old.1 ∙ sym (append-nil (sampled t.hold ss));
+    }))
+
+pub passes-settled : (t : TapState) (o : Option SamplerState) → t.sampler ≡ o → (s : ℕ) →
+    MatchOption o ⊥ (λ x. IsSettled x s) → (n : ℕ) →
+    AdvancesTap t (replicate n s) [] (record t { samples = t.samples + n })
+passes-settled t None is s settled n = absurd settled
+passes-settled t (Some sampler) is s settled n = passes t sampler is s settled n
+
+-- the levels that a sampler has are those that count
+held-of-clock : (sampler : SamplerState) (line : Line) (ss : List ℕ) → IsAfterSamples sampler ss →
+    IsHeldAfter sampler.hold (clock_of line) (clock_state sampler line) ss
+held-of-clock sampler First ss after = after.first_clock
+held-of-clock sampler Second ss after = after.second_clock
+
+held-of-data : (sampler : SamplerState) (line : Line) (ss : List ℕ) → IsAfterSamples sampler ss →
+    IsHeldAfter sampler.hold (data_of line) (data_state sampler line) ss
+held-of-data sampler First ss after = after.first_bits
+held-of-data sampler Second ss after = after.second_bits
+
+pub levels-now : (sampler : SamplerState) (line : Line) (ss : List ℕ) (i : ℕ) (l : Levels) → i ≡ length ss - 1 →
+    IsAfterSamples sampler ss → l.clock ≡ (clock_state sampler line).level →
+    l.bits ≡ (data_state sampler line).level → AreLevels sampler.hold line ss i l
+levels-now sampler line ss i l at after clock bits = rw at (record {
+  clock = clock ∙ (held-of-clock sampler line ss after).counts;
+  bits = bits ∙ (held-of-data sampler line ss after).counts;
+})
+
+pub levels-before : (sampler : SamplerState) (line : Line) (ss : List ℕ) (s : ℕ) (l : Levels) →
+    IsAfterSamples sampler ss → l.clock ≡ (clock_state sampler line).level →
+    l.bits ≡ (data_state sampler line).level → AreLevels sampler.hold line (ss ++ s ∷ []) (length ss - 1) l
+levels-before sampler line ss s l after clock bits =
+    let now = levels-now sampler line ss (length ss - 1) l refl after clock bits in
+    let inside : length ss - 1 < length ss = omega (arith, (held-of-clock sampler line ss after).some) in record {
+      clock = now.clock ∙ sym (counted-front (clock_of line) ss (s ∷ []) sampler.hold (length ss - 1) inside);
+      bits = now.bits ∙ sym (counted-front (data_of line) ss (s ∷ []) sampler.hold (length ss - 1) inside);
+    }

@@ -1,0 +1,21 @@
+-- Laws over the definitions.
+use Rattle.std.specs.Prelude.{◌≡◌, ◌↔◌, ℕ, ◌+◌, Bool, List, [], ◌∷◌, ◌++◌, replicate}
+use Rattle.bus_pairing.specs.declared.line.Line.TheVariants.{First}
+use Rattle.bus_tap.specs.Arrival.{Arrival, own}
+use Rattle.bus_tap.specs.Rested.{rested}
+use Rattle.bus_tap.specs.Sampled.{Channel, IsCounted, counted_level, sampled}
+
+-- the rule of rest puts no bit into the first line, so that all places stay
+abbrev pub RestLeavesFirst : Type 0
+RestLeavesFirst = (most : ℕ) (xs : List Arrival) → own First (rested most xs) ≡ own First xs
+
+-- which level counts is computed
+abbrev pub CountedIsIt : Type 0
+CountedIsIt = (hold : ℕ) (channel : Channel) (ss : List ℕ) (i : ℕ) (l : Bool) →
+    (counted_level hold channel ss i ≡ l) ↔ IsCounted hold channel ss i l
+
+-- of samples in a row that are the same, those after the first `hold + 1` bring no bit, and change none that comes
+-- later; where each level counts at once, a sample that changes nothing may be left out
+abbrev pub SameSamplesBringNothing : Type 0
+SameSamplesBringNothing = (hold s : ℕ) (ss ts : List ℕ) →
+    sampled hold ((ss ++ replicate (hold + 1) s) ++ s ∷ ts) ≡ sampled hold ((ss ++ replicate (hold + 1) s) ++ ts)

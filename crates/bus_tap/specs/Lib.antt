@@ -1,0 +1,10 @@
+-- Definitions that the contracts cite.
+pub mod Arrival
+pub mod Laws
+pub mod Rested
+pub mod Sampled
+pub mod Facts
+pub mod Tapped
+pub mod Words
+pub mod Recorded
+pub mod Internal

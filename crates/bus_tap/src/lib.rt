@@ -1,0 +1,20 @@
+//! Bits of two lines with a clock each from the samples of a recording, what is counted in these, and the rule by which
+//! the second line comes to rest.
+#![tactic(auto)]
+
+mod facts;
+pub mod laws;
+mod number;
+mod rest;
+mod sampler;
+mod tap;
+mod wires;
+mod words;
+
+pub use facts::{Gap, Levels, LineFacts, Occurrences, TapFacts};
+pub use number::number_of;
+pub use rest::RestRule;
+pub use sampler::{Edges, Sampler};
+pub use tap::{SampleLimit, Taken, Tap};
+pub use wires::{Wire, Wires};
+pub use words::{LevelWords, TapWords};

@@ -1,0 +1,224 @@
+//! Bits from the samples of a recording, and what is counted in these.
+
+ghost use Rattle.std.specs.Prelude.{◌≡◌, ◌+◌, ◌-◌, ◌<◌, ◌≤◌, ◌↔◌, ◌++◌, ◌∷◌, [], List, ℕ, IfOk, IsErr, OnErr, IsTrue};
+ghost use Rattle.std.specs.Prelude.{replicate, length, Some, None};
+ghost use Rattle.bus_bits.specs.Limits.{most_places};
+ghost use Rattle.bus_tap.specs.Sampled.{sampled, bits_of_edges};
+ghost use Rattle.bus_tap.specs.Tapped.{AdvancesTap, HasSampled, IsTapAfter};
+ghost use Rattle.bus_tap.specs.Facts.{AreLevels, AreTapFacts};
+ghost use Rattle.bus_tap.specs.Internal.Taps.{HasHold, IsSettledTap};
+ghost use Rattle.bus_pairing.specs.declared.line.Line.TheVariants.{First, Second};
+
+use crate::facts::{Levels, LineFacts, TapFacts};
+use crate::sampler::{Edges, Sampler};
+use bus_pairing::Line;
+use std::marker::Model;
+
+/// The most samples of a recording.
+pub(crate) const MOST: u64 = 1 << 60;
+
+/// A recording has more than 2^60 samples.
+#[derive(Clone, Copy, Debug, PartialEq, Eq)]
+pub struct SampleLimit;
+
+/// What some samples brought.
+#[derive(Clone, Copy, Debug, PartialEq, Eq)]
+pub struct Taken {
+    /// How many samples were taken.
+    pub samples: u64,
+    /// The bits that arrived with the last of them.
+    pub edges: Edges,
+}
+
+/// Finds the bits of two lines in the samples of a recording, and counts what tells of faults of a tap.
+#[derive(Drop)]
+pub struct Tap {
+    pub(crate) hold: u32,
+    pub(crate) jump: u64,
+    pub(crate) samples: u64,
+    /// None before the first sample.
+    pub(crate) sampler: Option<Sampler>,
+    pub(crate) first: LineFacts,
+    pub(crate) second: LineFacts,
+}
+
+impl Model for Tap {
+    ghost use Rattle.bus_tap.specs.Tapped.{TapState};
+
+    ghost Value = { TapState };
+
+    ghost use Rattle.bus_tap.specs.Internal.Taps.{tap_state, IsTapWithin};
+
+    ghost view = { tap_state };
+
+    ghost invariant = { IsTapWithin };
+}
+
+/// What a sample changed.
+#[derive(Clone, Copy)]
+struct Step {
+    first_before: Levels,
+    first_after: Levels,
+    second_before: Levels,
+    second_after: Levels,
+    edges: Edges,
+}
+
+/// The levels of a line that count; low before the first sample.
+fn levels_of(sampler: &Option<Sampler>, line: Line) -> Levels
+    ensures { (hold : ℕ) (ss : List ℕ) → HasSampled hold sampler.now ss
+        → AreLevels hold line ss (length ss - 1) result }
+{
+    match sampler {
+        None => Levels {
+            clock: false,
+            bits: false,
+        },
+        Some(sampler) => sampler.levels(line),
+    }
+}
+
+/// Gives a sampler a sample, the first of which makes it.
+#[inline(always)]
+fn step_sampler(sampler: &mut Option<Sampler>, hold: u32, sample: u8) -> Step
+    ensures after { (ss : List ℕ) → HasSampled hold sampler.old ss → HasSampled hold sampler.new (ss ++ sample ∷ []) }
+    ensures sampled { (ss : List ℕ) → HasSampled hold sampler.old ss →
+        sampled hold (ss ++ sample ∷ []) ≡ sampled hold ss ++ bits_of_edges result.edges }
+    ensures levels { (ss : List ℕ) → HasSampled hold sampler.old ss →
+        AreLevels hold First (ss ++ sample ∷ []) (length ss - 1) result.first_before
+        × AreLevels hold First (ss ++ sample ∷ []) (length ss) result.first_after
+        × AreLevels hold Second (ss ++ sample ∷ []) (length ss - 1) result.second_before
+        × AreLevels hold Second (ss ++ sample ∷ []) (length ss) result.second_after }
+    ensures alike { HasHold hold sampler.old → HasHold hold sampler.new }
+{
+    match sampler {
+        None => {
+            let made = Sampler::new(hold, sample);
+            let step = Step {
+                first_before: made.levels(Line::First),
+                first_after: made.levels(Line::First),
+                second_before: made.levels(Line::Second),
+                second_after: made.levels(Line::Second),
+                edges: Edges::NONE,
+            };
+            *sampler = Some(made);
+            step
+        }
+        Some(sampler) => {
+            let first_before = sampler.levels(Line::First);
+            let second_before = sampler.levels(Line::Second);
+            let edges = sampler.sample(sample);
+            Step {
+                first_before,
+                first_after: sampler.levels(Line::First),
+                second_before,
+                second_after: sampler.levels(Line::Second),
+                edges,
+            }
+        }
+    }
+}
+
+impl Tap {
+    /// Before the first sample. A level counts once it stood in `hold` + 1 samples in a row. Where the distance of two
+    /// bits differs by more than `jump` samples from the one before, that is a jump.
+    pub fn new(hold: u32, jump: u64) -> Self
+        ensures after { IsTapAfter result [] }
+        ensures given { (result.hold ≡ hold) × (result.jump ≡ jump) }
+    {
+        Tap {
+            hold,
+            jump,
+            samples: 0,
+            sampler: None,
+            first: LineFacts::none(),
+            second: LineFacts::none(),
+        }
+    }
+
+    /// Takes some samples with the same levels, up to the first that brings bits; at least one, if there are any.
+    /// However many they are, it takes no more than a few steps for each sample that a level has to stand.
+    ///
+    /// Refuses more samples than 2^60 as [`SampleLimit`], with nothing changed.
+    pub fn consume(&mut self, sample: u8, count: u64) -> Result<Taken, SampleLimit>
+        ensures limit { IsErr result ↔ (most_places < self.old.samples + count) }
+        ensures unchanged { OnErr result (self.new ≡ self.old) }
+        ensures fits { self.new.samples ≤ most_places }
+        ensures taken { IfOk result (λ t. (t.samples ≤ count) × (1 ≤ count → 1 ≤ t.samples)
+            × AdvancesTap self.old (replicate t.samples sample) (bits_of_edges t.edges) self.new) }
+    {
+        if count > MOST || self.samples > MOST - count {
+            return Err(SampleLimit);
+        }
+        for taken in 0..count {
+            if self.is_settled(sample) {
+                self.pass(sample, count - taken);
+                return Ok(Taken {
+                    samples: count,
+                    edges: Edges::NONE,
+                });
+            }
+            let edges = self.step(sample);
+            if !edges.is_none() {
+                return Ok(Taken {
+                    samples: taken + 1,
+                    edges,
+                });
+            }
+        }
+        Ok(Taken {
+            samples: count,
+            edges: Edges::NONE,
+        })
+    }
+
+    /// Whether samples with these levels change nothing.
+    #[inline(always)]
+    fn is_settled(&self, sample: u8) -> bool
+        ensures { IsTrue result → IsSettledTap self.now sample }
+    {
+        match &self.sampler {
+            None => false,
+            Some(sampler) => sampler.is_settled(sample),
+        }
+    }
+
+    /// Takes samples that change nothing.
+    #[inline(always)]
+    fn pass(&mut self, sample: u8, count: u64)
+        requires settled { IsSettledTap self.old sample }
+        requires room { self.old.samples + count ≤ most_places }
+        ensures { AdvancesTap self.old (replicate count sample) [] self.new }
+    {
+        self.samples += count;
+    }
+
+    /// Takes a sample. Returns the bits that arrive with it.
+    #[inline(always)]
+    fn step(&mut self, sample: u8) -> Edges
+        requires { self.old.samples < most_places }
+        ensures { AdvancesTap self.old (sample ∷ []) (bits_of_edges result) self.new }
+    {
+        let step = step_sampler(&mut self.sampler, self.hold, sample);
+        let place = self.samples;
+        self.first
+            .note(place, step.first_before, step.first_after, self.jump);
+        self.second
+            .note(place, step.second_before, step.second_after, self.jump);
+        self.samples += 1;
+        step.edges
+    }
+
+    /// What is counted in the samples so far.
+    pub fn facts(&self) -> TapFacts
+        ensures facts { (ss : List ℕ) → IsTapAfter self.now ss → AreTapFacts self.now.hold self.now.jump result ss }
+    {
+        TapFacts {
+            samples: self.samples,
+            first: self.first,
+            second: self.second,
+            first_levels: levels_of(&self.sampler, Line::First),
+            second_levels: levels_of(&self.sampler, Line::Second),
+        }
+    }
+}
