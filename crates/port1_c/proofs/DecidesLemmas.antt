@@ -1,6 +1,5 @@
 -- What bits tell, in numbers.
-use Rattle.std.proofs.Common.{◌≡◌, ◌≤◌, ◌-◌, ℕ, List, [], ◌∷◌, Bool, Option, None, ap, refl, subst, sym, ◌∙◌}
-use Rattle.std.proofs.Common.{arith}
+use Rattle.std.proofs.Common.{◌≡◌, ℕ, List, Bool, Option, None, refl, subst, sym}
 use Rattle.bus_fcs.specs.declared.octet_check.OctetCheck.{OctetCheck}
 use Rattle.bus_fcs.specs.Folded.{by_tables}
 use Rattle.bus_line.specs.After as line
@@ -9,7 +8,7 @@ use Rattle.bus_line.specs.Words.{LineState}
 use Rattle.bus_line.proofs.DecidesLemmas as lines
 use Rattle.bus_bits.specs.Bits.{bits_from}
 use Rattle.port1_c.specs.declared.report.Port1Report.{Port1Report}
-use Rattle.port1_c.specs.Line.{AdvancesLine, DecidesLine, report_told}
+use Rattle.port1_c.specs.Line.{AdvancesLine, report_told}
 
 abbrev pub State : Type 0
 State = LineState OctetCheck

@@ -1,7 +1,6 @@
 -- Bits of one octet.
 use Rattle.std.proofs.Common.{◌≡◌, ℕ, zero, suc, ◌+◌, ◌-◌, ◌*◌, ◌/◌, ◌%◌, ◌^◌, ◌≤◌, ◌==◌, List, Bool, [], ◌∷◌, ◌++◌}
 use Rattle.std.proofs.Common.{take, drop, refl, ap, sym, ◌∙◌, arith, w8}
-use Rattle.std.specs.Prelude.{slice_index}
 use Rattle.std.proofs.Math.Seq.{drop-append_seam}
 use mathlib.Core.List.{reverse_aux}
 use Rattle.std.specs.Int.{reverse_bits, reverse_bits_onto}

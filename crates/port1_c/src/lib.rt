@@ -1,6 +1,7 @@
 //! The line decoder and encoder as a C library, in memory of the caller's.
 #![tactic(auto)]
 
+mod arrival;
 mod bits;
 mod call_bits;
 mod calls;
@@ -16,7 +17,11 @@ mod seen;
 mod send;
 mod sender;
 mod status;
+mod tap;
+mod tapping;
+mod wires;
 
+pub use arrival::Port1Arrival;
 pub use calls::{
     port1_line_feed, port1_line_feed_high_first, port1_line_init, port1_line_open, port1_line_push,
 };
@@ -31,6 +36,9 @@ pub use send::{
     port1_send_align, port1_send_flag, port1_send_frame, port1_send_idle, port1_sender_init,
 };
 pub use sender::Port1Sender;
+pub use tap::Port1Tap;
+pub use tapping::{port1_tap_feed, port1_tap_init, port1_tap_push};
+pub use wires::{Port1Wire, Port1Wires};
 
 #[cfg(test)]
 mod tests;

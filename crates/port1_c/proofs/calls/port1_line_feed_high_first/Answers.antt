@@ -1,5 +1,4 @@
 use Rattle.std.proofs.Common.{◌≡◌, ◌-◌, ◌∷◌, [], arith}
-use Rattle.bus_bits.specs.Octet.{bits_of}
 use Rattle.bus_bits.specs.Bits.{bits_from}
 use Rattle.port1_c.specs.Bits.{high_first}
 use Rattle.port1_c.proofs.OctetLemmas.{bits-of-reversed}

@@ -1,0 +1,91 @@
+-- Samples that are taken, and bits that are put.
+use Rattle.std.proofs.Common.{◌≡◌, ℕ, suc, ◌+◌, ◌-◌, ◌*◌, ◌<◌, ◌≤◌, List, [], ◌∷◌, ◌++◌, length, map, drop}
+use Rattle.std.proofs.Common.{refl, sym, ap, ◌∙◌, arith, take, get_or, slice_set, slice_range, append_assoc, length-append}
+use Rattle.std.proofs.lemmas.List.{map-append, length-map}
+use Rattle.std.proofs.Math.Seq.{drop-cons, set-append_seam}
+use Rattle.bus_pairing.specs.declared.line.Line.TheVariants.{First, Second}
+use Rattle.bus_tap.specs.Arrival.{Arrival}
+use Rattle.bus_tap.specs.Sampled.{bit_on, bits_of_edges}
+use Rattle.bus_line.specs.Due.{places}
+use Rattle.bus_tap.specs.Recorded.{record_at, record_number}
+use Rattle.bus_tap.specs.Tapped.{TapState, AdvancesTap, channels}
+use Rattle.bus_tap.specs.declared.wires.Wires.{Wires}
+use Rattle.bus_tap.specs.declared.sampler.Edges.{Edges}
+use Rattle.bus_tap.proofs.EachLemmas.{length-more}
+use Rattle.bus_tap.proofs.TapLemmas.{advances-further, advances-nothing}
+use Rattle.port1_c.specs.Tap.{HasTapped, coded, put_over, samples_from}
+use Rattle.port1_c.specs.declared.arrival.Port1Arrival.{Port1Arrival}
+
+-- one arrival more
+pub put-more : (start : List Port1Arrival) (xs : List Arrival) (x : Arrival) → length xs < length start →
+    slice_set (put_over start xs) (length xs) (coded x) ≡ put_over start (xs ++ x ∷ [])
+put-more start xs x room =
+    let ys : List Port1Arrival = map coded xs in
+    let next : Port1Arrival = get_or start (length xs) (coded x) in
+    let rest : List Port1Arrival = drop (suc (length xs)) start in
+    ap (λ zs. slice_set (ys ++ zs) (length xs) (coded x)) (drop-cons start (length xs) (coded x) room)
+    ∙ ap (λ n. slice_set (ys ++ next ∷ rest) n (coded x)) (sym (length-map xs coded))
+    ∙ set-append_seam ys next rest (coded x)
+    ∙ sym
+    (ap (λ zs. zs ++ drop (length (xs ++ x ∷ [])) start) (map-append coded xs (x ∷ []))
+    ∙ ap (λ n. (ys ++ coded x ∷ []) ++ drop n start) (length-more xs x)
+    ∙ append_assoc ys (coded x ∷ []) rest)
+
+-- before the first sample
+pub tapped-none : (t : TapState) (start : List Port1Arrival) → HasTapped t start [] t start 0
+tapped-none t start = record {
+  xs = [];
+  number = refl;
+  fits = omega arith;
+  put = refl;
+  advances = advances-nothing t;
+}
+
+-- further samples, and the bits of the last
+pub tapped-more : (from old new : TapState) (start before mid behind : List Port1Arrival) (ls more : List ℕ) (e : Edges)
+    (count next past : ℕ) → length start ≡ length before → count + 2 ≤ length before →
+    AdvancesTap old more (bits_of_edges e) new →
+    next ≡ count + length (bit_on First e.first) → next ≤ count + 1 → past ≡ next + length (bit_on Second e.second) →
+    past ≤ next + 1 →
+    ((xs : List Arrival) → count ≡ length xs → length xs < length start → before ≡ put_over start xs →
+    mid ≡ put_over start (xs ++ bit_on First e.first)) →
+    ((xs : List Arrival) → next ≡ length xs → length xs < length start → mid ≡ put_over start xs →
+    behind ≡ put_over start (xs ++ bit_on Second e.second)) →
+    HasTapped from start ls old before count → HasTapped from start (ls ++ more) new behind past
+tapped-more from old new start before mid behind ls more e count next past long room advances one few two less first
+    second tapped =
+    let xs : List Arrival = tapped.xs in
+    let put-first = first xs tapped.number (omega (arith, tapped.number, long, room)) tapped.put in
+    let ys : List Arrival = xs ++ bit_on First e.first in
+    let count-first : next ≡ length ys =
+    omega (arith, one, tapped.number, length-append xs (bit_on First e.first)) in
+    let put-second = second ys count-first (omega (arith, count-first, few, long, room)) put-first in
+    let all : ys ++ bit_on Second e.second ≡ xs ++ bits_of_edges e =
+    append_assoc xs (bit_on First e.first) (bit_on Second e.second) in
+    let count-all : past ≡ length (xs ++ bits_of_edges e) =
+    omega (arith, two, count-first, length-append ys (bit_on Second e.second), ap length all) in record {
+      xs = xs ++ bits_of_edges e;
+      number = count-all;
+      fits = omega (arith, count-all, less, few, long, room);
+      put = put-second ∙ ap (put_over start) all;
+      advances = advances-further from old new ls more xs (bits_of_edges e) tapped.advances advances;
+    }
+
+-- the levels of one sample more
+pub levels-next : (wires : Wires) (width : ℕ) (octets : List ℕ) (from at sample level : ℕ) → from ≤ at →
+    sample ≡ record_number (slice_range octets (at * width) (at * width + width)) → level ≡ channels wires sample →
+    map (channels wires) (samples_from width octets from (at + 1 - from))
+    ≡ map (channels wires) (samples_from width octets from (at - from)) ++ level ∷ []
+levels-next wires width octets from at sample level order is-sample is-level =
+    let next : at + 1 - from ≡ suc (at - from) = omega (arith, order) in
+    let here : from + (at - from) ≡ at = omega (arith, order) in
+    let size : at * width + width - at * width ≡ width = omega arith in
+    let found : record_at width octets (from + (at - from)) ≡ sample =
+    ap (record_at width octets) here
+    ∙ sym (is-sample ∙ ap (λ n. record_number (take n (drop (at * width) octets))) size) in
+    ap (λ n. map (channels wires) (samples_from width octets from n)) next
+    ∙ ap (map (channels wires))
+    (map-append (λ k. record_at width octets (from + k)) (places (at - from)) ((at - from) ∷ []))
+    ∙ map-append (channels wires) (samples_from width octets from (at - from)) (_ ∷ [])
+    ∙ ap (λ s. map (channels wires) (samples_from width octets from (at - from)) ++ s ∷ [])
+    (ap (channels wires) found ∙ sym is-level)

@@ -1,0 +1,17 @@
+use Rattle.std.proofs.Common.{◌+◌, ◌-◌, ◌≤◌, length, replicate}
+use Rattle.bus_bits.specs.Limits.{most_places}
+use Rattle.port1_c.specs.Tap.{HasTapped}
+use Rattle.port1_c.proofs.tap.take_run.Given as goal
+
+-- all but the samples that are left were taken
+abbrev pub invariant-loop-left : goal.invariant-loop-left
+invariant-loop-left l = record {
+  left : l.left ≤ l.count;
+  fits : l.tap.samples + l.left ≤ most_places;
+  arrived : l.arrived ≤ length l.arrivals;
+  tapped : HasTapped l.initial.tap l.initial.arrivals (replicate (l.count - l.left) l.levels) l.tap l.arrivals
+  l.arrived;
+}
+
+abbrev pub decreases-loop-left : goal.decreases-loop-left
+decreases-loop-left l = l.left

@@ -1,0 +1,58 @@
+-- What a C caller's memory says of a tap, and of the bits that arrive.
+use Rattle.std.specs.Prelude.{◌≡◌, ◌≤◌, ℕ, ◌+◌, ◌==◌, not, List, ◌++◌, length, map, drop, Option, Some, None}
+use Rattle.std.specs.Prelude.{if◌then◌else◌}
+use Rattle.bus_line.specs.Due.{places}
+use Rattle.bus_pairing.specs.declared.line.Line.TheVariants.{First, Second}
+use Rattle.bus_tap.specs.Arrival.{Arrival}
+use Rattle.bus_tap.specs.Recorded.{record_at}
+use Rattle.bus_tap.specs.Tapped.{TapState, AdvancesTap}
+use Rattle.bus_tap.specs.Words.{AreTapWords, tap_told}
+use Rattle.bus_tap.specs.declared.wires.Wire.{Wire}
+use Rattle.bus_tap.specs.declared.wires.Wires.{Wires}
+use Rattle.port1_c.specs.declared.arrival.Port1Arrival.{Port1Arrival}
+use Rattle.port1_c.specs.declared.tap.Port1Tap.{Port1Tap}
+use Rattle.port1_c.specs.declared.wires.Port1Wire.{Port1Wire}
+use Rattle.port1_c.specs.declared.wires.Port1Wires.{Port1Wires}
+
+abbrev pub wire_told : Port1Wire → Option Wire
+wire_told w =
+    if w.used == 0 then None else Some (record { number = w.number; is_inverted = not (w.inverted == 0) })
+
+abbrev pub wires_told : Port1Wires → Wires
+wires_told w = record {
+  first_clock = wire_told w.first_clock;
+  first_data = wire_told w.first_data;
+  second_clock = wire_told w.second_clock;
+  second_data = wire_told w.second_data;
+}
+
+-- the memory holds a tap
+abbrev pub IsTap : Port1Tap → Type 0
+IsTap t = AreTapWords t.words
+
+-- a bit in numbers of c/include/port1.h
+abbrev pub coded : Arrival → Port1Arrival
+coded (First, bit) = record { line = 1; bit = if bit then 1 else 0 }
+coded (Second, bit) = record { line = 2; bit = if bit then 1 else 0 }
+
+-- these arrivals in the first places, and the others as they were
+abbrev pub put_over : List Port1Arrival → List Arrival → List Port1Arrival
+put_over start xs = map coded xs ++ drop (length xs) start
+
+-- with these levels, the bits that arrived were put, `count` of them
+pub record HasTapped (from : TapState) (start : List Port1Arrival) (levels : List ℕ) (tap : TapState)
+    (arrivals : List Port1Arrival) (count : ℕ) : Type 0 where
+  pub xs : List Arrival
+  pub number : count ≡ length xs
+  pub fits : length xs ≤ length start
+  pub put : arrivals ≡ put_over start xs
+  pub advances : AdvancesTap from levels xs tap
+
+-- a call took samples of these levels from a tap to the other
+abbrev pub Taps : Port1Tap → List Port1Arrival → List ℕ → Port1Tap → List Port1Arrival → ℕ → Type 0
+Taps old start levels new arrivals count =
+    HasTapped (tap_told old.words) start levels (tap_told new.words) arrivals count
+
+-- samples of so many octets each, from number `at` on
+abbrev pub samples_from : ℕ → List ℕ → ℕ → ℕ → List ℕ
+samples_from width octets at n = map (λ k. record_at width octets (at + k)) (places n)

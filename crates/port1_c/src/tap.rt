@@ -1,0 +1,102 @@
+//! A tap in a caller's memory.
+
+ghost use Rattle.std.specs.Prelude.{◌≡◌, ◌+◌, ◌-◌, ◌*◌, ◌≤◌, ◌<◌, ◌++◌, List, ℕ, length, map, replicate};
+ghost use Rattle.bus_bits.specs.Limits.{most_places};
+ghost use Rattle.bus_tap.specs.Tapped.{TapState, channels};
+ghost use Rattle.port1_c.specs.Tap.{HasTapped, samples_from};
+
+use crate::arrival::{Port1Arrival, put_arrival};
+use crate::wires::Port1Wires;
+use bus_pairing::Line;
+use bus_tap::{SampleLimit, Tap, TapWords, Wires, number_of};
+
+/// A tap between two calls. Its layout is that of `c/include/port1.h`.
+#[repr(C)]
+#[derive(Clone, Copy)]
+pub struct Port1Tap {
+    /// The tap but for its wires.
+    pub words: TapWords,
+    /// The wires.
+    pub wires: Port1Wires,
+}
+
+/// Takes some samples with the same levels, up to those that bring bits, and puts these behind the first `arrived`
+/// arrivals. Returns how many samples.
+fn take_some(
+    tap: &mut Tap,
+    levels: u8,
+    count: u64,
+    arrivals: &mut [Port1Arrival],
+    arrived: &mut usize,
+) -> u64
+    requires room { arrived.old + 2 ≤ length arrivals.old }
+    requires fits { tap.old.samples + count ≤ most_places }
+    ensures count { (result ≤ count) × (1 ≤ count → 1 ≤ result) }
+    ensures long { length arrivals.new ≡ length arrivals.old }
+    ensures few { arrived.new ≤ arrived.old + 2 }
+    ensures samples { tap.new.samples ≡ tap.old.samples + result }
+    ensures taken { (from : TapState) (start : List Port1Arrival) (ls : List ℕ) → length start ≡ length arrivals.old
+        → HasTapped from start ls tap.old arrivals.old arrived.old
+        → HasTapped from start (ls ++ replicate result levels) tap.new arrivals.new arrived.new }
+{
+    let taken = match tap.consume(levels, count) {
+        Ok(taken) => taken,
+        Err(SampleLimit) => unreachable!(),
+    };
+    put_arrival(Line::First, taken.edges.first, arrivals, arrived);
+    put_arrival(Line::Second, taken.edges.second, arrivals, arrived);
+    taken.samples
+}
+
+/// Takes samples with the same levels, while there is room for two bits more, and puts the bits that arrive. Returns
+/// how many samples are left.
+pub(crate) fn take_run(
+    tap: &mut Tap,
+    levels: u8,
+    count: u64,
+    arrivals: &mut [Port1Arrival],
+    arrived: &mut usize,
+) -> u64
+    requires none { arrived.old ≡ 0 }
+    requires fits { tap.old.samples + count ≤ most_places }
+    ensures left { result ≤ count }
+    ensures all { 0 < result → length arrivals.old < arrived.new + 2 }
+    ensures taken { HasTapped tap.old arrivals.old (replicate (count - result) levels) tap.new arrivals.new arrived.new }
+{
+    let mut left = count;
+    while left > 0 && arrivals.len() - *arrived >= 2 {
+        left -= take_some(tap, levels, left, arrivals, arrived);
+    }
+    left
+}
+
+/// Takes samples of `width` octets each, from number `at` on and before number `end`, while there is room for two bits
+/// more, and puts the bits that arrive. `at` is then the next sample to take.
+pub(crate) fn take_samples(
+    tap: &mut Tap,
+    wires: &Wires,
+    octets: &[u8],
+    width: usize,
+    at: &mut usize,
+    end: usize,
+    arrivals: &mut [Port1Arrival],
+    arrived: &mut usize,
+)
+    requires none { arrived.old ≡ 0 }
+    requires width { (1 ≤ width) × (width ≤ 8) }
+    requires order { at.old ≤ end }
+    requires within { end * width ≤ length octets.now }
+    requires fits { tap.old.samples + (end - at.old) ≤ most_places }
+    ensures bound { (at.old ≤ at.new) × (at.new ≤ end) }
+    ensures all { at.new < end → length arrivals.old < arrived.new + 2 }
+    ensures taken { HasTapped tap.old arrivals.old
+        (map (channels wires.now) (samples_from width octets.now at.old (at.new - at.old))) tap.new arrivals.new
+        arrived.new }
+{
+    while *at < end && arrivals.len() - *arrived >= 2 {
+        let begin = *at * width;
+        let sample = number_of(&octets[begin..begin + width]);
+        take_some(tap, wires.channels(sample), 1, arrivals, arrived);
+        *at += 1;
+    }
+}
