@@ -1,15 +1,14 @@
 -- Packed captures, some octets more at a time.
 use Rattle.std.proofs.Common.{◌≡◌, ℕ, ◌-◌, ◌<◌, ◌≤◌, ◌^◌, false, List, ◌++◌, length, take, drop}
-use Rattle.std.proofs.Common.{Option, Some, Result, Ok, Err, MatchResult, sym, ap, ◌∙◌, subst, append-nil, arith}
+use Rattle.std.proofs.Common.{Option, Result, Ok, Err, MatchResult, sym, ap, ◌∙◌, subst, append-nil, arith}
 use Rattle.std.specs.Result.{IsErrAnd}
 use Rattle.std.proofs.lemmas.Grind.{common_steps}
 use Rattle.bus_bits.specs.Capture.{CaptureOf}
 use Rattle.bus_calls.specs.Captures.{fed_by}
 use Rattle.bus_calls.specs.Internal.Kinds.{KindView}
 use Rattle.bus_calls.specs.Internal.Watching.{Feeds, FeedHalts}
-use Rattle.bus_calls.specs.Internal.Sessions.{IsRead, FollowsBody, FollowsPacked, Faulty, StopsAt, Stops}
+use Rattle.bus_calls.specs.Internal.Sessions.{FollowsBody, Faulty, StopsAt, Stops}
 use Rattle.bus_calls.specs.declared.run.CaptureRun.{CaptureRun}
-use Rattle.bus_calls.specs.declared.packed.PackedCapture.{PackedCapture}
 use Rattle.bus_text.specs.declared.fault.ToolFault.{ToolFault}
 use Rattle.bus_text.specs.declared.fault.ToolFault.TheVariants as fault
 use Rattle.bus_calls.proofs.CapturesLemmas.{halts-stops}

@@ -1,6 +1,7 @@
 //! Brings the second line to rest where its clock has stopped.
 
 ghost use Rattle.std.specs.Prelude.{◌≡◌, ◌+◌, ◌≤◌, ◌==◌, ◌&&◌, ◌++◌, ◌∷◌, [], List, min, nat_lt, if◌then◌else◌};
+ghost use Rattle.std.specs.Prelude.{◌↔◌, IsSome, IfSome};
 ghost use Rattle.bus_tap.specs.Arrival.{Arrival};
 ghost use Rattle.bus_tap.specs.Rested.{IsRestAfter, rested, fill};
 
@@ -52,6 +53,33 @@ impl RestRule {
             silent: 0,
             ones: IDLE_ONES,
         }
+    }
+
+    /// The rule that stands so, if one can.
+    pub fn resume(most: u64, silent: u64, ones: u64) -> Option<Self>
+        ensures some { IsSome result ↔ (silent ≤ most) × (ones ≤ 15) }
+        ensures value { IfSome result (λ rule. rule ≡ record { most = most; silent = silent; ones = ones }) }
+    {
+        if silent > most || ones > IDLE_ONES {
+            return None;
+        }
+        Some(RestRule { most, silent, ones })
+    }
+
+    /// How many bits of the first line came since the last of the second, up to the silence.
+    pub fn silent(&self) -> u64
+        ensures value { result ≡ self.now.silent }
+        ensures within { result ≤ self.now.most }
+    {
+        self.silent
+    }
+
+    /// How many 1s are at the end of the second line, up to fifteen.
+    pub fn ones(&self) -> u64
+        ensures value { result ≡ self.now.ones }
+        ensures within { result ≤ 15 }
+    {
+        self.ones
     }
 
     /// A bit arrives. Returns whether fifteen 1s of the second line arrive right after it. These are not pushed here.

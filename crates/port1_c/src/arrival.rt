@@ -1,8 +1,9 @@
 //! Bits that arrive, in a caller's memory.
 
-ghost use Rattle.std.specs.Prelude.{◌≡◌, ◌+◌, ◌≤◌, ◌<◌, ◌++◌, List, length};
+ghost use Rattle.std.specs.Prelude.{◌≡◌, ◌+◌, ◌≤◌, ◌<◌, ◌↔◌, ◌++◌, List, IsSome, IfSome, length};
 ghost use Rattle.bus_tap.specs.Arrival.{Arrival};
 ghost use Rattle.bus_tap.specs.Sampled.{bit_on};
+ghost use Rattle.port1_c.specs.Rest.{arrival_told};
 ghost use Rattle.port1_c.specs.Tap.{coded, put_over};
 
 use bus_pairing::Line;
@@ -26,6 +27,18 @@ impl Port1Arrival {
         match line {
             Line::First => Port1Arrival { line: 1, bit },
             Line::Second => Port1Arrival { line: 2, bit },
+        }
+    }
+
+    /// The line, if it is one.
+    pub(crate) fn line(&self) -> Option<Line>
+        ensures some { IsSome result ↔ (1 ≤ self.now.line) × (self.now.line ≤ 2) }
+        ensures value { IfSome result (λ line. line ≡ (arrival_told self.now).0) }
+    {
+        match self.line {
+            1 => Some(Line::First),
+            2 => Some(Line::Second),
+            _ => None,
         }
     }
 }

@@ -13,6 +13,7 @@ mod pair;
 mod pairing;
 mod put;
 mod report;
+mod rest;
 mod seen;
 mod send;
 mod sender;
@@ -31,6 +32,7 @@ pub use line::Port1Line;
 pub use pair::Port1Pair;
 pub use pairing::{port1_pair_init, port1_pair_take};
 pub use report::Port1Report;
+pub use rest::{Port1Rest, port1_rest_init, port1_rest_push};
 pub use seen::Port1Seen;
 pub use send::{
     port1_send_align, port1_send_flag, port1_send_frame, port1_send_idle, port1_sender_init,

@@ -10,7 +10,7 @@ invariant-loop-left l = record {
   fits : l.tap.samples + l.left ≤ most_places;
   arrived : l.arrived ≤ length l.arrivals;
   tapped : HasTapped l.initial.tap l.initial.arrivals (replicate (l.count - l.left) l.levels) l.tap l.arrivals
-  l.arrived;
+      l.arrived;
 }
 
 abbrev pub decreases-loop-left : goal.decreases-loop-left

@@ -18,7 +18,7 @@ loop-at-preserved c =
     let some = c.take_some.ensures in
     let one : c.take_some.result ≡ 1 = omega (arith, some.count.0, some.count.1 (omega arith)) in
     let next = levels-next c.args.wires.now c.args.width c.args.octets.now c.args.at.now c.loop-at.at _ _ before.order
-        c.number_of-sample.ensures c.channels.ensures in record {
+    c.number_of-sample.ensures c.channels.ensures in record {
       order = omega (arith, before.order);
       within = omega (arith, c.loop-at-test.true);
       fits = omega (arith, before.fits, some.samples, one, c.loop-at-test.true);
