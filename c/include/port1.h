@@ -1,5 +1,6 @@
-/* port1.h: the frames of a synchronous HDLC line (ISO/IEC 13239, 16-bit frame check) from its bits, and
- * bits from frames, in memory of the caller's. Link libport1_c.a or libport1.so. C99 or later, C++11 or later.
+/* port1.h: the frames of a synchronous HDLC line (ISO/IEC 13239, 16-bit frame check) from its bits, these from
+ * samples, and bits from frames, in memory of the caller's. Link libport1_c.a or libport1.so. C99 or later, C++11 or
+ * later.
  *
  * What is proved, for every content of the memory that a call is given:
  *   - a call is safe and ends;
@@ -16,17 +17,22 @@
  *   - after port1_pair_init, and as long as only port1_pair_take writes the pairing, with one table, each call
  *     that returns PORT1_OK gives the standing, the verdict and the stray of the definitions
  *     (crates/bus_pairing/specs/Seen.antt) for the reports taken so far, by numbers that are named below;
+ *   - after port1_tap_init, and as long as only these calls write the tap, the arrivals are those of the definition
+ *     (crates/bus_tap/specs/Sampled.antt) for the samples taken so far: all of them, in order, each once; and its
+ *     facts are those of crates/bus_tap/specs/Facts.antt;
+ *   - after port1_rest_init, and as long as only port1_rest_push writes the rule, the second line comes to rest just
+ *     where the definition (crates/bus_tap/specs/Rested.antt) says, for the arrivals so far;
  *   - where a call refuses, with PORT1_BAD_STATE, PORT1_BAD_ARGUMENT, PORT1_BAD_LENGTH or PORT1_NO_ROOM,
  *     nothing has changed but what is said there.
  *
- * A line of zeros, and one whose numbers are out of a decoder's range, is refused as PORT1_BAD_STATE. With any
- * other content, as of a line that was damaged or never made, a call is safe and ends all the same, but its
- * reports mean nothing.
+ * A line of zeros, and a line, tap or rule whose numbers are out of range, is refused as PORT1_BAD_STATE. With any
+ * other content, as of one that was damaged or never made, a call is safe and ends all the same, but what it tells
+ * means nothing.
  *
  * The library has no writable data, asks for no memory and calls nothing but memcpy and memset, and on 32-bit
  * targets what the compiler's own library has for 64-bit numbers. As it shares nothing between calls, calls on
- * different objects may run at the same time, in threads and in interrupts. Calls that write the same line, pairing or
- * sender may not: a line that an interrupt feeds is neither fed nor read elsewhere, unless that interrupt is off.
+ * different objects may run at the same time, in threads and in interrupts. Calls that write the same object may not:
+ * a line that an interrupt feeds is neither fed nor read elsewhere, unless that interrupt is off.
  *
  * Numbers of octets and of bits are uint64_t on every target, so a 32-bit one passes them as 64-bit numbers.
  *
@@ -62,10 +68,11 @@ extern "C" {
 enum {
     PORT1_OK = 0,
     PORT1_BAD_LENGTH = 1,   /* the longest frame is not of 3 to 256 octets; a frame to send not of 2 to 256 */
-    PORT1_PLACE_LIMIT = 2,  /* a bit's place would be 2^60 or later, or an origin is past 2^60 */
-    PORT1_BAD_STATE = 3,    /* the memory holds no decoder or no sender */
-    PORT1_BAD_ARGUMENT = 4, /* the bits asked for are not in the octets */
-    PORT1_NO_ROOM = 5       /* the octets have no room for the bits */
+    PORT1_PLACE_LIMIT = 2,  /* a bit's place would be 2^60 or later, an origin is past 2^60, or there would be more
+                             * than 2^60 samples */
+    PORT1_BAD_STATE = 3,    /* the memory holds no decoder, no sender, no tap or no rule */
+    PORT1_BAD_ARGUMENT = 4, /* what is asked for is not in the octets, or there is no such line, report or width */
+    PORT1_NO_ROOM = 5       /* there is no room for the bits */
 };
 
 /* The kind of a report. */
@@ -250,6 +257,106 @@ uint32_t port1_pair_take(struct port1_pair *pair, const struct port1_entry *entr
                          uint32_t line, const struct port1_report *report, const uint8_t *octets, uint64_t count,
                          struct port1_seen *seen);
 
+/* A wire: a bit of each sample. 4 octets; all 0 is no wire. */
+struct port1_wire {
+    uint8_t used;     /* 0 where there is none, whose level is low; the rest then means nothing */
+    uint8_t number;   /* its bit, the lowest 0; a bit that a sample has not is 0 */
+    uint8_t inverted; /* 0 unless its level is the other one, as of a clock whose falling edges count */
+    uint8_t spare;    /* not read */
+};
+
+/* The wires of two lines, the controller's first. To exchange the lines, exchange their wires. Of one line the second
+ * has none; two lines with one clock have the same one. */
+struct port1_wires {
+    struct port1_wire first_clock, first_data, second_clock, second_data;
+};
+
+/* A bit that arrives. */
+struct port1_arrival {
+    uint8_t line; /* 1 for the first line, 2 for the second */
+    uint8_t bit;  /* 0 or 1 */
+};
+
+/* Samples in which something happens, numbered from 0. */
+struct port1_occurrences {
+    uint64_t count;       /* how many */
+    uint64_t first, last; /* 0 where there is none */
+};
+
+/* A distance of two samples. */
+struct port1_gap {
+    uint64_t length, from;
+};
+
+/* What is counted of a line. Levels are those that count. */
+struct port1_line_facts {
+    struct port1_occurrences clock_changes, data_changes;
+    struct port1_occurrences data_changes_high; /* while the clock is high, where it should not */
+    struct port1_occurrences bits;
+    struct port1_gap gap; /* the longest between two bits in a row, the first such */
+    uint64_t step;        /* the distance of the last two bits, or 0 */
+    struct port1_occurrences jumps; /* bits whose distance differs by more than `jump` from the one before */
+};
+
+/* The level of a wire. */
+struct port1_wire_level {
+    uint32_t level;  /* 0 where the level that counts is low */
+    uint32_t others; /* for how many samples the other one has stood */
+};
+
+/* A tap: 360 octets. It holds no pointer, so it may be copied and moved. Read samples, the facts of both lines and the
+ * levels; write nothing. */
+struct port1_tap {
+    uint64_t samples; /* how many it took */
+    uint64_t jump;
+    struct port1_line_facts first, second;
+    struct port1_wire_level first_clock, first_data, second_clock, second_data;
+    uint32_t hold;
+    uint32_t begun; /* 0 before the first sample */
+    struct port1_wires wires;
+};
+
+/* Makes a tap that took no sample, whatever the memory holds. Returns PORT1_OK.
+ * hold: a level counts once it stood in `hold` + 1 samples in a row; shorter ones are glitches. With 0 each counts.
+ * jump: see struct port1_line_facts. */
+uint32_t port1_tap_init(struct port1_tap *tap, const struct port1_wires *wires, uint32_t hold, uint64_t jump);
+
+/* Takes `*count` samples that are the same, until the arrivals have room for fewer than two more. Where a line's clock
+ * rises, a bit of it arrives: the level of its data just before. Of two bits in one sample the first line's comes
+ * first. `*count` is then how many samples are left, and `*arrived` how many arrivals were written, from the first on.
+ * It works for `hold` samples and one more at the most after each change, however many they are.
+ *
+ * PORT1_OK: `*count` is 0, or call again, once the arrivals have been read.
+ * PORT1_NO_ROOM: just where `room` < 2. PORT1_BAD_STATE: the memory holds no tap. PORT1_PLACE_LIMIT: there would be
+ * more than 2^60 samples. Nothing has changed. */
+uint32_t port1_tap_push(struct port1_tap *tap, uint64_t sample, uint64_t *count, struct port1_arrival *arrivals,
+                        uint64_t room, uint64_t *arrived);
+
+/* Takes samples of `width` octets each, 1 to 8, the lowest first, from sample `*at` on, until the arrivals have room
+ * for fewer than two more. `*at` is then the next sample to take. Octets behind the last whole sample are left alone.
+ *
+ * PORT1_OK: `*at` is `count` / `width`, or call again. PORT1_BAD_ARGUMENT: just where `width` is not 1 to 8, or `*at` >
+ * `count` / `width`. Nothing has changed. Else it returns what port1_tap_push returns. */
+uint32_t port1_tap_feed(struct port1_tap *tap, const uint8_t *octets, uint64_t count, uint32_t width, uint64_t *at,
+                        struct port1_arrival *arrivals, uint64_t room, uint64_t *arrived);
+
+/* The rule of rest: 24 octets, for stations that drive their clock only while they send. 0 is one by which the second
+ * line never comes to rest. Read it; write nothing into it. */
+struct port1_rest {
+    uint64_t most;   /* the silence that brings the second line to rest, in bits of the first; 0: none does */
+    uint64_t silent; /* bits of the first line since the last of the second, up to `most` */
+    uint64_t ones;   /* 1s at the end of the second line, up to fifteen */
+};
+
+/* Makes the rule before the first bit, whatever the memory holds. Returns PORT1_OK. 400 suits a traffic cabinet. */
+uint32_t port1_rest_init(struct port1_rest *rest, uint64_t most);
+
+/* Takes a bit that arrives. Where `*rests` is then 1, fifteen 1s of the second line arrive right after it, which end a
+ * piece that a station broke off: give them to its decoder, and not to this call. Else it is 0.
+ * PORT1_BAD_ARGUMENT: just where the line is neither 1 nor 2. PORT1_BAD_STATE: the memory holds no rule. Nothing has
+ * changed. */
+uint32_t port1_rest_push(struct port1_rest *rest, const struct port1_arrival *arrival, uint8_t *rests);
+
 /* The layout that the library was compiled with. Where the language has no assert of its own, an array of a negative
  * size is the error. */
 #if defined(__cplusplus) && __cplusplus >= 201103L
@@ -312,6 +419,53 @@ PORT1_PLACE(seen, ftype, 30);
 PORT1_PLACE(seen, command_station, 31);
 PORT1_PLACE(seen, command_type, 32);
 PORT1_PLACE(seen, spare, 33);
+PORT1_SIZE(wire, 4);
+PORT1_PLACE(wire, used, 0);
+PORT1_PLACE(wire, number, 1);
+PORT1_PLACE(wire, inverted, 2);
+PORT1_PLACE(wire, spare, 3);
+PORT1_SIZE(wires, 16);
+PORT1_PLACE(wires, first_clock, 0);
+PORT1_PLACE(wires, first_data, 4);
+PORT1_PLACE(wires, second_clock, 8);
+PORT1_PLACE(wires, second_data, 12);
+PORT1_SIZE(arrival, 2);
+PORT1_PLACE(arrival, line, 0);
+PORT1_PLACE(arrival, bit, 1);
+PORT1_SIZE(occurrences, 24);
+PORT1_PLACE(occurrences, count, 0);
+PORT1_PLACE(occurrences, first, 8);
+PORT1_PLACE(occurrences, last, 16);
+PORT1_SIZE(gap, 16);
+PORT1_PLACE(gap, length, 0);
+PORT1_PLACE(gap, from, 8);
+PORT1_SIZE(line_facts, 144);
+PORT1_PLACE(line_facts, clock_changes, 0);
+PORT1_PLACE(line_facts, data_changes, 24);
+PORT1_PLACE(line_facts, data_changes_high, 48);
+PORT1_PLACE(line_facts, bits, 72);
+PORT1_PLACE(line_facts, gap, 96);
+PORT1_PLACE(line_facts, step, 112);
+PORT1_PLACE(line_facts, jumps, 120);
+PORT1_SIZE(wire_level, 8);
+PORT1_PLACE(wire_level, level, 0);
+PORT1_PLACE(wire_level, others, 4);
+PORT1_SIZE(tap, 360);
+PORT1_PLACE(tap, samples, 0);
+PORT1_PLACE(tap, jump, 8);
+PORT1_PLACE(tap, first, 16);
+PORT1_PLACE(tap, second, 160);
+PORT1_PLACE(tap, first_clock, 304);
+PORT1_PLACE(tap, first_data, 312);
+PORT1_PLACE(tap, second_clock, 320);
+PORT1_PLACE(tap, second_data, 328);
+PORT1_PLACE(tap, hold, 336);
+PORT1_PLACE(tap, begun, 340);
+PORT1_PLACE(tap, wires, 344);
+PORT1_SIZE(rest, 24);
+PORT1_PLACE(rest, most, 0);
+PORT1_PLACE(rest, silent, 8);
+PORT1_PLACE(rest, ones, 16);
 #undef PORT1_PLACE
 #undef PORT1_SIZE
 #undef PORT1_ASSERT

@@ -19,9 +19,12 @@ TOP = Path(__file__).resolve().parent.parent.parent
 SIZES = {"u8": 1, "u16": 2, "u32": 4, "u64": 8, "usize": 8}
 C_TYPES = {"u8": "uint8_t", "u16": "uint16_t", "u32": "uint32_t", "u64": "uint64_t", "usize": "uint64_t"}
 
-# Files with structs whose fields the header has among those of the struct that they are in, and what it calls some of
-# these. The last field of each ends where the struct does.
-PARTS = ["crates/bus_line/src/decoder_words.rt", "crates/port1_c/src/lent_frame.rt"]
+# Files of the crates below with structs that cross to C.
+BELOW = ["crates/bus_line/src/decoder_words.rt", "crates/bus_tap/src/facts.rt", "crates/bus_tap/src/words.rt"]
+
+# Structs whose fields the header has among those of the struct that they are in, and what it calls some of these. The
+# last field of each ends where the struct does.
+PARTS = ["DecoderWords", "LentFrame", "TapWords"]
 RENAMED = {"len": "count", "register": "check"}
 
 STRUCT = re.compile(r"^((?:#\[[^\n]*\]\n)+)pub struct (\w+) \{\n(.*?)^\}", re.MULTILINE | re.DOTALL)
@@ -85,9 +88,9 @@ class Sources:
         self.text = "\n".join(texts)
         self.numbers = {name: (kind, int(number)) for name, kind, number in NUMBER.findall(self.text)}
         self.layouts: Dict[str, Layout] = {}
-        parts = "\n".join((top / part).read_text(encoding="utf-8") for part in PARTS)
-        self.parts = structs_of(parts)
-        bodies = {name: body for name, body in structs_of(self.text).items() if name not in self.parts}
+        below = [(top / path).read_text(encoding="utf-8") for path in BELOW]
+        bodies = structs_of("\n".join([self.text, *below]))
+        self.parts = {name: bodies.pop(name) for name in PARTS}
         for name in bodies:
             self.lay_out(name, bodies)
 
@@ -147,8 +150,9 @@ class Sources:
 
 
 def c_name(name: str) -> str:
-    """`Port1Line` is `port1_line`."""
-    return re.sub(r"(?<=[a-z0-9])(?=[A-Z])", "_", name).lower()
+    """`Port1Line` is `port1_line`, and `LineFacts` is `port1_line_facts`."""
+    shown = re.sub(r"(?<=[a-z0-9])(?=[A-Z])", "_", name).lower()
+    return shown if shown.startswith("port1_") else f"port1_{shown}"
 
 
 def parts_of(pattern: str, text: str) -> Tuple[str, ...]:

@@ -1,22 +1,9 @@
 /* Calls of the C library and what each is to do, one after the other: what c/include/port1.h says of refusals, of null
  * pointers, and of the places and bits that a call tells. Each that does otherwise is a line on standard output. It is
  * compiled as C99, C11 and C++. */
-#include "port1.h"
-#include <stdio.h>
-#include <string.h>
+#include "want.h"
 
-#define LIMIT ((uint64_t)1 << 60)
 #define TWO_32 ((uint64_t)1 << 32)
-
-static int wrong;
-
-#define WANT(holds)                                                                                                  \
-    do {                                                                                                             \
-        if (!(holds)) {                                                                                              \
-            wrong = 1;                                                                                               \
-            printf("line %d: not so: %s\n", __LINE__, #holds);                                                       \
-        }                                                                                                            \
-    } while (0)
 
 static struct port1_line line;
 static struct port1_report report;

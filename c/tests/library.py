@@ -61,7 +61,10 @@ COMPILERS = [
 ]
 MAKERS = COMPILERS[:2]
 
-EXAMPLES = ["list", "live", "send", "watch"]
+EXAMPLES = ["list", "live", "send", "tap", "watch"]
+
+# The tests in C.
+CALLS = ["library.c", "samples.c"]
 
 # A dictionary as `port1` takes it, and as c/examples/watch.c does.
 DICTIONARY = """version = 2
@@ -94,15 +97,21 @@ WATCHED = ["0,1,60", "1,0,0", "9,2", "128,2", "129,1"]
 # The lines of a listing that c/examples/watch.c writes.
 FOLLOWS = ("answered", "late", "missing", "spoilt", "stray", "pending")
 
+# The wires of clock and data that samples of both lines have, the levels of the others, and the marks of 0 and 1.
+TAPPED = [(3, 1), (6, 0)]
+OTHER_WIRES = [0, 4, 16, 32, 128, 180]
+MARKS = ["01", "oi"]
+
 # What the code in documents stands on.
 BEFORE_SHOWN = """#include "port1.h"
 void handle(const uint8_t *octets, size_t count);
 void start_dma(const uint8_t *octets, size_t count);
 void alarm_of(unsigned station, unsigned type);
+void push(unsigned line, unsigned bit);
 """
 
 # The sections of docs/C.md whose indented lines are C.
-SHOWN_SECTIONS = ["Receive", "Commands and answers", "Send"]
+SHOWN_SECTIONS = ["Receive", "Commands and answers", "Samples", "Send"]
 
 # What neither `port1 encode` nor c/examples/send.c takes for a line.
 WRONG_LINES = ["frame  1+2", "frame 0x00", "frame 012", "frame 01", "frame", " ", "flags"]
@@ -413,6 +422,42 @@ def results_of_watch(bench: Bench, programs: Sequence[Path]) -> Iterator[Result]
         yield f"library: watch: two lines by seed {seed}", problems_of_watch(bench, programs, True, marks)
 
 
+def simulated(generator: random.Random, lines: Sequence[str]) -> Tuple[bytes, str]:
+    """Samples of two lines with a clock each, and the text of the bits in the order in which these clocks rise.
+
+    A level stands in four samples or more, but for glitches of one. The second line's clock stops now and then.
+    """
+    rises = []
+    for line, bits in enumerate(lines):
+        at = generator.randrange(20, 60)
+        for bit in bits:
+            rises.append((at, line, int(bit)))
+            stops = line == 1 and generator.random() < 0.002
+            at += generator.randrange(3000, 9000) if stops else generator.choice([8, 8, 9])
+    samples = bytearray(generator.choice(OTHER_WIRES) for _ in range(max(at for at, _, _ in rises) + 20))
+    for at, line, bit in rises:
+        for sample in range(at - 4, at + 4):
+            samples[sample] |= bit << TAPPED[line][1] | (sample >= at) << TAPPED[line][0]
+        if generator.random() < 0.05:
+            samples[at + 2] ^= 1 << generator.choice(TAPPED[line])
+    return bytes(samples), "".join(MARKS[line][bit] for _, line, bit in sorted(rises))
+
+
+def problems_of_tap(bench: Bench, programs: Sequence[Path], seed: int) -> List[str]:
+    """Whether what is listed of samples is what the programs list of the bits that were simulated, and of these."""
+    generator = random.Random(seed)
+    samples, marks = simulated(generator, [talk(bench, generator), talk(bench, generator)])
+    words = [str(wire) for line in TAPPED for wire in line]
+    sampler = bench.program.parent.parent.parent / "port1_sample" / "out" / "port1_sample"
+    listings = {"the bits": marks.encode(), "port1-sample": bench.run([sampler, *words], samples)}
+    got = [bench.run([program, *words], samples) for program in programs]
+    problems = [] if got[0].count(b"\n2 ") > 20 else [f"there are {len(got[0])} octets"]
+    for name, capture in listings.items():
+        wanted = bench.listed(capture, "--bits", "--arrivals")
+        problems += [f"{program.name}: not as of {name}" for program, each in zip(programs, got) if each != wanted]
+    return problems
+
+
 def problems_of_refusals(bench: Bench, programs: Sequence[Path]) -> List[str]:
     problems = []
     calls: List[List[Word]] = [[bench.program, "encode"]]
@@ -447,13 +492,15 @@ def results_of_examples(bench: Bench) -> Iterator[Result]:
     for name, text in texts_to_send():
         yield f"library: send: {name}", problems_of_send(bench, programs["send"], text)
     yield from results_of_watch(bench, programs["watch"])
+    for seed in range(4):
+        yield f"library: tap: samples by seed {seed}", problems_of_tap(bench, programs["tap"], seed)
     yield "library: send refuses what `port1 encode` does", problems_of_refusals(bench, programs["send"])
 
 
-def problems_of_calls(bench: Bench, compiler: Compiler) -> List[str]:
-    """Runs the calls of library.c."""
+def problems_of_calls(bench: Bench, compiler: Compiler, source: str) -> List[str]:
+    """Runs the calls of a test in C."""
     program = bench.folder / "calls"
-    problems = bench.link(compiler, Path(__file__).with_name("library.c"), program)
+    problems = bench.link(compiler, Path(__file__).with_name(source), program)
     if problems:
         return problems
     ran = subprocess.run([program], capture_output=True, text=True, timeout=SECONDS)
@@ -472,7 +519,8 @@ def results_with(bench: Bench) -> Iterator[Result]:
     for compiler in installed():
         if compiler.is_for_here:
             yield f"library: {compiler.name}: the places of fields", problems_of_places(bench, compiler)
-            yield f"library: {compiler.name}: calls", problems_of_calls(bench, compiler)
+            for source in CALLS:
+                yield f"library: {compiler.name}: {source}", problems_of_calls(bench, compiler, source)
     for row in OTHER_LAYOUTS:
         yield f"library: a header with {row[1].strip() or 'a field less'!r}", problems_of_other_layout(bench, row)
     for name, code in shown_in_documents(bench.top).items():

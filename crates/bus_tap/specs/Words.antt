@@ -4,11 +4,11 @@ use Rattle.bus_bits.specs.Limits.{most_places}
 use Rattle.bus_tap.specs.Facts.{AreWithin}
 use Rattle.bus_tap.specs.Sampled.{HeldState, SamplerState}
 use Rattle.bus_tap.specs.Tapped.{TapState}
-use Rattle.bus_tap.specs.declared.words.LevelWords.{LevelWords}
+use Rattle.bus_tap.specs.declared.words.WireLevel.{WireLevel}
 use Rattle.bus_tap.specs.declared.words.TapWords.{TapWords}
 
 -- a channel
-abbrev pub held_told : LevelWords → HeldState
+abbrev pub held_told : WireLevel → HeldState
 held_told w = record { level = not (w.level == 0); others = w.others }
 
 -- the sampler, of which there is none before the first sample

@@ -17,4 +17,4 @@ pub use rest::RestRule;
 pub use sampler::{Edges, Sampler};
 pub use tap::{SampleLimit, Taken, Tap};
 pub use wires::{Wire, Wires};
-pub use words::{LevelWords, TapWords};
+pub use words::{TapWords, WireLevel};

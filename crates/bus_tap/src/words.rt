@@ -12,7 +12,7 @@ use crate::tap::{MOST, Tap};
 /// A channel. The layout is C's.
 #[repr(C)]
 #[derive(Clone, Copy)]
-pub struct LevelWords {
+pub struct WireLevel {
     /// The level that counts: 0 where it is low.
     pub level: u32,
     /// For how many samples the other level has stood.
@@ -31,22 +31,22 @@ pub struct TapWords {
     pub first: LineFacts,
     /// What is counted of the second line.
     pub second: LineFacts,
-    pub first_clock: LevelWords,
-    pub first_data: LevelWords,
-    pub second_clock: LevelWords,
-    pub second_data: LevelWords,
+    pub first_clock: WireLevel,
+    pub first_data: WireLevel,
+    pub second_clock: WireLevel,
+    pub second_data: WireLevel,
     /// In how many samples after its first a level has to stand before it counts.
     pub hold: u32,
     /// 0 before the first sample; the levels then mean nothing.
     pub begun: u32,
 }
 
-impl LevelWords {
+impl WireLevel {
     /// A low level.
     fn low() -> Self
         ensures { result.others ≡ 0 }
     {
-        LevelWords {
+        WireLevel {
             level: 0,
             others: 0,
         }
@@ -56,7 +56,7 @@ impl LevelWords {
     fn of(held: HeldLevel) -> Self
         ensures { held_told result ≡ held_state held }
     {
-        LevelWords {
+        WireLevel {
             level: u32::from(held.level),
             others: held.others,
         }
@@ -150,20 +150,20 @@ impl Tap {
             jump: self.jump,
             first: self.first,
             second: self.second,
-            first_clock: LevelWords::low(),
-            first_data: LevelWords::low(),
-            second_clock: LevelWords::low(),
-            second_data: LevelWords::low(),
+            first_clock: WireLevel::low(),
+            first_data: WireLevel::low(),
+            second_clock: WireLevel::low(),
+            second_data: WireLevel::low(),
             hold: self.hold,
             begun: 0,
         };
         match &self.sampler {
             None => words,
             Some(sampler) => TapWords {
-                first_clock: LevelWords::of(sampler.first.clock),
-                first_data: LevelWords::of(sampler.first.bits),
-                second_clock: LevelWords::of(sampler.second.clock),
-                second_data: LevelWords::of(sampler.second.bits),
+                first_clock: WireLevel::of(sampler.first.clock),
+                first_data: WireLevel::of(sampler.first.bits),
+                second_clock: WireLevel::of(sampler.second.clock),
+                second_data: WireLevel::of(sampler.second.bits),
                 begun: 1,
                 ..words
             },

@@ -1,0 +1,118 @@
+/* Calls of the C library on samples, and what each is to do: what c/include/port1.h says of taps and of the rule of
+ * rest. Each that does otherwise is a line on standard output. It is compiled as C99, C11 and C++. */
+#include "want.h"
+
+static uint8_t octets[9];
+
+/* Two lines of two wires each, from the lowest bit up; the second line's clock is inverted. */
+static const struct port1_wires wires = {{1, 0, 0, 0}, {1, 1, 0, 0}, {1, 2, 9, 0}, {1, 3, 0, 0}};
+static struct port1_tap tap;
+static struct port1_arrival arrivals[4];
+
+/* A clock that rises brings the data just before; the first line's bit comes first, and other bits say nothing. */
+static void tap_bits(void) {
+    static const struct {
+        uint8_t octets[4];
+        uint64_t count, arrived;
+        struct port1_arrival wanted[2];
+    } rows[] = {{{4, 4, 5, 5}, 4, 1, {{1, 0}, {0, 0}}}, {{6, 5, 5, 5}, 4, 1, {{1, 1}, {0, 0}}},
+                {{4, 4, 0, 0}, 4, 1, {{2, 0}, {0, 0}}}, {{0xfe, 0xf3, 0, 0}, 2, 2, {{1, 1}, {2, 1}}},
+                {{5, 5, 5, 5}, 4, 0, {{0, 0}, {0, 0}}}, {{1, 5, 1, 1}, 3, 1, {{2, 0}, {0, 0}}}};
+    for (size_t k = 0; k < sizeof rows / sizeof *rows; k++) {
+        uint64_t at = 0, arrived = 9;
+        memset(&tap, 0xa5, sizeof tap);
+        WANT(port1_tap_init(&tap, &wires, 0, 2) == PORT1_OK && tap.samples == 0 && tap.begun == 0);
+        WANT(port1_tap_feed(&tap, rows[k].octets, rows[k].count, 1, &at, arrivals, 4, &arrived) == PORT1_OK);
+        WANT(at == rows[k].count && tap.samples == at && arrived == rows[k].arrived);
+        WANT(memcmp(arrivals, rows[k].wanted, arrived * sizeof *arrivals) == 0);
+    }
+}
+
+/* A level counts once it stood in three samples, a sample may have several octets, and the facts count both lines. */
+static void tap_facts(void) {
+    static const uint8_t samples[] = {7, 6, 7, 6, 7, 6, 7, 7, 7, 7, 7, 6, 7, 6, 7, 6, 7, 7, 7, 7, 7, 7, 99};
+    static const struct port1_wires high = {{1, 8, 0, 0}, {1, 9, 0, 0}, {0, 1, 1, 0}, {0, 2, 1, 0}};
+    uint64_t at = 0, arrived = 0;
+    WANT(port1_tap_init(&tap, &high, 2, 0) == PORT1_OK);
+    WANT(port1_tap_feed(&tap, samples, sizeof samples, 2, &at, arrivals, 4, &arrived) == PORT1_OK);
+    WANT(at == 11 && arrived == 1 && arrivals[0].line == 1 && arrivals[0].bit == 1);
+    WANT(tap.first.bits.count == 1 && tap.first.bits.first == 10 && tap.first.clock_changes.count == 1);
+    WANT(tap.first_clock.level == 1 && tap.first_data.level == 1 && tap.second.bits.count == 0 && tap.begun);
+}
+
+/* Runs of samples: they stop where the room does, and say how many are left. */
+static void tap_runs(void) {
+    uint64_t count = LIMIT - 3, arrived = 9, at = 0;
+    WANT(port1_tap_init(&tap, &wires, 1, 2) == PORT1_OK);
+    WANT(port1_tap_push(&tap, 6, &count, arrivals, 2, &arrived) == PORT1_OK && count == 0 && arrived == 0);
+    count = 3;
+    WANT(port1_tap_push(&tap, 1, &count, arrivals, 2, &arrived) == PORT1_OK);
+    WANT(count == 1 && arrived == 2 && tap.samples == LIMIT - 1 && arrivals[0].bit == 1 && arrivals[1].line == 2);
+    WANT(port1_tap_push(&tap, 1, &count, arrivals, 2, &arrived) == PORT1_OK && count == 0 && arrived == 0);
+    count = 1;
+    WANT(port1_tap_push(&tap, 1, &count, arrivals, 2, &arrived) == PORT1_PLACE_LIMIT && count == 1);
+    WANT(port1_tap_feed(&tap, octets, 1, 1, &at, arrivals, 2, &arrived) == PORT1_PLACE_LIMIT && at == 0);
+    WANT(tap.samples == LIMIT && tap.first.bits.last == LIMIT - 2 && tap.second.bits.count == 1);
+}
+
+/* What no tap has, and what may not be asked for; nothing changes. */
+static void tap_refusals(void) {
+    static const struct {
+        uint64_t count, at, room;
+        uint32_t width, others, status;
+    } rows[] = {{8, 0, 2, 1, 3, PORT1_OK},           {8, 8, 2, 1, 3, PORT1_OK},
+                {8, 9, 2, 1, 3, PORT1_BAD_ARGUMENT}, {8, 0, 2, 0, 3, PORT1_BAD_ARGUMENT},
+                {9, 1, 2, 8, 3, PORT1_OK},           {9, 2, 2, 8, 3, PORT1_BAD_ARGUMENT},
+                {9, 0, 2, 9, 3, PORT1_BAD_ARGUMENT}, {8, 0, 1, 1, 4, PORT1_NO_ROOM},
+                {8, 0, 0, 1, 3, PORT1_NO_ROOM},      {8, 0, 2, 1, 4, PORT1_BAD_STATE}};
+    memset(octets, 0x55, sizeof octets);
+    for (size_t k = 0; k < sizeof rows / sizeof *rows; k++) {
+        struct port1_tap before;
+        uint64_t at = rows[k].at, arrived = 9, count = 1;
+        WANT(port1_tap_init(&tap, &wires, 3, 2) == PORT1_OK);
+        tap.second_data.others = rows[k].others;
+        before = tap;
+        WANT(port1_tap_feed(&tap, octets, rows[k].count, rows[k].width, &at, arrivals, rows[k].room, &arrived)
+             == rows[k].status);
+        if (rows[k].status == PORT1_OK)
+            continue;
+        WANT(memcmp(&tap, &before, sizeof tap) == 0 && at == rows[k].at && arrived == 9);
+        if (rows[k].status == PORT1_BAD_ARGUMENT)
+            continue;
+        WANT(port1_tap_push(&tap, 0, &count, arrivals, rows[k].room, &arrived) == rows[k].status);
+        WANT(memcmp(&tap, &before, sizeof tap) == 0 && count == 1 && arrived == 9);
+    }
+}
+
+/* The second line comes to rest once, with the third bit of the first line after its own. */
+static void rest_of_a_line(void) {
+    static const struct {
+        struct port1_arrival arrival;
+        uint32_t status;
+        uint8_t rests;
+    } rows[] = {{{1, 1}, PORT1_OK, 0}, {{1, 1}, PORT1_OK, 0}, {{1, 0}, PORT1_OK, 0}, {{2, 7}, PORT1_OK, 0},
+                {{2, 0}, PORT1_OK, 0}, {{1, 1}, PORT1_OK, 0}, {{1, 1}, PORT1_OK, 0}, {{3, 1}, PORT1_BAD_ARGUMENT, 9},
+                {{0, 1}, PORT1_BAD_ARGUMENT, 9}, {{1, 0}, PORT1_OK, 1}, {{1, 0}, PORT1_OK, 0}};
+    struct port1_rest rest, before;
+    memset(&rest, 0xa5, sizeof rest);
+    WANT(port1_rest_init(&rest, 3) == PORT1_OK && rest.most == 3);
+    for (size_t k = 0; k < sizeof rows / sizeof *rows; k++) {
+        uint8_t rests = 9;
+        before = rest;
+        WANT(port1_rest_push(&rest, &rows[k].arrival, &rests) == rows[k].status && rests == rows[k].rests);
+        WANT(rows[k].status == PORT1_OK || memcmp(&rest, &before, sizeof rest) == 0);
+    }
+    rest.ones = 16;
+    before = rest;
+    WANT(port1_rest_push(&rest, &rows[0].arrival, &octets[0]) == PORT1_BAD_STATE);
+    WANT(memcmp(&rest, &before, sizeof rest) == 0);
+}
+
+int main(void) {
+    tap_bits();
+    tap_facts();
+    tap_runs();
+    tap_refusals();
+    rest_of_a_line();
+    return wrong;
+}
