@@ -17,6 +17,8 @@ static void (*call)(void);
 
 static struct port1_line line;
 static struct port1_sender sender;
+static struct port1_tap tap;
+static struct port1_arrival arrivals[64];
 static uint8_t capture[1 << 16], sent[400], frame[256], has_begun;
 static uint64_t count, at, bits, first;
 static struct port1_report report;
@@ -42,6 +44,14 @@ static void flag(void) { at = 0, port1_send_flag(&sender, sent, sizeof sent, &at
 static void idle(void) { at = 0, port1_send_idle(&sender, sent, sizeof sent, &at, &bits); }
 static void frame_of_256(void) {
     at = 0, port1_send_frame(&sender, frame, sizeof frame, sent, sizeof sent, &at, &bits);
+}
+
+static void samples(void) {
+    static const struct port1_wires wires = {{1, 0, 0, 0}, {1, 1, 0, 0}, {1, 2, 0, 0}, {1, 3, 0, 0}};
+    uint64_t arrived = 0;
+    port1_tap_init(&tap, &wires, 1, 2);
+    for (at = 0; at < count;)
+        port1_tap_feed(&tap, capture, count, 1, &at, arrivals, sizeof arrivals / sizeof *arrivals, &arrived);
 }
 
 static void run(void) { call(); }
@@ -72,7 +82,8 @@ int main(int argc, char **argv) {
                  {"port1_line_open", open_at},
                  {"port1_send_flag", flag},
                  {"port1_send_idle", idle},
-                 {"port1_send_frame", frame_of_256}};
+                 {"port1_send_frame", frame_of_256},
+                 {"port1_tap_feed", samples}};
     FILE *file = argc > 1 ? fopen(argv[1], "rb") : NULL;
     if (file == NULL || fseek(file, 16, SEEK_SET) != 0)
         return 2;
