@@ -157,7 +157,7 @@ ifneq ($(SHARED),)
 endif
 ifneq ($(PYTHONDIR),)
 	install -d "$(DESTDIR)$(PYTHONDIR)/port1"
-	install -m 644 bindings/python/port1/__init__.py bindings/python/port1/py.typed "$(DESTDIR)$(PYTHONDIR)/port1"
+	install -m 644 bindings/python/port1/*.py bindings/python/port1/py.typed "$(DESTDIR)$(PYTHONDIR)/port1"
 endif
 
 # make hands the variables of its command line on.

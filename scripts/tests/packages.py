@@ -445,6 +445,59 @@ def encoder_in_python(folder: Path) -> List[str]:
     return problems
 
 
+# Samples of two octets each, in pieces; after a bit with which line 2 comes to rest stands a `-`.
+TAPPED = """
+import sys
+from port1.taps import RestRule, Tap, Wire
+tap, rest = Tap((Wire(9, True), Wire(1)), (Wire(2), Wire(12)), hold=1), RestRule(3)
+octets, size = sys.stdin.buffer.read(), int(sys.argv[1])
+for at in range(0, len(octets), size):
+    for arrival in tap.feed(octets[at : at + size], 2):
+        print(end="01oi"[2 * arrival.line - 2 + arrival.bit] + "-" * rest.push(arrival))
+print("", tap.samples, *(facts.bits.count for facts in tap.facts), tap.push(514, 9), tap.push(2, 2))
+wires = Wire(64), Wire(0)
+for wrong in [lambda: tap.feed(b"abc", 2), lambda: tap.push(1 << 64), lambda: Tap(wires), lambda: RestRule(-1)]:
+    try:
+        wrong()
+    except ValueError as fault:
+        print(fault)
+"""
+
+TAPPED_REFUSES = """3 octets are no samples of 2 octets, which may be 1 to 8
+a sample is 0 to 2^64 - 1, and stands so often at most, not 18446744073709551616, 1 times
+a wire is a bit of a sample, 0 to 63, not 64
+a silence is 0 to 2^64 - 1 bits, not -1
+"""
+
+
+def tapped(generator: random.Random, count: int) -> Tuple[bytes, str]:
+    """Samples of a line whose inverted clock goes on, and of one whose clock stops now and then; and their bits."""
+    samples, marks, second, silent = [], "", "1" * 15, 0
+    for _ in range(count):
+        first, other = generator.choice("01"), generator.choice(["0", "1", "1", "", "", "", "", ""])
+        silent += 1
+        rests = silent == 3 and not second.endswith("1" * 15)
+        marks += first + "-" * bool(rests) + other.translate({48: "o", 49: "i"})
+        for sample in range(8):
+            is_high, is_high_too = 2 <= sample < 6, other and sample >= 5
+            samples.append((not is_high) << 9 | int(first) << 1 | bool(is_high_too) << 2 | int(other or 0) << 12)
+        second, silent = second + other, 0 if other else silent
+    return b"".join(sample.to_bytes(2, "little") for sample in samples), marks
+
+
+def taps_in_python(folder: Path) -> List[str]:
+    """It takes the bits that were simulated, however samples are cut, and brings the second line to rest."""
+    module = moved(folder) / "lib" / "python"
+    problems = []
+    for seed, size in enumerate(["2", "34", "100000"]):
+        samples, marks = tapped(random.Random(seed), 600)
+        counts = [marks.count(mark) for mark in "01oi-"]
+        tail = f" {len(samples) // 2} {counts[0] + counts[1]} {counts[2] + counts[3]} [] [Arrival(line=1, bit=1)]\n"
+        problems += [] if min(counts) > 9 else [f"{seed}: {counts} marks"]
+        problems += unlike(f"{seed}", marks + tail + TAPPED_REFUSES, python(TAPPED, [size], samples, module).decode())
+    return problems
+
+
 def refusals_in_python(folder: Path) -> List[str]:
     """What is raised, and that nothing is lost by it."""
     got = python(REFUSED, [], b"", moved(folder) / "lib" / "python").decode()
@@ -497,7 +550,8 @@ def layout_in_python(folder: Path) -> List[str]:
     """The structures and numbers of the module are those of c/include/port1.h, as a C compiler has them."""
     needs("cc")
     text = (
-        "import port1\nfor name, (kind, size) in port1.STRUCTURES.items():\n    print(name, size)\n"
+        "import port1\nfrom port1 import taps\n"
+        "for name, (kind, size) in {**port1.STRUCTURES, **taps.STRUCTURES}.items():\n    print(name, size)\n"
         "    for field, *_ in kind._fields_:\n        place = getattr(kind, field)\n"
         "        print(f'{name}.{field}', place.offset, place.size)\n"
         "for kind in [*port1.Kind, *port1.Cause]:\n    print(f'PORT1_{kind.name}', int(kind))\n"
@@ -532,6 +586,7 @@ TESTS: List[Test] = [
     decoder_in_python,
     pairing_in_python,
     encoder_in_python,
+    taps_in_python,
     refusals_in_python,
     code_of_the_document,
     places_of_the_library,
