@@ -21,7 +21,7 @@ use Rattle.bus_text.specs.declared.fault.ToolFault.TheVariants as fault
 use Rattle.bus_calls.specs.Captures.{arrival_of, form_of_arrivals}
 use Rattle.bus_calls.specs.Internal.Arrivals.{arrivals_kind, clocks_behind}
 use Rattle.bus_calls.specs.Internal.Kinds.{FedOn, KindLaws}
-use Rattle.bus_calls.specs.Internal.Watching.{FeedHalts, Feeds, Halts, IsSound, Watches}
+use Rattle.bus_calls.specs.Internal.Watching.{FeedStopsWith, FeedAfter, WatchStopsWith, IsSound, WatchAfter}
 use Rattle.bus_calls.specs.declared.arrivals.ClockAnalyser.{ClockAnalyser}
 use Rattle.bus_calls.specs.declared.run.CaptureRun.{CaptureRun}
 use Rattle.bus_calls.proofs.HeadedLemmas.{whole-bits}
@@ -111,7 +111,7 @@ module _ {C : Type 0} (view : CheckView C) where
   -- the rule of rest changes nothing of what was followed
   pub watched-behind : (start now : Option (List ℕ)) (w v : CaptureRun (ClockAnalyser C)) (xs : List Arrival) →
       v.analyser.analyser ≡ w.analyser.analyser → v.reporter ≡ w.reporter →
-      Watches (arrivals_kind view) start now w xs → Watches (arrivals_kind view) start now v xs
+      WatchAfter (arrivals_kind view) start now w xs → WatchAfter (arrivals_kind view) start now v xs
   watched-behind start now w v xs analyser reporter followed =
       rw (analyser, reporter)
       (record { is_after = followed.is_after; counts = followed.counts; page = followed.page })
@@ -121,14 +121,14 @@ module _ {C : Type 0} (view : CheckView C) where
       (ys : List Arrival) (r : Result (Unit {0}) ToolFault)
       → IsRestAfter w.analyser.rest (map arrival_of b)
       → rested w.analyser.rest.most (map arrival_of b) ≡ ys
-      → MatchResult r (λ _. Watches (arrivals_kind view) start now w ys)
-      (λ f. Halts (arrivals_kind view) start now w ys f)
-      → MatchResult r (λ _. Feeds (arrivals_kind view) start now w b)
-      (λ f. FeedHalts (arrivals_kind view) start now w b f)
+      → MatchResult r (λ _. WatchAfter (arrivals_kind view) start now w ys)
+      (λ f. WatchStopsWith (arrivals_kind view) start now w ys f)
+      → MatchResult r (λ _. FeedAfter (arrivals_kind view) start now w b)
+      (λ f. FeedStopsWith (arrivals_kind view) start now w b f)
   symbol-taken start now w b ys (Ok u) rule is taken =
-      record { rule = rule; bits = subst (Watches (arrivals_kind view) start now w) (sym is) taken }
+      record { rule = rule; bits = subst (WatchAfter (arrivals_kind view) start now w) (sym is) taken }
   symbol-taken start now w b ys (Err f) rule is taken =
-      subst (λ (zs : List Arrival). Halts (arrivals_kind view) start now w zs f) (sym is) taken
+      subst (λ (zs : List Arrival). WatchStopsWith (arrivals_kind view) start now w zs f) (sym is) taken
 
   -- the first of some arrivals, and the others
   arrivals-behind : (b xs : List Arrival) (n : ℕ) → (b ++ take n xs) ++ drop n xs ≡ b ++ xs
@@ -136,19 +136,19 @@ module _ {C : Type 0} (view : CheckView C) where
       append_assoc b (take n xs) (drop n xs) ∙ ap (λ (ys : List Arrival). b ++ ys) (take-append-drop n xs)
 
   pub arrivals-halt : (start now : Option (List ℕ)) (w : CaptureRun (ClockAnalyser C)) (b xs : List Arrival) (n : ℕ)
-      (f : ToolFault) → Halts (arrivals_kind view) start now w (b ++ take n xs) f →
-      Halts (arrivals_kind view) start now w (b ++ xs) f
+      (f : ToolFault) → WatchStopsWith (arrivals_kind view) start now w (b ++ take n xs) f →
+      WatchStopsWith (arrivals_kind view) start now w (b ++ xs) f
   arrivals-halt start now w b xs n f stopped =
-      subst (λ ys. Halts (arrivals_kind view) start now w ys f) (arrivals-behind b xs n)
+      subst (λ ys. WatchStopsWith (arrivals_kind view) start now w ys f) (arrivals-behind b xs n)
       (halts-more (arrivals_kind view) start now w (b ++ take n xs) (drop n xs) f stopped)
 
   -- all that have a place were followed, and others have none
   pub arrivals-limited : KindLaws (arrivals_kind view) → (start now : Option (List ℕ))
       (w : CaptureRun (ClockAnalyser C)) (b xs : List Arrival) (n : ℕ)
       → n < length xs → 2 ^ 60 ≤ bits_taken w.analyser.analyser → IsSound (arrivals_kind view) w →
-      Watches (arrivals_kind view) start now w (b ++ take n xs)
-      → Halts (arrivals_kind view) start now w (b ++ xs) fault.PlaceLimit
+      WatchAfter (arrivals_kind view) start now w (b ++ take n xs)
+      → WatchStopsWith (arrivals_kind view) start now w (b ++ xs) fault.PlaceLimit
   arrivals-limited law start now w b xs n more limit sound followed =
-      subst (λ ys. Halts (arrivals_kind view) start now w ys fault.PlaceLimit) (arrivals-behind b xs n)
+      subst (λ ys. WatchStopsWith (arrivals_kind view) start now w ys fault.PlaceLimit) (arrivals-behind b xs n)
       (halted (arrivals_kind view) law start now w w (b ++ take n xs) (drop n xs) refl
       (omega (arith, more, length-drop n xs)) limit sound followed)

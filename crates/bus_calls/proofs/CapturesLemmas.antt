@@ -5,8 +5,8 @@ use Rattle.std.proofs.lemmas.Bool.{cases_lt}
 use Rattle.std.proofs.lemmas.List.{take-append-drop}
 use Rattle.bus_bits.specs.Capture.{CaptureOf, CaptureFault, place_limit, capped, GrowsTo}
 use Rattle.bus_calls.specs.Internal.Kinds.{KindView, FormLaws, KindLaws}
-use Rattle.bus_calls.specs.Internal.Watching.{IsSound, Watches, Halts, within}
-use Rattle.bus_calls.specs.Internal.Sessions.{Faulty, StopsAt}
+use Rattle.bus_calls.specs.Internal.Watching.{IsSound, WatchAfter, WatchStopsWith, within}
+use Rattle.bus_calls.specs.Internal.Sessions.{Faulty, CaptureStopsWith}
 use Rattle.bus_calls.specs.Captures.{Form, IsSameFault, fed_by}
 use Rattle.bus_calls.specs.declared.run.CaptureRun.{CaptureRun}
 use Rattle.bus_text.specs.declared.fault.ToolFault.{ToolFault}
@@ -51,14 +51,14 @@ front-grown f laws read law rest origin xs os k =
 module _ {A R X B : Type 0} (t : KindView A R X B) where
   -- the symbols that were followed have a place
   pub followed-fits : KindLaws t → (start now : Option (List ℕ)) (w : CaptureRun A) (b : List X)
-      → IsSound t w → Watches t start now w b → t.watch.origin w.analyser + length b ≤ 2 ^ 60
+      → IsSound t w → WatchAfter t start now w b → t.watch.origin w.analyser + length b ≤ 2 ^ 60
   followed-fits law start now w b sound followed =
       omega (arith, law.placed w.analyser b followed.is_after, sound.places)
 
   -- the following of a capture's symbols stopped
   pub halts-stops : (start now : Option (List ℕ)) (w : CaptureRun A) (c : CaptureOf X) (f : ToolFault)
-      → t.watch.origin w.analyser ≤ 2 ^ 60 → Halts t start now w c.bits f →
-      StopsAt t start now w (capped (t.watch.origin w.analyser) c) f
+      → t.watch.origin w.analyser ≤ 2 ^ 60 → WatchStopsWith t start now w c.bits f →
+      CaptureStopsWith t start now w (capped (t.watch.origin w.analyser) c) f
   halts-stops start now w c fault.PlaceLimit low stopped =
       let is = placed-over (t.watch.origin w.analyser) c stopped.0 in
       subst (λ (d : CaptureOf X). Faulty t start now w d fault.PlaceLimit) (sym is)
@@ -75,7 +75,7 @@ module _ {A R X B : Type 0} (t : KindView A R X B) where
   -- a capture with a fault, all of whose symbols were followed
   pub fault-in : KindLaws t → (start now : Option (List ℕ)) (w : CaptureRun A) (c : CaptureOf X) (b : List X)
       (cause : CaptureFault) (f : ToolFault)
-      → IsSound t w → IsSameFault f cause → c.bits ≡ b → c.fault ≡ Some cause → Watches t start now w b
+      → IsSound t w → IsSameFault f cause → c.bits ≡ b → c.fault ≡ Some cause → WatchAfter t start now w b
       → Faulty t start now w (capped (t.watch.origin w.analyser) c) f
   fault-in law start now w c b cause f sound answered is found followed =
       let origin = t.watch.origin w.analyser in
@@ -86,12 +86,12 @@ module _ {A R X B : Type 0} (t : KindView A R X B) where
         cause = cause;
         found = found;
         answered = answered;
-        bits = subst (Watches t start now w) (sym is) followed;
+        bits = subst (WatchAfter t start now w) (sym is) followed;
       })
 
   -- what stopped, stops with more octets
   pub stops-more : (start now : Option (List ℕ)) (w : CaptureRun A) (c d : CaptureOf X) (f : ToolFault)
-      → GrowsTo c d → StopsAt t start now w c f → StopsAt t start now w d f
+      → GrowsTo c d → CaptureStopsWith t start now w c f → CaptureStopsWith t start now w d f
   stops-more start now w c d (fault.Write sent) grows stopped = record {
     front = stopped.front;
     more = stopped.more ++ grows.0;
@@ -100,4 +100,5 @@ module _ {A R X B : Type 0} (t : KindView A R X B) where
     short = stopped.short;
   }
   stops-more start now w c d f grows stopped =
-      subst (λ (x : CaptureOf X). StopsAt t start now w x f) (sym (grows.2 stopped.cause stopped.found)) stopped
+      subst (λ (x : CaptureOf X). CaptureStopsWith t start now w x f)
+      (sym (grows.2 stopped.cause stopped.found)) stopped

@@ -11,14 +11,14 @@ use Rattle.bus_watch.specs.Watch.{seen_by}
 use Rattle.bus_calls.specs.Captures.{Form, reports_of_form, reports_seen}
 use Rattle.bus_text.specs.CheckText.{check_text}
 use Rattle.bus_text.specs.Summary.{summary_of}
-use Rattle.bus_text.specs.Put.{Cuts}
+use Rattle.bus_text.specs.Put.{TextStopsAt}
 use Rattle.bus_text.specs.Pages.{Pages}
 use Rattle.bus_calls.specs.Begins.{Begins, Refuses}
 use Rattle.bus_calls.specs.Internal.Asked.{IsMade, IsRuled}
 use Rattle.bus_calls.specs.Internal.Kinds.{KindView, KindLaws}
-use Rattle.bus_calls.specs.Internal.Watching.{Watches, IsSame, IsCutIn, reports_by, lines, reported, printed}
+use Rattle.bus_calls.specs.Internal.Watching.{WatchAfter, IsSame, IsCutIn, reports_by, lines, reported, printed}
 use Rattle.bus_calls.specs.Internal.Sessions.{taken_of, whole_of}
-use Rattle.bus_calls.specs.Internal.Reading.{IsClean, IsWhole, Finishes}
+use Rattle.bus_calls.specs.Internal.Reading.{IsClean, IsWhole, ReadStopsWith}
 use Rattle.bus_calls.specs.Lists.{in_all}
 use Rattle.bus_calls.specs.Checks.{check_report, IsAll, ChecksSoFar, ChecksBy}
 use Rattle.bus_calls.specs.declared.run.CaptureRun.{CaptureRun}
@@ -125,7 +125,7 @@ ends-checks {A} {R} {X} kind o d text after start now later w xs r law begins as
     cases (Ok s) ended =
         (d, begins, record { all = whole; out = subst (Appends start later) texts ended.0; counts = ended.1 ∙ counts })
     cases (Err (fault.Write sent)) ended =
-        (d, begins, record { all = whole; cut = subst (λ (t : List ℕ). Cuts start later t sent) texts ended })
+        (d, begins, record { all = whole; cut = subst (λ (t : List ℕ). TextStopsAt start later t sent) texts ended })
     cases (Err _) ended = absurd ended
 
 lt_none : (n : ℕ) → n < 0 → ⊥
@@ -147,11 +147,11 @@ none-out start now page written text empty pages =
 -- a fault that ended the reading: without lines no writer is cut off
 pub stops-checks : {A R X B : Type 0} (kind : KindView A R X B) (o : Options) (d : List FrameType) (text : Bool)
     (after start now : Option (List ℕ)) (w : CaptureRun A) (xs : List ℕ) (f : ToolFault)
-    → Begins o d → IsChecked kind o d w → text ≡ o.text → Finishes kind text o.reads after start now w xs (Err f) →
+    → Begins o d → IsChecked kind o d w → text ≡ o.text → ReadStopsWith kind text o.reads after start now w xs (Err f) →
     ChecksBy kind.form o after start now xs (Err f)
 stops-checks {A} {R} {X} kind o d text after start now w xs f begins asked same-text = cases f
   where
-    out : Watches kind start now w (taken_of kind text w xs).bits → Appends start now
+    out : WatchAfter kind start now w (taken_of kind text w xs).bits → Appends start now
         []
     out ended = none-out start now w.reporter.page.text w.reporter.page.written
         (lines kind w (taken_of kind text w xs).bits)
@@ -168,7 +168,7 @@ stops-checks {A} {R} {X} kind o d text after start now w xs f begins asked same-
           unwritten = out ended.bits;
         }
 
-    cases : (f : ToolFault) → Finishes kind text o.reads after start now w xs (Err f) →
+    cases : (f : ToolFault) → ReadStopsWith kind text o.reads after start now w xs (Err f) →
         ChecksBy kind.form o after start now xs (Err f)
     cases fault.Read ended = (d, begins, clean-is ended)
     cases fault.ReadsLimit ended = (d, begins, ended.0, clean-is ended.1)

@@ -10,12 +10,12 @@ use Rattle.bus_dictionary.specs.Dictionary.{longest_of}
 use Rattle.bus_calls.specs.Captures.{fed_by, Form, unplaced, unplaced_whole, reports_seen}
 use Rattle.bus_text.specs.Given.{printer_of}
 use Rattle.bus_text.specs.Listing.{listing}
-use Rattle.bus_text.specs.Put.{Cuts}
+use Rattle.bus_text.specs.Put.{TextStopsAt}
 use Rattle.bus_calls.specs.Begins.{Begins}
 use Rattle.bus_calls.specs.Internal.Kinds.{FormLaws}
 use Rattle.bus_calls.specs.Lists.{so_far, in_all, listing_of, ending_of, whole_listing, ListsSoFar, ListsToFault}
 use Rattle.bus_calls.specs.Lists.{ListsCut, ListsBy}
-use Rattle.bus_calls.specs.Known.{text_with, listing_in_all, IsItsFault, ListsIt, ListsKnownBy, ChecksIt, CutsIt}
+use Rattle.bus_calls.specs.Known.{text_with, listing_in_all, IsItsFault, ListsIt, ListsKnownBy, ChecksIt, CheckStopsAt}
 use Rattle.bus_calls.specs.Known.{ChecksKnownBy}
 use Rattle.bus_calls.specs.Checks.{ChecksToFault, ChecksSoFar, ChecksBy}
 use Rattle.bus_text.specs.declared.options.Options.{Options}
@@ -88,8 +88,8 @@ goes-on form law o d b rest c parts =
 -- the end comes after it
 cut-with : {R X : Type 0} (form : Form R X) (o : Options) (d : List FrameType) (start now : Option (List ℕ))
     (b : List X)
-    (f : Option CaptureFault) (sent : ℕ) → Cuts start now (listing_of form o d b) sent →
-    Cuts start now (text_with form o d b f) sent
+    (f : Option CaptureFault) (sent : ℕ) → TextStopsAt start now (listing_of form o d b) sent →
+    TextStopsAt start now (text_with form o d b f) sent
 cut-with form o d start now b None sent cut =
     cuts-more start now (listing_of form o d b) (ending_of form o d b) sent cut
 cut-with form o d start now b (Some cause) sent cut = cut
@@ -123,21 +123,21 @@ fault-known {X} form law o d start now all xs ys f parts begins stopped = elim s
 
 cut-known : {R X : Type 0} (form : Form R X) → FormLaws form →
     (o : Options) (d : List FrameType) (start now : Option (List ℕ)) (all xs ys : List ℕ) (sent : ℕ) → all ≡ xs ++ ys →
-    ListsCut form o d (Some ys) start now xs sent → Cuts start now (listing_in_all form o d all) sent
+    ListsCut form o d (Some ys) start now xs sent → TextStopsAt start now (listing_in_all form o d all) sent
 cut-known form law o d start now all xs ys sent parts stopped = elim stopped.said [
   | inl said ↦
       let grows = all-grows form law o all xs ys parts in
       let on = goes-on form law o d (so_far form o xs).bits grows.0 (in_all form o all).bits grows.1 in
       let cut = cuts-more start now (listing_of form o d (so_far form o xs).bits) on.more sent
-      (subst (λ (t : List ℕ). Cuts start now t sent) said stopped.cut) in
+      (subst (λ (t : List ℕ). TextStopsAt start now t sent) said stopped.cut) in
       cut-with form o d start now (in_all form o all).bits (in_all form o all).fault sent
-      (subst (λ (t : List ℕ). Cuts start now t sent) (sym on.is) cut)
+      (subst (λ (t : List ℕ). TextStopsAt start now t sent) (sym on.is) cut)
   | inr end ↦
       let same : xs ≡ all = at-end all xs ys parts end.0 in
       let text : listing_in_all form o d xs ≡ whole_listing form o d (in_all form o xs).bits =
       ap (text_with form o d (in_all form o xs).bits) end.1 in
-      subst (λ (z : List ℕ). Cuts start now (listing_in_all form o d z) sent) same
-      (subst (λ (t : List ℕ). Cuts start now t sent) (end.2 ∙ sym text) stopped.cut)
+      subst (λ (z : List ℕ). TextStopsAt start now (listing_in_all form o d z) sent) same
+      (subst (λ (t : List ℕ). TextStopsAt start now t sent) (end.2 ∙ sym text) stopped.cut)
 ]
 
 lists-known : {R X : Type 0} (form : Form R X) → FormLaws form →
@@ -252,7 +252,7 @@ checks-known form law o start now all xs ys (Err fault.ReadsLimit) parts checked
 checks-known form law o start now all xs ys (Err (fault.Write sent)) parts checked = (
   checked.0,
   checked.1,
-  subst (λ (z : List ℕ). CutsIt form o checked.0 start now z sent) (at-end all xs ys parts checked.2.all.at)
+  subst (λ (z : List ℕ). CheckStopsAt form o checked.0 start now z sent) (at-end all xs ys parts checked.2.all.at)
       (record { clean = checked.2.all.clean; cut = checked.2.cut }),
 )
 checks-known form law o start now all xs ys (Err f) parts checked =

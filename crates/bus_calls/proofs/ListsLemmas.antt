@@ -13,16 +13,16 @@ use Rattle.bus_calls.specs.Captures.{reports_seen, HasFault}
 use Rattle.bus_text.specs.Given.{printer_of}
 use Rattle.bus_text.specs.Listing.{listing, ending_text}
 use Rattle.bus_text.specs.Summary.{summary_of}
-use Rattle.bus_text.specs.Put.{Cuts}
+use Rattle.bus_text.specs.Put.{TextStopsAt}
 use Rattle.bus_text.specs.Pages.{Pages}
-use Rattle.bus_calls.specs.Internal.Closes.{IsNoWrite, ClosesPage}
+use Rattle.bus_calls.specs.Internal.Closes.{IsNoWrite, PageStopsWith}
 use Rattle.bus_calls.specs.Begins.{Begins, Refuses}
 use Rattle.bus_calls.specs.Internal.Asked.{IsMade, IsRuled}
 use Rattle.bus_calls.specs.Internal.Kinds.{KindView, KindLaws}
 use Rattle.bus_calls.specs.Internal.Watching.{IsSame, IsCutOff, IsCutIn, reports_by, lines, last_lines, printed}
 use Rattle.bus_calls.specs.Internal.Watching.{ended}
 use Rattle.bus_calls.specs.Internal.Sessions.{taken_of, whole_of}
-use Rattle.bus_calls.specs.Internal.Reading.{IsClean, IsWhole, IsFaulty, Finishes}
+use Rattle.bus_calls.specs.Internal.Reading.{IsClean, IsWhole, IsFaulty, ReadStopsWith}
 use Rattle.bus_calls.specs.Lists.{so_far, in_all, listing_of, ending_of, whole_listing, ListsSoFar, ListsToFault}
 use Rattle.bus_calls.specs.Lists.{ListsBy}
 use Rattle.bus_calls.specs.declared.run.CaptureRun.{CaptureRun}
@@ -48,14 +48,14 @@ seen-on {X = X} kind law d origin b more =
 -- a cut in the lines of a front is one in the lines of all
 pub cut-all : {A R X B : Type 0} (kind : KindView A R X B) → KindLaws kind →
     (start now : Option (List ℕ)) (w : CaptureRun A) (b : List X) (sent : ℕ) → IsCutOff kind start now w b sent →
-    Cuts start now (lines kind w b) sent
+    TextStopsAt start now (lines kind w b) sent
 cut-all kind law start now w b sent cut =
     let d = kind.watch.dictionary w.analyser in
     let on = seen-on kind law d (kind.watch.origin w.analyser) cut.front cut.more in
     let more : lines kind w b ≡ lines kind w cut.front ++ printed w.reporter.printer d on.0 =
     ap (lines kind w) cut.all ∙ ap (printed w.reporter.printer d) on.1
     ∙ printed-append w.reporter.printer d (seen_by kind.watch w.analyser cut.front) on.0 in
-    subst (λ (t : List ℕ). Cuts start now t sent) (sym more)
+    subst (λ (t : List ℕ). TextStopsAt start now t sent) (sym more)
     (cuts-more start now (lines kind w cut.front) (printed w.reporter.printer d on.0) sent cut.cut)
 
 -- what was asked of a listing, and is kept
@@ -223,14 +223,14 @@ ends-lists {A} {R} {X} kind o d text after start now later w xs r law begins ask
       record {
         text = whole_listing kind.form o d (in_all kind.form o xs).bits;
         said = inr (whole.at, clean, refl);
-        cut = subst (λ (t : List ℕ). Cuts start later t sent) texts ended;
+        cut = subst (λ (t : List ℕ). TextStopsAt start later t sent) texts ended;
       },
     )
     cases (Err _) ended = absurd ended
 
 -- a cut in the listing so far
 cut-lists : {R X : Type 0} (form : Form R X) (o : Options) (d : List FrameType) (after start now : Option (List ℕ))
-    (xs : List ℕ) (sent : ℕ) → Begins o d → Cuts start now (listing_of form o d (so_far form o xs).bits) sent →
+    (xs : List ℕ) (sent : ℕ) → Begins o d → TextStopsAt start now (listing_of form o d (so_far form o xs).bits) sent →
     ListsBy form o after start now xs (Err (fault.Write sent))
 cut-lists form o d after start now xs sent begins cut =
     (d, begins, record { text = listing_of form o d (so_far form o xs).bits; said = inl refl; cut = cut })
@@ -240,7 +240,7 @@ closed-lists : {R X : Type 0} (form : Form R X) (o : Options) (d : List FrameTyp
     (xs : List ℕ) (f answer : ToolFault) (text : List ℕ) → Begins o d →
     text ≡ listing_of form o d (so_far form o xs).bits
     → (Appends start later (listing_of form o d (so_far form o xs).bits) →
-    ListsBy form o after start later xs (Err f)) → ClosesPage start later text f answer →
+    ListsBy form o after start later xs (Err f)) → PageStopsWith start later text f answer →
     ListsBy form o after start later xs (Err answer)
 closed-lists form o d after start later xs f answer text begins is go (inl closed) =
     subst (λ (x : ToolFault). ListsBy form o after start later xs (Err x)) (sym closed.0)
@@ -248,16 +248,16 @@ closed-lists form o d after start later xs f answer text begins is go (inl close
 closed-lists form o d after start later xs f answer text begins is go (inr closed) =
     subst (λ (x : ToolFault). ListsBy form o after start later xs (Err x)) (sym closed.1)
     (cut-lists form o d after start later xs closed.0 begins
-    (subst (λ (t : List ℕ). Cuts start later t closed.0) is closed.2))
+    (subst (λ (t : List ℕ). TextStopsAt start later t closed.0) is closed.2))
 
 -- a fault that ended the reading
 pub stops-lists : {A R X B : Type 0} (kind : KindView A R X B) (o : Options) (d : List FrameType) (text : Bool)
     (after start now later : Option (List ℕ)) (w : CaptureRun A) (xs : List ℕ) (f answer : ToolFault)
     → KindLaws kind → Begins o d → IsListed kind o d w → text ≡ o.text →
-    Finishes kind text o.reads after start now w xs (Err f)
+    ReadStopsWith kind text o.reads after start now w xs (Err f)
     → ((sent : ℕ) → f ≡ fault.Write sent → (answer ≡ fault.Write sent) × (later ≡ now))
     → (IsNoWrite f → (start : Option (List ℕ)) (t : List ℕ) →
-    Pages start now w.reporter.page.text w.reporter.page.written t → ClosesPage start later t f answer)
+    Pages start now w.reporter.page.text w.reporter.page.written t → PageStopsWith start later t f answer)
     → ListsBy kind.form o after start later xs (Err answer)
 stops-lists {A} {R} {X} kind o d text after start now later w xs f answer law begins asked same-text = cases f
   where
@@ -291,10 +291,10 @@ stops-lists {A} {R} {X} kind o d text after start now later w xs f answer law be
       out = out;
     }
 
-    cases : (f : ToolFault) → Finishes kind text o.reads after start now w xs (Err f)
+    cases : (f : ToolFault) → ReadStopsWith kind text o.reads after start now w xs (Err f)
         → ((sent : ℕ) → f ≡ fault.Write sent → (answer ≡ fault.Write sent) × (later ≡ now))
         → (IsNoWrite f → (start : Option (List ℕ)) (t : List ℕ) →
-        Pages start now w.reporter.page.text w.reporter.page.written t → ClosesPage start later t f answer)
+        Pages start now w.reporter.page.text w.reporter.page.written t → PageStopsWith start later t f answer)
         → ListsBy kind.form o after start later xs (Err answer)
     cases fault.Read ended cut close =
         closed-lists kind.form o d after start later xs fault.Read answer (lines kind w bits) begins is
@@ -307,8 +307,8 @@ stops-lists {A} {R} {X} kind o d text after start now later w xs f answer law be
         let answers = cut sent refl in
         subst (λ (x : ToolFault). ListsBy kind.form o after start later xs (Err x)) (sym answers.0)
         (cut-lists kind.form o d after start later xs sent begins
-        (subst (λ (t : List ℕ). Cuts start later t sent) is
-        (subst (λ x. Cuts start x (lines kind w bits) sent) (sym answers.1)
+        (subst (λ (t : List ℕ). TextStopsAt start later t sent) is
+        (subst (λ x. TextStopsAt start x (lines kind w bits) sent) (sym answers.1)
         (cut-all kind law start now w bits sent ended))))
     cases (fault.Dictionary x) ended cut close = absurd ended.answered
     cases fault.Depth ended cut close = absurd ended.answered

@@ -15,7 +15,7 @@ use Rattle.bus_bits.specs.Packed.{packed_capture, packed_whole, packed_body, wan
 use Rattle.bus_text.specs.declared.fault.ToolFault.{ToolFault}
 use Rattle.bus_text.specs.declared.fault.ToolFault.TheVariants as fault
 use Rattle.bus_calls.specs.Internal.Kinds.{KindView, KindLaws}
-use Rattle.bus_calls.specs.Internal.Watching.{Halts, IsSound, Watches}
+use Rattle.bus_calls.specs.Internal.Watching.{WatchStopsWith, IsSound, WatchAfter}
 use Rattle.bus_calls.specs.declared.run.CaptureRun.{CaptureRun}
 use Rattle.bus_calls.proofs.HeadedLemmas.{whole-bits}
 use Rattle.bus_calls.proofs.WatchingLemmas.{halted, halts-more}
@@ -62,16 +62,18 @@ bits-behind b os n count within =
 -- what stopped in the first of them, stops in all
 pub halts-within : {A B : Type 0} (t : KindView A Bool Bool B) (start now : Option (List ℕ)) (w : CaptureRun A)
     (b : List Bool) (os : List ℕ) (n count : ℕ) (f : ToolFault)
-    → n ≤ count → Halts t start now w (b ++ bits_from os 0 n) f → Halts t start now w (b ++ bits_from os 0 count) f
+    → n ≤ count → WatchStopsWith t start now w (b ++ bits_from os 0 n) f
+    → WatchStopsWith t start now w (b ++ bits_from os 0 count) f
 halts-within t start now w b os n count f within stopped =
-    subst (λ bits. Halts t start now w bits f) (sym (bits-behind b os n count within))
+    subst (λ bits. WatchStopsWith t start now w bits f) (sym (bits-behind b os n count within))
     (halts-more t start now w _ _ f stopped)
 
 -- all that have a place were followed, and others have none
 pub limited : {A B : Type 0} (t : KindView A Bool Bool B) → KindLaws t →
     (start now : Option (List ℕ)) (w : CaptureRun A) (b : List Bool) (os : List ℕ) (n count : ℕ)
-    → n < count → 2 ^ 60 ≤ t.watch.place w.analyser → IsSound t w → Watches t start now w (b ++ bits_from os 0 n)
-    → Halts t start now w (b ++ bits_from os 0 count) fault.PlaceLimit
+    → n < count → 2 ^ 60 ≤ t.watch.place w.analyser → IsSound t w → WatchAfter t start now w (b ++ bits_from os 0 n)
+    → WatchStopsWith t start now w (b ++ bits_from os 0 count) fault.PlaceLimit
 limited t law start now w b os n count more limit sound followed =
-    subst (λ bits. Halts t start now w bits fault.PlaceLimit) (sym (bits-behind b os n count (omega (arith, more))))
+    subst (λ bits. WatchStopsWith t start now w bits fault.PlaceLimit)
+    (sym (bits-behind b os n count (omega (arith, more))))
     (halted t law start now w w _ _ refl (omega (arith, more, length-from os n (count - n))) limit sound followed)

@@ -13,10 +13,11 @@ use Rattle.bus_calls.specs.Captures.{fed_by, unplaced, unplaced_whole, IsSameFau
 use Rattle.bus_calls.specs.Internal.Kinds.{KindView, KindLaws}
 use Rattle.bus_text.specs.Summary.{summary_of}
 use Rattle.bus_text.specs.Pages.{Pages}
-use Rattle.bus_text.specs.Put.{Cuts}
-use Rattle.bus_calls.specs.Internal.Watching.{IsSound, Watches, Feeds, IsCutOff, fed, lines, printed}
-use Rattle.bus_calls.specs.Internal.Sessions.{IsRead, IsReadBy, is_text, Follows, FollowsText, FollowsPacked, Stops}
-use Rattle.bus_calls.specs.Internal.Reading.{IsClean, IsFaulty, Finishes}
+use Rattle.bus_text.specs.Put.{TextStopsAt}
+use Rattle.bus_calls.specs.Internal.Watching.{IsSound, WatchAfter, FeedAfter, IsCutOff, fed, lines, printed}
+use Rattle.bus_calls.specs.Internal.Sessions.{IsRead, IsReadBy, is_text}
+use Rattle.bus_calls.specs.Internal.Sessions.{SourceAfter, TextAfter, PackedSourceAfter, SourceStopsWith}
+use Rattle.bus_calls.specs.Internal.Reading.{IsClean, IsFaulty, ReadStopsWith}
 use Rattle.bus_calls.specs.declared.run.CaptureRun.{CaptureRun}
 use Rattle.bus_calls.specs.declared.text.TextCapture.{TextCapture}
 use Rattle.bus_calls.specs.declared.packed.PackedCapture.{PackedCapture}
@@ -44,7 +45,7 @@ seen-none kind law a =
 pub watched-none : {A R X B : Type 0} (kind : KindView A R X B) → KindLaws kind →
     (start : Option (List ℕ)) (w : CaptureRun A)
     → kind.watch.is_after w.analyser [] → w.reporter.summary ≡ summary_of [] →
-    Pages start start w.reporter.page.text w.reporter.page.written [] → Watches kind start start w []
+    Pages start start w.reporter.page.text w.reporter.page.written [] → WatchAfter kind start start w []
 watched-none kind law start w is_after counts page =
     let d = kind.watch.dictionary w.analyser in
     let none = seen-none kind law w.analyser in record {
@@ -57,36 +58,37 @@ watched-none kind law start w is_after counts page =
 -- what is known of a text, of a packed capture
 pub follows-text : {A R X B : Type 0} (kind : KindView A R X B) (start now : Option (List ℕ)) (s : Source B)
     (text : TextCapture) (w : CaptureRun A) (xs : List ℕ)
-    → s ≡ source.Text text → Follows kind start now s w xs → FollowsText kind start now text w xs
-follows-text kind start now s text w xs is followed = subst (λ x. Follows kind start now x w xs) is followed
+    → s ≡ source.Text text → SourceAfter kind start now s w xs → TextAfter kind start now text w xs
+follows-text kind start now s text w xs is followed = subst (λ x. SourceAfter kind start now x w xs) is followed
 
 pub follows-packed : {A R X B : Type 0} (kind : KindView A R X B) (start now : Option (List ℕ)) (s : Source B)
     (p : PackedCapture B) (w : CaptureRun A) (xs : List ℕ)
-    → s ≡ source.Packed p → Follows kind start now s w xs → FollowsPacked kind start now p w xs
-follows-packed kind start now s p w xs is followed = subst (λ x. Follows kind start now x w xs) is followed
+    → s ≡ source.Packed p → SourceAfter kind start now s w xs → PackedSourceAfter kind start now p w xs
+follows-packed kind start now s p w xs is followed = subst (λ x. SourceAfter kind start now x w xs) is followed
 
 pub text-follows : {A R X B : Type 0} (kind : KindView A R X B) (start now : Option (List ℕ)) (s : Source B)
     (text later : TextCapture) (w : CaptureRun A) (xs : List ℕ) (r : Result (Unit {0}) ToolFault)
-    → s ≡ source.Text text → MatchResult r (λ _. FollowsText kind start now later w xs)
-    (λ f. Stops kind true start now w xs f)
-    → MatchResult r (λ _. Follows kind start now (source.Text later) w xs)
-    (λ f. Stops kind (is_text s) start now w xs f)
+    → s ≡ source.Text text → MatchResult r (λ _. TextAfter kind start now later w xs)
+    (λ f. SourceStopsWith kind true start now w xs f)
+    → MatchResult r (λ _. SourceAfter kind start now (source.Text later) w xs)
+    (λ f. SourceStopsWith kind (is_text s) start now w xs f)
 text-follows kind start now s text later w xs (Ok v) is taken = taken
 text-follows kind start now s text later w xs (Err f) is taken =
-    subst (λ (b : Bool). Stops kind b start now w xs f) (sym (ap is_text is)) taken
+    subst (λ (b : Bool). SourceStopsWith kind b start now w xs f) (sym (ap is_text is)) taken
 
 pub packed-follows : {A R X B : Type 0} (kind : KindView A R X B) (start now : Option (List ℕ)) (s : Source B)
     (p q : PackedCapture B) (w : CaptureRun A) (xs : List ℕ) (r : Result (Unit {0}) ToolFault)
-    → s ≡ source.Packed p → MatchResult r (λ _. FollowsPacked kind start now q w xs)
-    (λ f. Stops kind false start now w xs f)
-    → MatchResult r (λ _. Follows kind start now (source.Packed q) w xs) (λ f. Stops kind (is_text s) start now w xs f)
+    → s ≡ source.Packed p → MatchResult r (λ _. PackedSourceAfter kind start now q w xs)
+    (λ f. SourceStopsWith kind false start now w xs f)
+    → MatchResult r (λ _. SourceAfter kind start now (source.Packed q) w xs)
+    (λ f. SourceStopsWith kind (is_text s) start now w xs f)
 packed-follows kind start now s p q w xs (Ok v) is taken = taken
 packed-follows kind start now s p q w xs (Err f) is taken =
-    subst (λ (b : Bool). Stops kind b start now w xs f) (sym (ap is_text is)) taken
+    subst (λ (b : Bool). SourceStopsWith kind b start now w xs f) (sym (ap is_text is)) taken
 
 pub read-by : {A R X B : Type 0} (kind : KindView A R X B) (start now : Option (List ℕ)) (s : Source B)
     (w : CaptureRun A)
-    (xs : List ℕ) → Follows kind start now s w xs → IsReadBy kind s xs
+    (xs : List ℕ) → SourceAfter kind start now s w xs → IsReadBy kind s xs
 read-by kind start now (source.Text text) w xs followed = followed.clean
 read-by kind start now (source.Packed p) w xs followed = followed.read
 
@@ -99,12 +101,12 @@ packed-clean kind law head (Some body) xs read = law.clean body xs read
 pub turned : {A R X B : Type 0} (kind : KindView A R X B) (start now later : Option (List ℕ)) (s : Source B)
     (w : CaptureRun A) (page : Page) (xs : List ℕ)
     → ((text : List ℕ) → Pages start now w.reporter.page.text w.reporter.page.written text →
-    Pages start later page.text page.written text) → Follows kind start now s w xs
-    → Follows kind start later s (record w { reporter = record w.reporter { page = page } }) xs
+    Pages start later page.text page.written text) → SourceAfter kind start now s w xs
+    → SourceAfter kind start later s (record w { reporter = record w.reporter { page = page } }) xs
 turned {A} {R} {X} {B} kind start now later s w page xs turn = by-kind s
   where
-    fed-on : (b : List R) → Feeds kind start now w b
-        → Feeds kind start later (record w { reporter = record w.reporter { page = page } }) b
+    fed-on : (b : List R) → FeedAfter kind start now w b
+        → FeedAfter kind start later (record w { reporter = record w.reporter { page = page } }) b
     fed-on b followed = record {
       rule = followed.rule;
       bits = record {
@@ -114,8 +116,8 @@ turned {A} {R} {X} {B} kind start now later s w page xs turn = by-kind s
       };
     }
 
-    by-kind : (s : Source B) → Follows kind start now s w xs
-        → Follows kind start later s (record w { reporter = record w.reporter { page = page } }) xs
+    by-kind : (s : Source B) → SourceAfter kind start now s w xs
+        → SourceAfter kind start later s (record w { reporter = record w.reporter { page = page } }) xs
     by-kind (source.Text text) followed =
         record { at = followed.at; clean = followed.clean; bits = fed-on _ followed.bits }
     by-kind (source.Packed p) followed = record { read = followed.read; bits = fed-on _ followed.bits }
@@ -124,11 +126,11 @@ turned {A} {R} {X} {B} kind start now later s w page xs turn = by-kind s
 pub record IsUnplaced {A R X B : Type 0} (kind : KindView A R X B) (text : Bool) (start now : Option (List ℕ))
     (w : CaptureRun A) (xs : List ℕ) : Type 0 where
   pub clean : (unplaced kind.form text xs).fault ≡ None
-  pub bits : Watches kind start now w (fed kind w (unplaced kind.form text xs).bits)
+  pub bits : WatchAfter kind start now w (fed kind w (unplaced kind.form text xs).bits)
 
 pub follows-unplaced : {A R X B : Type 0} (kind : KindView A R X B) (start now : Option (List ℕ)) (s : Source B)
     (w : CaptureRun A) (xs : List ℕ)
-    → KindLaws kind → Follows kind start now s w xs → IsUnplaced kind (is_text s) start now w xs
+    → KindLaws kind → SourceAfter kind start now s w xs → IsUnplaced kind (is_text s) start now w xs
 follows-unplaced kind start now (source.Text text) w xs law followed =
     record { clean = followed.clean; bits = followed.bits.bits }
 follows-unplaced kind start now (source.Packed p) w xs law followed =
@@ -137,7 +139,7 @@ follows-unplaced kind start now (source.Packed p) w xs law followed =
 -- bits that were followed have a place, and so their capture is as it is
 pub all-placed : {A R X B : Type 0} (kind : KindView A R X B) → KindLaws kind →
     (start now : Option (List ℕ)) (w : CaptureRun A) (c : CaptureOf X) → IsSound kind w →
-    Watches kind start now w c.bits →
+    WatchAfter kind start now w c.bits →
     capped (kind.watch.origin w.analyser) c ≡ c
 all-placed kind law start now w c sound followed =
     let fits = followed-fits kind law start now w c.bits sound followed in
@@ -151,12 +153,13 @@ is-clean {A} {R} {X} kind law text start now w xs sound followed =
     (unplaced kind.form text xs)) sound
     followed.bits in record {
       clean = ap (λ (c : CaptureOf X). c.fault) is ∙ followed.clean;
-      bits = subst (λ (c : CaptureOf X). Watches kind start now w c.bits) (sym is) followed.bits;
+      bits = subst (λ (c : CaptureOf X). WatchAfter kind start now w c.bits) (sym is) followed.bits;
     }
 
 -- a writer was cut off in the lines of all of these
 pub is-cut : {A R X B : Type 0} (kind : KindView A R X B) (start now : Option (List ℕ)) (w : CaptureRun A) (b : List X)
-    (sent : ℕ) → Cuts start now (lines kind w b) sent → sent < length (lines kind w b) → IsCutOff kind start now w b
+    (sent : ℕ) → TextStopsAt start now (lines kind w b) sent → sent < length (lines kind w b)
+    → IsCutOff kind start now w b
     sent
 is-cut kind start now w b sent cut short =
     record { front = b; more = []; all = sym (append-nil b); cut = cut; short = short }
@@ -164,7 +167,7 @@ is-cut kind start now w b sent cut short =
 -- a fault ends the reading
 pub faulty-finishes : {A R X B : Type 0} (kind : KindView A R X B) (text : Bool) (reads : ℕ)
     (after start now : Option (List ℕ)) (w : CaptureRun A) (xs : List ℕ) (f : ToolFault)
-    → IsFaulty kind text after start now w xs f → Finishes kind text reads after start now w xs (Err f)
+    → IsFaulty kind text after start now w xs f → ReadStopsWith kind text reads after start now w xs (Err f)
 faulty-finishes kind text reads after start now w xs fault.Read faulty = absurd faulty.answered
 faulty-finishes kind text reads after start now w xs fault.ReadsLimit faulty = absurd faulty.answered
 faulty-finishes kind text reads after start now w xs (fault.Write sent) faulty = absurd faulty.answered
@@ -173,7 +176,7 @@ faulty-finishes kind text reads after start now w xs f faulty = faulty
 -- what stopped the taking of octets ends the reading
 pub stops-finishes : {A R X B : Type 0} (kind : KindView A R X B) (text : Bool) (reads : ℕ)
     (after start now : Option (List ℕ)) (w : CaptureRun A) (xs : List ℕ) (f : ToolFault)
-    → Stops kind text start now w xs f → Finishes kind text reads after start now w xs (Err f)
+    → SourceStopsWith kind text start now w xs f → ReadStopsWith kind text reads after start now w xs (Err f)
 stops-finishes kind text reads after start now w xs (fault.Write sent) stopped = stopped
 stops-finishes kind text reads after start now w xs f stopped =
     faulty-finishes kind text reads after start now w xs f
@@ -188,18 +191,18 @@ pub end-finishes : {A R X B : Type 0} (kind : KindView A R X B) → KindLaws kin
     (λ _. unplaced_whole kind.form text xs ≡ record { bits = (unplaced kind.form text xs).bits; fault = None })
     (λ f. (cause : CaptureFault) × IsSameFault f cause
     × (unplaced_whole kind.form text xs ≡ record { bits = (unplaced kind.form text xs).bits; fault = Some cause }))
-    → Finishes kind text reads after start now w xs r
+    → ReadStopsWith kind text reads after start now w xs r
 end-finishes {A} {R} {X} kind law text reads after start now w xs (Ok u) sound at read is =
-    let bits = subst (λ (c : CaptureOf R). Watches kind start now w (fed kind w c.bits)) (sym is) read.bits in
+    let bits = subst (λ (c : CaptureOf R). WatchAfter kind start now w (fed kind w c.bits)) (sym is) read.bits in
     let all = all-placed kind law start now w (fed_by kind.form (kind.rest w.analyser)
     (unplaced_whole kind.form text xs))
     sound bits in record {
       at = at;
       clean = ap (λ (c : CaptureOf X). c.fault) all ∙ ap (λ (c : CaptureOf R). c.fault) is;
-      bits = subst (λ (c : CaptureOf X). Watches kind start now w c.bits) (sym all) bits;
+      bits = subst (λ (c : CaptureOf X). WatchAfter kind start now w c.bits) (sym all) bits;
     }
 end-finishes {A} {R} {X} kind law text reads after start now w xs (Err f) sound at read found =
-    let bits = subst (λ (c : CaptureOf R). Watches kind start now w (fed kind w c.bits)) (sym found.2) read.bits in
+    let bits = subst (λ (c : CaptureOf R). WatchAfter kind start now w (fed kind w c.bits)) (sym found.2) read.bits in
     let all = all-placed kind law start now w (fed_by kind.form (kind.rest w.analyser)
     (unplaced_whole kind.form text xs))
     sound bits in

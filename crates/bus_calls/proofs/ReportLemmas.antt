@@ -10,7 +10,7 @@ use Rattle.bus_line.specs.Due.{places}
 use Rattle.bus_pairing.specs.History.{KeptFrame}
 use Rattle.bus_pairing.specs.declared.counts.Counts.{Counts}
 use Rattle.bus_text.specs.CheckText.{tally_text, tallies_text, kept_text, history_text}
-use Rattle.bus_text.specs.Put.{Cuts}
+use Rattle.bus_text.specs.Put.{TextStopsAt}
 use Rattle.bus_text.specs.Pages.{Pages}
 use Rattle.bus_text.proofs.PagesLemmas.{cuts-more}
 
@@ -57,16 +57,16 @@ pages-tally start now page written text t k c same pages =
 -- what is cut short at a station is a front of all lines
 pub cuts-tally : (start now : Option (List ℕ)) (text : List ℕ) (t : ℕ → Counts) (k n : ℕ) (c : Counts) (sent : ℕ) →
     c ≡ t k → k + 1 ≤ n
-    → Cuts start now ((text ++ tallies_text t k) ++ tally_text k c) sent →
-    Cuts start now (text ++ tallies_text t n) sent
+    → TextStopsAt start now ((text ++ tallies_text t k) ++ tally_text k c) sent →
+    TextStopsAt start now (text ++ tallies_text t n) sent
 cuts-tally start now text t k n c sent same le cut =
     let front = tallies-front t (k + 1) (n - (k + 1)) in
     let all : (k + 1) + (n - (k + 1)) ≡ n = omega (arith, le) in
     let whole : (text ++ tallies_text t (k + 1)) ++ front.0 ≡ text ++ tallies_text t n =
     append_assoc text (tallies_text t (k + 1)) front.0 ∙ ap (λ l. text ++ l) (sym front.1 ∙ ap (tallies_text t) all) in
-    subst (λ (l : List ℕ). Cuts start now l sent) whole
+    subst (λ (l : List ℕ). TextStopsAt start now l sent) whole
     (cuts-more start now (text ++ tallies_text t (k + 1)) front.0 sent
-    (subst (λ (l : List ℕ). Cuts start now l sent) (tallies-next text t k c same) cut))
+    (subst (λ (l : List ℕ). TextStopsAt start now l sent) (tallies-next text t k c same) cut))
 
 -- the line of one frame more
 history-next : (two : Bool) (text : List ℕ) (h : List KeptFrame) (i : ℕ) (f : KeptFrame) → slice_get h i ≡ Some f
@@ -89,17 +89,17 @@ pages-kept two start now page written text h i f here pages =
 
 pub cuts-kept : (two : Bool) (start now : Option (List ℕ)) (text : List ℕ) (h : List KeptFrame) (i : ℕ) (f : KeptFrame)
     (sent : ℕ) → slice_get h i ≡ Some f
-    → Cuts start now ((text ++ history_text two (take i h)) ++ kept_text two f) sent →
-    Cuts start now (text ++ history_text two h) sent
+    → TextStopsAt start now ((text ++ history_text two (take i h)) ++ kept_text two f) sent →
+    TextStopsAt start now (text ++ history_text two h) sent
 cuts-kept two start now text h i f sent here cut =
     let rest = history_text two (drop (i + 1) h) in
     let whole : (text ++ history_text two (take (i + 1) h)) ++ rest ≡ text ++ history_text two h =
     append_assoc text (history_text two (take (i + 1) h)) rest
     ∙ ap (λ l. text ++ l) (sym (flat_map-append (kept_text two) (take (i + 1) h) (drop (i + 1) h))
     ∙ ap (history_text two) (take-append-drop (i + 1) h)) in
-    subst (λ (l : List ℕ). Cuts start now l sent) whole
+    subst (λ (l : List ℕ). TextStopsAt start now l sent) whole
     (cuts-more start now (text ++ history_text two (take (i + 1) h)) rest sent
-    (subst (λ (l : List ℕ). Cuts start now l sent) (history-next two text h i f here) cut))
+    (subst (λ (l : List ℕ). TextStopsAt start now l sent) (history-next two text h i f here) cut))
 
 -- the three parts of a report, after a text
 pub report-parts : (text s t h : List ℕ) → ((text ++ s) ++ t) ++ h ≡ text ++ ((s ++ t) ++ h)

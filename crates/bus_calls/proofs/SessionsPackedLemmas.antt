@@ -6,8 +6,9 @@ use Rattle.std.proofs.lemmas.Grind.{common_steps}
 use Rattle.bus_bits.specs.Capture.{CaptureOf}
 use Rattle.bus_calls.specs.Captures.{fed_by}
 use Rattle.bus_calls.specs.Internal.Kinds.{KindView}
-use Rattle.bus_calls.specs.Internal.Watching.{Feeds, FeedHalts}
-use Rattle.bus_calls.specs.Internal.Sessions.{IsRead, FollowsBody, FollowsPacked, Faulty, StopsAt, Stops}
+use Rattle.bus_calls.specs.Internal.Watching.{FeedAfter, FeedStopsWith}
+use Rattle.bus_calls.specs.Internal.Sessions.{IsRead, BodyAfter, PackedSourceAfter}
+use Rattle.bus_calls.specs.Internal.Sessions.{Faulty, CaptureStopsWith, SourceStopsWith}
 use Rattle.bus_calls.specs.declared.run.CaptureRun.{CaptureRun}
 use Rattle.bus_calls.specs.declared.packed.PackedCapture.{PackedCapture}
 use Rattle.bus_text.specs.declared.fault.ToolFault.{ToolFault}
@@ -16,10 +17,10 @@ use Rattle.bus_calls.proofs.CapturesLemmas.{halts-stops}
 
 -- no octets were read
 pub none-read : {A R X B : Type 0} (t : KindView A R X B) (start now : Option (List ℕ)) (run : CaptureRun A) (body : B)
-    (xs os : List ℕ) (n : ℕ) → n ≡ 0 → FollowsBody t start now body run (xs ++ take n os) →
-    FollowsBody t start now body run xs
+    (xs os : List ℕ) (n : ℕ) → n ≡ 0 → BodyAfter t start now body run (xs ++ take n os) →
+    BodyAfter t start now body run xs
 none-read t start now run body xs os n none followed =
-    subst (FollowsBody t start now body run) (ap (λ (k : ℕ). xs ++ take k os) none ∙ append-nil xs) followed
+    subst (BodyAfter t start now body run) (ap (λ (k : ℕ). xs ++ take k os) none ∙ append-nil xs) followed
 
 -- a head is filled from the front of some octets
 pub filled-head : (xs os : List ℕ) → (xs ++ take (16 - length xs) os) ++ drop (16 - length xs) os ≡ xs ++ os
@@ -60,7 +61,7 @@ ok-mapped P Q Gives (Err e) m y is made matched = absurd (subst (λ k. IsErrAnd 
 module _ {A R X B : Type 0} (t : KindView A R X B) where
   -- a fault of a capture that is answered stops
   pub faulty-stops : (start now : Option (List ℕ)) (w : CaptureRun A) (c : CaptureOf X) (f : ToolFault) →
-      Faulty t start now w c f → StopsAt t start now w c f
+      Faulty t start now w c f → CaptureStopsWith t start now w c f
   faulty-stops start now w c (fault.Write sent) faulty = absurd faulty.answered
   faulty-stops start now w c f faulty = faulty
 
@@ -68,10 +69,10 @@ module _ {A R X B : Type 0} (t : KindView A R X B) where
   pub octets-taken : (start now : Option (List ℕ)) (w : CaptureRun A) (xs : List ℕ) (body : B) (b : List R)
       (r : Result (Unit {0}) ToolFault)
       → t.watch.origin w.analyser ≤ 2 ^ 60 → t.is_body body xs → (t.form.packed xs).bits ≡ b
-      → MatchResult r (λ _. Feeds t start now w b) (λ f. FeedHalts t start now w b f)
-      → MatchResult r (λ _. FollowsBody t start now body w xs) (λ f. Stops t false start now w xs f)
+      → MatchResult r (λ _. FeedAfter t start now w b) (λ f. FeedStopsWith t start now w b f)
+      → MatchResult r (λ _. BodyAfter t start now body w xs) (λ f. SourceStopsWith t false start now w xs f)
   octets-taken start now w xs body b (Ok u) low read is taken =
-      record { read = read; bits = subst (Feeds t start now w) (sym is) taken }
+      record { read = read; bits = subst (FeedAfter t start now w) (sym is) taken }
   octets-taken start now w xs body b (Err f) low read is taken =
       halts-stops t start now w (fed_by t.form (t.rest w.analyser) (t.form.packed xs)) f low
-      (subst (λ (x : List R). FeedHalts t start now w x f) (sym is) taken)
+      (subst (λ (x : List R). FeedStopsWith t start now w x f) (sym is) taken)

@@ -3,13 +3,13 @@ use Rattle.std.proofs.Common.{◌≡◌, ℕ, ◌+◌, ◌-◌, ◌*◌, ◌<◌
 use Rattle.std.proofs.Common.{None, refl, sym, ap, ◌∙◌, subst, arith, length-append, append-nil, append_assoc}
 use Rattle.bus_bits.specs.Bits.{bits_from}
 use Rattle.bus_watch.specs.Watch.{AdvancesWatchShown, seen_by}
-use Rattle.bus_text.specs.Put.{Cuts}
+use Rattle.bus_text.specs.Put.{TextStopsAt}
 use Rattle.bus_text.specs.declared.fault.ToolFault.{ToolFault}
 use Rattle.bus_text.specs.declared.fault.ToolFault.TheVariants as fault
 use Rattle.bus_text.specs.declared.put.ShortWrite.{ShortWrite}
 use Rattle.bus_calls.specs.Internal.Kinds.{KindView, KindLaws}
 use Rattle.bus_calls.specs.Internal.Reporting.{IsOut, ReportsSeen}
-use Rattle.bus_calls.specs.Internal.Watching.{Halts, IsSound, Watches, lines, printed}
+use Rattle.bus_calls.specs.Internal.Watching.{WatchStopsWith, IsSound, WatchAfter, lines, printed}
 use Rattle.bus_calls.specs.declared.run.CaptureRun.{CaptureRun}
 use Rattle.bus_calls.specs.Internal.ReportingLaws.{few-within}
 use Rattle.bus_watch.proofs.PairScanLemmas.{length-zipped, zip-met}
@@ -30,13 +30,13 @@ module _ {A R X B : Type 0} (t : KindView A R X B) (w v : CaptureRun A) (xs : Li
         }
 
     -- the lines that were told
-    out : (start : Option (List ℕ)) (b : List X) → Watches t start before w b
+    out : (start : Option (List ℕ)) (b : List X) → WatchAfter t start before w b
         → IsOut start after v.reporter.page v.reporter.cut
         (lines t w b ++ printed w.reporter.printer (t.watch.dictionary w.analyser) all.seen)
     out start b followed = all.told.out start (lines t w b) followed.page
 
-    pub told-watched : v.reporter.cut ≡ None → (start : Option (List ℕ)) (b : List X) → Watches t start before w b →
-        Watches t start after v (b ++ xs)
+    pub told-watched : v.reporter.cut ≡ None → (start : Option (List ℕ)) (b : List X) → WatchAfter t start before w b →
+        WatchAfter t start after v (b ++ xs)
     told-watched none start b followed =
         watched t start before after w v b xs all.seen all.told.printer followed all.sees
         (all.told.counted (seen_by t.watch w.analyser b) followed.counts none)
@@ -47,8 +47,8 @@ module _ {A R X B : Type 0} (t : KindView A R X B) (w v : CaptureRun A) (xs : Li
     -- the writer was cut off
     pub told-cut : KindLaws t → (cut : ShortWrite) → v.reporter.cut ≡ Some cut →
         t.watch.place w.analyser + length xs ≤ 2 ^ 60
-        → (start : Option (List ℕ)) (b : List X) → Watches t start before w b →
-        Halts t start after v (b ++ xs) (fault.Write cut.sent)
+        → (start : Option (List ℕ)) (b : List X) → WatchAfter t start before w b →
+        WatchStopsWith t start after v (b ++ xs) (fault.Write cut.sent)
     told-cut law cut some room start b followed =
         let text = lines-more t w v b xs all.seen all.told.printer followed.is_after all.sees in
         let short =
@@ -62,7 +62,7 @@ module _ {A R X B : Type 0} (t : KindView A R X B) (w v : CaptureRun A) (xs : Li
           front = b ++ xs;
           more = [];
           all = within-all (t.watch.origin v.analyser) (b ++ xs) fits ∙ sym (append-nil (b ++ xs));
-          cut = subst (λ (ys : List ℕ). Cuts start after ys cut.sent) (sym text) short.0;
+          cut = subst (λ (ys : List ℕ). TextStopsAt start after ys cut.sent) (sym text) short.0;
           short = subst (λ (ys : List ℕ). cut.sent < length ys) (sym text) short.1;
         }
 
@@ -81,18 +81,19 @@ pairs-behind b os ys n count within =
 pub halts-behind : {A B : Type 0} (t : KindView A (Bool × Bool) (Bool × Bool) B) (start now : Option (List ℕ))
     (w : CaptureRun A)
     (b : List (Bool × Bool)) (os ys : List ℕ) (n count : ℕ) (f : ToolFault)
-    → n ≤ count → Halts t start now w (b ++ zip (bits_from os 0 n) (bits_from ys 0 n)) f →
-    Halts t start now w (b ++ zip (bits_from os 0 count) (bits_from ys 0 count)) f
+    → n ≤ count → WatchStopsWith t start now w (b ++ zip (bits_from os 0 n) (bits_from ys 0 n)) f →
+    WatchStopsWith t start now w (b ++ zip (bits_from os 0 count) (bits_from ys 0 count)) f
 halts-behind t start now w b os ys n count f within stopped =
-    subst (λ ps. Halts t start now w ps f) (sym (pairs-behind b os ys n count within))
+    subst (λ ps. WatchStopsWith t start now w ps f) (sym (pairs-behind b os ys n count within))
     (halts-more t start now w _ _ f stopped)
 
 -- all that have a place were followed, and others have none
 pub limited : {A B : Type 0} (t : KindView A (Bool × Bool) (Bool × Bool) B) → KindLaws t →
     (start now : Option (List ℕ)) (w : CaptureRun A) (b : List (Bool × Bool)) (os ys : List ℕ) (n count : ℕ)
     → n < count → 2 ^ 60 ≤ t.watch.place w.analyser → IsSound t w →
-    Watches t start now w (b ++ zip (bits_from os 0 n) (bits_from ys 0 n))
-    → Halts t start now w (b ++ zip (bits_from os 0 count) (bits_from ys 0 count)) fault.PlaceLimit
+    WatchAfter t start now w (b ++ zip (bits_from os 0 n) (bits_from ys 0 n))
+    → WatchStopsWith t start now w (b ++ zip (bits_from os 0 count) (bits_from ys 0 count)) fault.PlaceLimit
 limited t law start now w b os ys n count more limit sound followed =
-    subst (λ ps. Halts t start now w ps fault.PlaceLimit) (sym (pairs-behind b os ys n count (omega (arith, more))))
+    subst (λ ps. WatchStopsWith t start now w ps fault.PlaceLimit)
+    (sym (pairs-behind b os ys n count (omega (arith, more))))
     (halted t law start now w w _ _ refl (omega (arith, more, length-zipped os ys n (count - n))) limit sound followed)

@@ -13,7 +13,8 @@ use Rattle.bus_text.specs.Listing.{ending_text}
 use Rattle.bus_text.specs.Summary.{summary_of}
 use Rattle.bus_text.specs.Pages.{Pages}
 use Rattle.bus_calls.specs.Internal.Kinds.{KindView, KindLaws}
-use Rattle.bus_calls.specs.Internal.Watching.{IsSound, Watches, IsSame, Halts, FeedHalts, printed, ended, lines}
+use Rattle.bus_calls.specs.Internal.Watching.{IsSound, WatchAfter, IsSame, WatchStopsWith}
+use Rattle.bus_calls.specs.Internal.Watching.{FeedStopsWith, printed, ended, lines}
 use Rattle.bus_calls.specs.Internal.Watching.{last_lines, reports_by, within}
 use Rattle.bus_text.specs.declared.printer.Printer.{Printer}
 use Rattle.bus_calls.specs.declared.run.CaptureRun.{CaptureRun}
@@ -79,12 +80,13 @@ module _ {A R X B : Type 0} (t : KindView A R X B) where
 
   -- symbols that tell this were followed
   pub watched : (start now later : Option (List ℕ)) (w v : CaptureRun A) (b more : List X) (told : List SeenReport)
-      → v.reporter.printer ≡ w.reporter.printer → Watches t start now w b → AdvancesWatch t.watch w.analyser more told
+      → v.reporter.printer ≡ w.reporter.printer → WatchAfter t start now w b
+      → AdvancesWatch t.watch w.analyser more told
       v.analyser
       → v.reporter.summary ≡ summary_of (seen_by t.watch w.analyser b ++ told)
       → Pages start later v.reporter.page.text v.reporter.page.written
       (lines t w b ++ printed w.reporter.printer (t.watch.dictionary w.analyser) told)
-      → Watches t start later v (b ++ more)
+      → WatchAfter t start later v (b ++ more)
   watched start now later w v b more told printer followed leads counts page = record {
     is_after = leads.is_after b followed.is_after;
     counts = counts ∙ ap summary_of (sym (seen-more w.analyser v.analyser b more told followed.is_after leads));
@@ -94,25 +96,25 @@ module _ {A R X B : Type 0} (t : KindView A R X B) where
 
   -- symbols that have no place stop the following
   pub halted : KindLaws t → (start now : Option (List ℕ)) (w v : CaptureRun A) (b more : List X)
-      → v ≡ w → 0 < length more → 2 ^ 60 ≤ t.watch.place w.analyser → IsSound t w → Watches t start now w b →
-      Halts t start now v (b ++ more) fault.PlaceLimit
+      → v ≡ w → 0 < length more → 2 ^ 60 ≤ t.watch.place w.analyser → IsSound t w → WatchAfter t start now w b →
+      WatchStopsWith t start now v (b ++ more) fault.PlaceLimit
   halted law start now w v b more same some limit sound followed =
       let origin = t.watch.origin w.analyser in
       let place : t.watch.place w.analyser ≡ origin + length b = law.placed w.analyser b followed.is_after in
       let most : t.watch.place w.analyser ≤ 2 ^ 60 = sound.places in
       let end : origin + length b ≡ 2 ^ 60 = omega (arith, place, most, limit) in
       let over : 2 ^ 60 - origin < length (b ++ more) = omega (arith, end, some, length-append b more) in
-      subst (λ (x : CaptureRun A). Halts t start now x (b ++ more) fault.PlaceLimit) (sym same)
-      (over, subst (Watches t start now w) (sym (within-front origin b more end)) followed)
+      subst (λ (x : CaptureRun A). WatchStopsWith t start now x (b ++ more) fault.PlaceLimit) (sym same)
+      (over, subst (WatchAfter t start now w) (sym (within-front origin b more end)) followed)
 
   -- what stopped, stops with more after it
   pub halts-more : (start now : Option (List ℕ)) (w : CaptureRun A) (b more : List X) (f : ToolFault)
-      → Halts t start now w b f → Halts t start now w (b ++ more) f
+      → WatchStopsWith t start now w b f → WatchStopsWith t start now w (b ++ more) f
   halts-more start now w b more fault.PlaceLimit stopped =
       let n = 2 ^ 60 - t.watch.origin w.analyser in
       let over : n < length b = stopped.0 in (
         omega (arith, over, length-append b more),
-        subst (Watches t start now w) (sym (take-append-le n b more (omega (arith, over)))) stopped.1,
+        subst (WatchAfter t start now w) (sym (take-append-le n b more (omega (arith, over)))) stopped.1,
       )
   halts-more start now w b more (fault.Write sent) stopped =
       let n = 2 ^ 60 - t.watch.origin w.analyser in
@@ -128,10 +130,10 @@ module _ {A R X B : Type 0} (t : KindView A R X B) where
 
   -- what the analyser takes stops as well
   pub feed-halts-more : KindLaws t → (start now : Option (List ℕ)) (w : CaptureRun A) (b more : List R) (f : ToolFault)
-      → FeedHalts t start now w b f → FeedHalts t start now w (b ++ more) f
+      → FeedStopsWith t start now w b f → FeedStopsWith t start now w (b ++ more) f
   feed-halts-more law start now w b more f stopped =
       let on = law.form.fed (t.rest w.analyser) b more in
-      subst (λ (x : List X). Halts t start now w x f) (sym on.is)
+      subst (λ (x : List X). WatchStopsWith t start now w x f) (sym on.is)
       (halts-more start now w (t.form.fed (t.rest w.analyser) b) on.taken f stopped)
 
   -- what stays the same twice, stays the same

@@ -8,7 +8,7 @@ use Rattle.bus_calls.specs.Captures.{Form, HasFault, IsSameFault, form_of_one, f
 use Rattle.bus_calls.specs.Captures.{reports_seen, form_of_arrivals}
 use Rattle.bus_text.specs.CheckText.{check_text}
 use Rattle.bus_text.specs.Summary.{summary_of}
-use Rattle.bus_text.specs.Put.{Cuts}
+use Rattle.bus_text.specs.Put.{TextStopsAt}
 use Rattle.bus_calls.specs.Begins.{Begins}
 use Rattle.bus_calls.specs.Lists.{so_far, in_all, DoesNothing, by_lines}
 use Rattle.bus_text.specs.declared.options.Options.{Options}
@@ -53,7 +53,7 @@ module _ {R X : Type 0} (f : Form R X) where
   pub record ChecksCut (o : Options) (d : List FrameType) (after start now : Option (List ℕ)) (xs : List ℕ)
       (sent : ℕ) : Type 0 where
     pub all : IsAll o after xs
-    pub cut : Cuts start now (check_report o d (in_all f o xs).bits) sent
+    pub cut : TextStopsAt start now (check_report o d (in_all f o xs).bits) sent
 
   -- what the call answered, which read the octets xs, leaves its reader with `after`, and led its writer from `start`
   -- to `now`

@@ -5,7 +5,7 @@ use Rattle.bus_bits.specs.Capture.{CaptureFault}
 use Rattle.bus_dictionary.specs.Entry.{FrameType}
 use Rattle.bus_calls.specs.Captures.{Form, form_of_one, form_of_two, form_of_arrivals, reports_seen, IsSameFault}
 use Rattle.bus_text.specs.Summary.{summary_of}
-use Rattle.bus_text.specs.Put.{Cuts}
+use Rattle.bus_text.specs.Put.{TextStopsAt}
 use Rattle.bus_calls.specs.Begins.{Begins, Refuses}
 use Rattle.bus_calls.specs.Lists.{in_all, listing_of, ending_of, ListsSoFar, by_lines}
 use Rattle.bus_calls.specs.Checks.{check_report, ChecksSoFar}
@@ -57,7 +57,7 @@ module _ {R X : Type 0} (f : Form R X) where
   ListsKnownBy o start now all (Err Read) = (d : List FrameType) × Begins o d × ListsItsFront o d start now all
   ListsKnownBy o start now all (Err ReadsLimit) = (d : List FrameType) × Begins o d × ListsItsFront o d start now all
   ListsKnownBy o start now all (Err (Write sent)) =
-      (d : List FrameType) × Begins o d × Cuts start now (listing_in_all o d all) sent
+      (d : List FrameType) × Begins o d × TextStopsAt start now (listing_in_all o d all) sent
   ListsKnownBy o start now all (Err fault) =
       (d : List FrameType) × Begins o d × IsItsFault o all fault × Appends start now (listing_in_all o d all)
 
@@ -73,10 +73,10 @@ module _ {R X : Type 0} (f : Form R X) where
     pub front : ChecksSoFar f o start now (take octets all)
 
   -- the writer was cut off in the report of a capture without fault
-  pub record CutsIt (o : Options) (d : List FrameType) (start now : Option (List ℕ)) (all : List ℕ)
+  pub record CheckStopsAt (o : Options) (d : List FrameType) (start now : Option (List ℕ)) (all : List ℕ)
       (sent : ℕ) : Type 0 where
     pub clean : (in_all f o all).fault ≡ None
-    pub cut : Cuts start now (check_report f o d (in_all f o all).bits) sent
+    pub cut : TextStopsAt start now (check_report f o d (in_all f o all).bits) sent
 
   -- what the check answered, whose reader had all these octets left, and which led its writer from `start` to `now`
   abbrev pub ChecksKnownBy : Options → Option (List ℕ) → Option (List ℕ) → List ℕ → Result Summary ToolFault → Type 0
@@ -87,7 +87,8 @@ module _ {R X : Type 0} (f : Form R X) where
   ChecksKnownBy o start now all (Err Memory) = WritesNothing o start now Memory
   ChecksKnownBy o start now all (Err Read) = (d : List FrameType) × Begins o d × ChecksItsFront o start now all
   ChecksKnownBy o start now all (Err ReadsLimit) = (d : List FrameType) × Begins o d × ChecksItsFront o start now all
-  ChecksKnownBy o start now all (Err (Write sent)) = (d : List FrameType) × Begins o d × CutsIt o d start now all sent
+  ChecksKnownBy o start now all (Err (Write sent)) =
+      (d : List FrameType) × Begins o d × CheckStopsAt o d start now all sent
   ChecksKnownBy o start now all (Err fault) =
       (d : List FrameType) × Begins o d × IsItsFault o all fault × Appends start now []
 

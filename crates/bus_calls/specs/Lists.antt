@@ -11,7 +11,7 @@ use Rattle.bus_calls.specs.Captures.{IsSameFault, HasFault}
 use Rattle.bus_text.specs.Given.{printer_of}
 use Rattle.bus_text.specs.Listing.{listing, ending_text}
 use Rattle.bus_text.specs.Summary.{summary_of}
-use Rattle.bus_text.specs.Put.{Cuts}
+use Rattle.bus_text.specs.Put.{TextStopsAt}
 use Rattle.bus_calls.specs.Begins.{Begins, Refuses}
 use Rattle.bus_text.specs.declared.options.Options.{Options}
 use Rattle.bus_text.specs.declared.summary.Summary.{Summary}
@@ -77,7 +77,7 @@ module _ {R X : Type 0} (f : Form R X) where
       (sent : ℕ) : Type 0 where
     pub text : List ℕ
     pub said : IsListing o d after xs text
-    pub cut : Cuts start now text sent
+    pub cut : TextStopsAt start now text sent
 
   -- what the call answered, which read the octets xs, leaves its reader with `after`, and led its writer from `start`
   -- to `now`

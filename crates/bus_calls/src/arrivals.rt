@@ -3,7 +3,7 @@
 ghost use Rattle.std.specs.Prelude.{◌≡◌, ◌≤◌, ℕ, List, Option, ◌∷◌, ◌++◌, take, MatchResult};
 ghost use Rattle.bus_calls.specs.Captures.{arrival_of};
 ghost use Rattle.bus_calls.specs.Internal.Arrivals.{arrivals_kind};
-ghost use Rattle.bus_calls.specs.Internal.Watching.{Halts, IsSame, IsSound, Watches};
+ghost use Rattle.bus_calls.specs.Internal.Watching.{WatchStopsWith, IsSame, IsSound, WatchAfter};
 ghost use Rattle.bus_clocks.specs.Arrival.{Arrival};
 ghost use Rattle.bus_clocks.specs.Rested.{fill};
 
@@ -37,9 +37,9 @@ fn analyse_arrivals<C: Check, W: Write>(
 ) -> Result<(), ToolFault>
     requires { IsSound (arrivals_kind C.check) run.old }
     ensures taken { (start : Option (List ℕ)) (b : List Arrival) →
-        Watches (arrivals_kind C.check) start (W.contents w.old) run.old b → MatchResult result
-        (λ _. Watches (arrivals_kind C.check) start (W.contents w.new) run.new (b ++ arrivals.now))
-        (λ fault. Halts (arrivals_kind C.check) start (W.contents w.new) run.new (b ++ arrivals.now) fault) }
+        WatchAfter (arrivals_kind C.check) start (W.contents w.old) run.old b → MatchResult result
+        (λ _. WatchAfter (arrivals_kind C.check) start (W.contents w.new) run.new (b ++ arrivals.now))
+        (λ fault. WatchStopsWith (arrivals_kind C.check) start (W.contents w.new) run.new (b ++ arrivals.now) fault) }
     ensures rule { run.new.analyser.rest ≡ run.old.analyser.rest }
     ensures same { IsSame (arrivals_kind C.check) run.old run.new }
     ensures sound { IsSound (arrivals_kind C.check) run.new }
@@ -82,7 +82,7 @@ impl<C: Check> CaptureKind for ClockAnalyser<C> {
     /// A bit, and whether it is one of the second line.
     type Symbol = (bool, bool);
 
-    type Taken = Arrival;
+    type Received = Arrival;
 
     type Body = PackedPairs;
 

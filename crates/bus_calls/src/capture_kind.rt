@@ -14,15 +14,15 @@ ghost use Rattle.bus_pairing.specs.Talk.{pending};
 ghost use Rattle.bus_watch.specs.Watch.{AdvancesWatch};
 ghost use Rattle.bus_text.specs.CheckText.{kept_text};
 ghost use Rattle.bus_text.specs.Counting.{IsFew};
-ghost use Rattle.bus_text.specs.Adds.{Prints};
+ghost use Rattle.bus_text.specs.Advances.{AdvancesPage};
 ghost use Rattle.bus_text.specs.Pages.{HasRoomFor, Pages};
 ghost use Rattle.bus_text.specs.Listing.{listing, ending_text};
-ghost use Rattle.bus_text.specs.Put.{Cuts};
+ghost use Rattle.bus_text.specs.Put.{TextStopsAt};
 ghost use Rattle.bus_text.specs.Summary.{summary_of};
 ghost use Rattle.bus_calls.specs.Internal.Asked.{IsMade, IsRuled};
 ghost use Rattle.bus_calls.specs.Internal.Kinds.{KindView, KindLaws};
-ghost use Rattle.bus_calls.specs.Internal.Watching.{FeedHalts, Feeds, reports_by, IsSame, IsSound};
-ghost use Rattle.bus_calls.specs.Internal.Sessions.{FollowsBody, FollowsOctets, Stops};
+ghost use Rattle.bus_calls.specs.Internal.Watching.{FeedStopsWith, FeedAfter, reports_by, IsSame, IsSound};
+ghost use Rattle.bus_calls.specs.Internal.Sessions.{BodyAfter, OctetsAfter, SourceStopsWith};
 
 use crate::run::CaptureRun;
 use bus_bits::{BadMark, HeadFault, PackedFault};
@@ -39,7 +39,7 @@ pub trait CaptureKind: Drop {
     type Symbol: Copy;
 
     /// What the analyser takes of them.
-    type Taken;
+    type Received;
 
     /// Reads the octets of a packed capture after its head.
     type Body: Drop;
@@ -47,7 +47,7 @@ pub trait CaptureKind: Drop {
     /// The symbols of one of these octets.
     type Few: AsSlice<Self::Symbol> + Drop;
 
-    ghost kind: { KindView Self Self.Symbol Self.Taken Self.Body };
+    ghost kind: { KindView Self Self.Symbol Self.Received Self.Body };
 
     /// An analyser that took no symbol. `depth` is how many frames its history keeps, and `origin` the
     /// place of its first symbol. `rest` is the silence after which a second line with its own clock comes to rest.
@@ -66,7 +66,7 @@ pub trait CaptureKind: Drop {
     /// Puts the lines of the end on the page.
     fn put_ending(&self, printer: &Printer, page: &mut Page)
         requires room { HasRoomFor 300 page.old }
-        ensures bytes { (b : List Self.Taken) → kind.watch.is_after self.now b → page.new.text.items
+        ensures bytes { (b : List Self.Received) → kind.watch.is_after self.now b → page.new.text.items
             ≡ page.old.text.items ++ ending_text printer.now (kind.form.ending (kind.watch.origin self.now) b
             (pending (kind.watch.dictionary self.now) (reports_by kind.watch self.now b))) }
         ensures len { array_vec_len page.new.text ≤ array_vec_len page.old.text + 300 }
@@ -74,25 +74,25 @@ pub trait CaptureKind: Drop {
 
     /// How many verdicts named a station.
     fn tally(&self, station: u8) -> Counts
-        ensures { (b : List Self.Taken) → kind.watch.is_after self.now b →
+        ensures { (b : List Self.Received) → kind.watch.is_after self.now b →
             result ≡ tally (kind.watch.dictionary self.now) (reports_by kind.watch self.now b) station };
 
     /// How many frames the history has.
     fn history_len(&self) -> usize
-        ensures value { (b : List Self.Taken) → kind.watch.is_after self.now b →
+        ensures value { (b : List Self.Received) → kind.watch.is_after self.now b →
             result ≡ length (history (kind.watch.depth self.now) (reports_by kind.watch self.now b)) }
         ensures bound { result ≤ 1024 };
 
     /// Puts the line of a frame of the history on the page, of which the oldest has the number 0.
     fn put_last<W: Write>(&self, i: usize, page: &mut Page, w: &mut W) -> Result<(), ShortWrite>
         requires { page.old.written < 2 ^ 100 }
-        ensures put { (start : Option (List ℕ)) (text : List ℕ) (b : List Self.Taken) (k : KeptFrame) →
+        ensures put { (start : Option (List ℕ)) (text : List ℕ) (b : List Self.Received) (k : KeptFrame) →
             kind.watch.is_after self.now b →
             slice_get (history (kind.watch.depth self.now) (reports_by kind.watch self.now b)) i ≡ Some k →
             Pages start (W.contents w.old) page.old.text page.old.written text → MatchResult result
             (λ _. Pages start (W.contents w.new) page.new.text page.new.written
             (text ++ kept_text kind.form.is_two k))
-            (λ cut. Cuts start (W.contents w.new) (text ++ kept_text kind.form.is_two k) cut.sent) }
+            (λ cut. TextStopsAt start (W.contents w.new) (text ++ kept_text kind.form.is_two k) cut.sent) }
         ensures few { OnOk result
             (page.new.written + array_vec_len page.new.text
             ≤ page.old.written + array_vec_len page.old.text + 572) };
@@ -135,9 +135,9 @@ pub trait CaptureKind: Drop {
     ) -> Result<(), ToolFault>
         requires { IsSound kind run.old }
         ensures taken { (start : Option (List ℕ)) (b : List Self.Symbol) →
-            Feeds kind start (W.contents w.old) run.old b → MatchResult result
-            (λ _. Feeds kind start (W.contents w.new) run.new (b ++ symbol ∷ []))
-            (λ fault. FeedHalts kind start (W.contents w.new) run.new (b ++ symbol ∷ []) fault) }
+            FeedAfter kind start (W.contents w.old) run.old b → MatchResult result
+            (λ _. FeedAfter kind start (W.contents w.new) run.new (b ++ symbol ∷ []))
+            (λ fault. FeedStopsWith kind start (W.contents w.new) run.new (b ++ symbol ∷ []) fault) }
         ensures same { IsSame kind run.old run.new }
         ensures sound { IsSound kind run.new };
 
@@ -151,10 +151,10 @@ pub trait CaptureKind: Drop {
         requires { IsSound kind run.old }
         ensures enough { IfOk result (λ n. n ≤ length octets.now) }
         ensures taken { (start : Option (List ℕ)) (xs : List ℕ) →
-            FollowsOctets kind start (W.contents w.old) run.old xs → MatchResult result
-            (λ n. FollowsOctets kind start (W.contents w.new) run.new (xs ++ take n octets.now))
+            OctetsAfter kind start (W.contents w.old) run.old xs → MatchResult result
+            (λ n. OctetsAfter kind start (W.contents w.new) run.new (xs ++ take n octets.now))
             (λ fault. (n : ℕ) × (n ≤ length octets.now)
-            × Stops kind true start (W.contents w.new) run.new (xs ++ take n octets.now) fault) }
+            × SourceStopsWith kind true start (W.contents w.new) run.new (xs ++ take n octets.now) fault) }
         ensures same { IsSame kind run.old run.new }
         ensures sound { IsSound kind run.new };
 
@@ -169,10 +169,10 @@ pub trait CaptureKind: Drop {
         requires { IsSound kind run.old }
         ensures enough { IfOk result (λ n. n ≤ length octets.now) }
         ensures taken { (start : Option (List ℕ)) (xs : List ℕ) →
-            FollowsBody kind start (W.contents w.old) body.old run.old xs → MatchResult result
-            (λ n. FollowsBody kind start (W.contents w.new) body.new run.new (xs ++ take n octets.now))
+            BodyAfter kind start (W.contents w.old) body.old run.old xs → MatchResult result
+            (λ n. BodyAfter kind start (W.contents w.new) body.new run.new (xs ++ take n octets.now))
             (λ fault. (n : ℕ)
-            × Stops kind false start (W.contents w.new) run.new (xs ++ take n octets.now) fault) }
+            × SourceStopsWith kind false start (W.contents w.new) run.new (xs ++ take n octets.now) fault) }
         ensures same { IsSame kind run.old run.new }
         ensures sound { IsSound kind run.new };
 

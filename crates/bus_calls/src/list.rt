@@ -2,7 +2,7 @@
 
 ghost use Rattle.std.specs.Prelude.{◌≡◌, ◌<◌, ◌^◌, ℕ, List, Option, IfSome};
 ghost use Rattle.bus_text.specs.Pages.{Pages};
-ghost use Rattle.bus_calls.specs.Internal.Closes.{IsNoWrite, ClosesPage};
+ghost use Rattle.bus_calls.specs.Internal.Closes.{IsNoWrite, PageStopsWith};
 ghost use Rattle.std.specs.Io.KnownBytes.{Consumes};
 ghost use Rattle.bus_calls.specs.Lists.{Lists, ListsBy};
 ghost use Rattle.bus_calls.specs.Known.{ListsKnown, ListsKnownBy};
@@ -83,7 +83,7 @@ fn close_behind<W: Write>(fault: ToolFault, page: &mut Page, w: &mut W) -> ToolF
         (result ≡ ToolFault.Write sent) × (W.contents w.new ≡ W.contents w.old) }
     ensures closed { IsNoWrite fault → (start : Option (List ℕ)) (text : List ℕ) →
         Pages start (W.contents w.old) page.old.text page.old.written text →
-        ClosesPage start (W.contents w.new) text fault result }
+        PageStopsWith start (W.contents w.new) text fault result }
 {
     if let ToolFault::Write { written } = fault {
         return ToolFault::Write { written };

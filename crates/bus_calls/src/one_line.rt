@@ -4,8 +4,8 @@ ghost use Rattle.std.specs.Prelude.{◌≡◌, ◌+◌, ◌-◌, ◌*◌, ◌≤
 ghost use Rattle.std.specs.Prelude.{None, IfOk, MatchResult};
 ghost use Rattle.bus_bits.specs.Bits.{bits_from};
 ghost use Rattle.bus_calls.specs.Internal.OneLine.{one_line_kind};
-ghost use Rattle.bus_calls.specs.Internal.Sessions.{FollowsOctets, Stops};
-ghost use Rattle.bus_calls.specs.Internal.Watching.{FeedHalts, Feeds, IsSame, IsSound};
+ghost use Rattle.bus_calls.specs.Internal.Sessions.{OctetsAfter, SourceStopsWith};
+ghost use Rattle.bus_calls.specs.Internal.Watching.{FeedStopsWith, FeedAfter, IsSame, IsSound};
 
 use crate::capture_kind::CaptureKind;
 use crate::run::CaptureRun;
@@ -32,9 +32,9 @@ fn analyse_bits<C: Check, W: Write>(
     requires sound { IsSound (one_line_kind C.check) run.old }
     requires within { end ≤ 8 * length octets.now }
     ensures taken { (start : Option (List ℕ)) (b : List Bool) →
-        Feeds (one_line_kind C.check) start (W.contents w.old) run.old b → MatchResult result
-        (λ _. Feeds (one_line_kind C.check) start (W.contents w.new) run.new (b ++ bits_from octets.now 0 end))
-        (λ fault. FeedHalts (one_line_kind C.check) start (W.contents w.new) run.new
+        FeedAfter (one_line_kind C.check) start (W.contents w.old) run.old b → MatchResult result
+        (λ _. FeedAfter (one_line_kind C.check) start (W.contents w.new) run.new (b ++ bits_from octets.now 0 end))
+        (λ fault. FeedStopsWith (one_line_kind C.check) start (W.contents w.new) run.new
         (b ++ bits_from octets.now 0 end) fault) }
     ensures same { IsSame (one_line_kind C.check) run.old run.new }
     ensures sound { IsSound (one_line_kind C.check) run.new }
@@ -62,10 +62,10 @@ fn analyse_eight<C: Check, W: Write>(
     requires { IsSound (one_line_kind C.check) run.old }
     ensures enough { IfOk result (λ n. n ≤ length text.now) }
     ensures taken { (start : Option (List ℕ)) (xs : List ℕ) →
-        FollowsOctets (one_line_kind C.check) start (W.contents w.old) run.old xs → MatchResult result
-        (λ n. FollowsOctets (one_line_kind C.check) start (W.contents w.new) run.new (xs ++ take n text.now))
+        OctetsAfter (one_line_kind C.check) start (W.contents w.old) run.old xs → MatchResult result
+        (λ n. OctetsAfter (one_line_kind C.check) start (W.contents w.new) run.new (xs ++ take n text.now))
         (λ fault. (n : ℕ) × (n ≤ length text.now)
-        × Stops (one_line_kind C.check) true start (W.contents w.new) run.new (xs ++ take n text.now) fault) }
+        × SourceStopsWith (one_line_kind C.check) true start (W.contents w.new) run.new (xs ++ take n text.now) fault) }
     ensures same { IsSame (one_line_kind C.check) run.old run.new }
     ensures sound { IsSound (one_line_kind C.check) run.new }
 {
@@ -89,10 +89,10 @@ fn analyse_block<C: Check, W: Write, const N: usize>(
     requires few { 8 * N < 2 ^ 64 }
     ensures enough { IfOk result (λ n. n ≤ length text.now) }
     ensures taken { (start : Option (List ℕ)) (xs : List ℕ) →
-        FollowsOctets (one_line_kind C.check) start (W.contents w.old) run.old xs → MatchResult result
-        (λ n. FollowsOctets (one_line_kind C.check) start (W.contents w.new) run.new (xs ++ take n text.now))
+        OctetsAfter (one_line_kind C.check) start (W.contents w.old) run.old xs → MatchResult result
+        (λ n. OctetsAfter (one_line_kind C.check) start (W.contents w.new) run.new (xs ++ take n text.now))
         (λ fault. (n : ℕ) × (n ≤ length text.now)
-        × Stops (one_line_kind C.check) true start (W.contents w.new) run.new (xs ++ take n text.now) fault) }
+        × SourceStopsWith (one_line_kind C.check) true start (W.contents w.new) run.new (xs ++ take n text.now) fault) }
     ensures same { IsSame (one_line_kind C.check) run.old run.new }
     ensures sound { IsSound (one_line_kind C.check) run.new }
 {
@@ -106,7 +106,7 @@ fn analyse_block<C: Check, W: Write, const N: usize>(
 impl<C: Check> CaptureKind for Analyser<C> {
     type Symbol = bool;
 
-    type Taken = bool;
+    type Received = bool;
 
     type Body = PackedBits;
 

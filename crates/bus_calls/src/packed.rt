@@ -4,8 +4,8 @@ ghost use Rattle.std.specs.Prelude.{◌≡◌, ◌+◌, ◌≤◌, ◌<◌, ℕ,
 ghost use Rattle.std.specs.Prelude.{length, take, false};
 ghost use Rattle.bus_bits.specs.Capture.{CaptureFault};
 ghost use Rattle.bus_bits.specs.Packed.{head_fault_of, packed_fault_of};
-ghost use Rattle.bus_calls.specs.Internal.Watching.{FeedHalts, Feeds, IsSame, IsSound};
-ghost use Rattle.bus_calls.specs.Internal.Sessions.{FollowsPacked, FollowsBody, IsRead, Stops};
+ghost use Rattle.bus_calls.specs.Internal.Watching.{FeedStopsWith, FeedAfter, IsSame, IsSound};
+ghost use Rattle.bus_calls.specs.Internal.Sessions.{PackedSourceAfter, BodyAfter, IsRead, SourceStopsWith};
 ghost use Rattle.bus_calls.specs.Captures.{IsSameFault};
 
 use crate::capture_kind::CaptureKind;
@@ -58,9 +58,9 @@ fn analyse_symbols<T: CaptureKind, W: Write>(
 ) -> Result<(), ToolFault>
     requires { IsSound T.kind run.old }
     ensures taken { (start : Option (List ℕ)) (b : List T.Symbol) →
-        Feeds T.kind start (W.contents w.old) run.old b → MatchResult result
-        (λ _. Feeds T.kind start (W.contents w.new) run.new (b ++ symbols.now))
-        (λ fault. FeedHalts T.kind start (W.contents w.new) run.new (b ++ symbols.now) fault) }
+        FeedAfter T.kind start (W.contents w.old) run.old b → MatchResult result
+        (λ _. FeedAfter T.kind start (W.contents w.new) run.new (b ++ symbols.now))
+        (λ fault. FeedStopsWith T.kind start (W.contents w.new) run.new (b ++ symbols.now) fault) }
     ensures same { IsSame T.kind run.old run.new }
     ensures sound { IsSound T.kind run.new }
 {
@@ -81,9 +81,9 @@ fn decode_octet<T: CaptureKind, W: Write>(
 ) -> Result<(), ToolFault>
     requires { IsSound T.kind run.old }
     ensures taken { (start : Option (List ℕ)) (xs : List ℕ) →
-        FollowsBody T.kind start (W.contents w.old) body.old run.old xs → MatchResult result
-        (λ _. FollowsBody T.kind start (W.contents w.new) body.new run.new (xs ++ octet ∷ []))
-        (λ fault. Stops T.kind false start (W.contents w.new) run.new (xs ++ octet ∷ []) fault) }
+        BodyAfter T.kind start (W.contents w.old) body.old run.old xs → MatchResult result
+        (λ _. BodyAfter T.kind start (W.contents w.new) body.new run.new (xs ++ octet ∷ []))
+        (λ fault. SourceStopsWith T.kind false start (W.contents w.new) run.new (xs ++ octet ∷ []) fault) }
     ensures same { IsSame T.kind run.old run.new }
     ensures sound { IsSound T.kind run.new }
 {
@@ -161,9 +161,9 @@ impl<B> PackedCapture<B> {
     ) -> Result<(), ToolFault>
         requires sound { IsSound T.kind run.old }
         ensures taken { (start : Option (List ℕ)) (xs : List ℕ) →
-            FollowsPacked T.kind start (W.contents w.old) self.old run.old xs → MatchResult result
-            (λ _. FollowsPacked T.kind start (W.contents w.new) self.new run.new (xs ++ octets.now))
-            (λ fault. Stops T.kind false start (W.contents w.new) run.new (xs ++ octets.now) fault) }
+            PackedSourceAfter T.kind start (W.contents w.old) self.old run.old xs → MatchResult result
+            (λ _. PackedSourceAfter T.kind start (W.contents w.new) self.new run.new (xs ++ octets.now))
+            (λ fault. SourceStopsWith T.kind false start (W.contents w.new) run.new (xs ++ octets.now) fault) }
         ensures same { IsSame T.kind run.old run.new }
         ensures sound { IsSound T.kind run.new }
     {

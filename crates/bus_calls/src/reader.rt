@@ -8,8 +8,8 @@ ghost use Rattle.bus_dictionary.specs.Entry.{FrameType};
 ghost use Rattle.bus_calls.specs.Begins.{Begins, Refuses};
 ghost use Rattle.bus_calls.specs.Internal.Asked.{IsMade, IsRuled};
 ghost use Rattle.bus_calls.specs.Captures.{unplaced, unplaced_whole, IsSameFault};
-ghost use Rattle.bus_calls.specs.Internal.Sessions.{IsReadBy, Follows, Stops, is_text};
-ghost use Rattle.bus_calls.specs.Internal.Reading.{octets_taken, Finishes};
+ghost use Rattle.bus_calls.specs.Internal.Sessions.{IsReadBy, SourceAfter, SourceStopsWith, is_text};
+ghost use Rattle.bus_calls.specs.Internal.Reading.{octets_taken, ReadStopsWith};
 ghost use Rattle.bus_calls.specs.Internal.Watching.{IsSound, IsSame};
 
 use crate::capture_kind::CaptureKind;
@@ -76,7 +76,7 @@ impl<T: CaptureKind> CaptureReader<T> {
             × IsRuled T.kind options.now.rest reader.run.analyser)
             (λ fault. Refuses options.now fault) }
         ensures fresh { IfOk result
-            (λ reader. (start : Option (List ℕ)) → Follows T.kind start start reader.source reader.run []) }
+            (λ reader. (start : Option (List ℕ)) → SourceAfter T.kind start start reader.source reader.run []) }
         ensures given { IfOk result
             (λ reader. (is_text reader.source ≡ options.now.text) × (reader.run.reporter.printer ≡ printer)
             × (octets_taken reader.source ≡ 0)) }
@@ -103,9 +103,9 @@ impl<T: CaptureKind> CaptureReader<T> {
         requires sound { IsSound T.kind self.old.run }
         requires few { octets_taken self.old.source + length octets.now < 2 ^ 100 }
         ensures taken { (start : Option (List ℕ)) (xs : List ℕ) →
-            Follows T.kind start (W.contents w.old) self.old.source self.old.run xs → MatchResult result
-            (λ _. Follows T.kind start (W.contents w.new) self.new.source self.new.run (xs ++ octets.now))
-            (λ fault. Stops T.kind (is_text self.old.source) start (W.contents w.new) self.new.run
+            SourceAfter T.kind start (W.contents w.old) self.old.source self.old.run xs → MatchResult result
+            (λ _. SourceAfter T.kind start (W.contents w.new) self.new.source self.new.run (xs ++ octets.now))
+            (λ fault. SourceStopsWith T.kind (is_text self.old.source) start (W.contents w.new) self.new.run
             (xs ++ octets.now) fault) }
         ensures text { is_text self.new.source ≡ is_text self.old.source }
         ensures few { OnOk result (octets_taken self.new.source ≤ octets_taken self.old.source + length octets.now) }
@@ -142,10 +142,10 @@ impl<T: CaptureKind> CaptureReader<T> {
     ) -> Result<(), ToolFault>
         requires sound { IsSound T.kind self.old.run }
         requires fresh { (start : Option (List ℕ)) →
-            Follows T.kind start start self.old.source self.old.run [] }
+            SourceAfter T.kind start start self.old.source self.old.run [] }
         requires few { octets_taken self.old.source ≡ 0 }
         ensures read { (xs : List ℕ) × Consumes (R.remaining r.old) (R.remaining r.new) xs
-            × Finishes T.kind (is_text self.old.source) reads (R.remaining r.new) (W.contents w.old)
+            × ReadStopsWith T.kind (is_text self.old.source) reads (R.remaining r.new) (W.contents w.old)
             (W.contents w.new) self.new.run xs result }
         ensures same { IsSame T.kind self.old.run self.new.run }
         ensures sound { IsSound T.kind self.new.run }

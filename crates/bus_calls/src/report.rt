@@ -4,7 +4,7 @@ ghost use Rattle.std.specs.Prelude.{◌+◌, ◌*◌, ◌++◌, ◌<◌, ◌≤�
 ghost use Rattle.arrayvec.specs.ArrayVec.{array_vec_len};
 ghost use Rattle.bus_pairing.specs.History.{history, tally};
 ghost use Rattle.bus_text.specs.CheckText.{tallies_text, history_text, check_text};
-ghost use Rattle.bus_text.specs.Put.{Cuts};
+ghost use Rattle.bus_text.specs.Put.{TextStopsAt};
 ghost use Rattle.bus_text.specs.Pages.{Pages};
 ghost use Rattle.bus_calls.specs.Internal.Watching.{reports_by};
 
@@ -19,13 +19,13 @@ fn put_tallies<T: CaptureKind, W: Write>(
     w: &mut W,
 ) -> Result<(), ShortWrite>
     requires { page.old.written + array_vec_len page.old.text < 2 ^ 90 }
-    ensures put { (start : Option (List ℕ)) (text : List ℕ) (b : List T.Taken) →
+    ensures put { (start : Option (List ℕ)) (text : List ℕ) (b : List T.Received) →
         T.kind.watch.is_after analyser.now b →
         Pages start (W.contents w.old) page.old.text page.old.written text → MatchResult result
         (λ _. Pages start (W.contents w.new) page.new.text page.new.written
         (text ++ tallies_text (tally (T.kind.watch.dictionary analyser.now) (reports_by T.kind.watch analyser.now b))
         256))
-        (λ cut. Cuts start (W.contents w.new)
+        (λ cut. TextStopsAt start (W.contents w.new)
         (text ++ tallies_text (tally (T.kind.watch.dictionary analyser.now) (reports_by T.kind.watch analyser.now b))
         256)
         cut.sent) }
@@ -46,13 +46,13 @@ fn put_history<T: CaptureKind, W: Write>(
     w: &mut W,
 ) -> Result<(), ShortWrite>
     requires { page.old.written + array_vec_len page.old.text < 2 ^ 95 }
-    ensures put { (start : Option (List ℕ)) (text : List ℕ) (b : List T.Taken) →
+    ensures put { (start : Option (List ℕ)) (text : List ℕ) (b : List T.Received) →
         T.kind.watch.is_after analyser.now b →
         Pages start (W.contents w.old) page.old.text page.old.written text → MatchResult result
         (λ _. Pages start (W.contents w.new) page.new.text page.new.written
         (text ++ history_text T.kind.form.is_two
         (history (T.kind.watch.depth analyser.now) (reports_by T.kind.watch analyser.now b))))
-        (λ cut. Cuts start (W.contents w.new)
+        (λ cut. TextStopsAt start (W.contents w.new)
         (text ++ history_text T.kind.form.is_two
         (history (T.kind.watch.depth analyser.now) (reports_by T.kind.watch analyser.now b))) cut.sent) }
     ensures few { OnOk result (page.new.written < 2 ^ 96) }
@@ -71,14 +71,14 @@ pub fn put_report<T: CaptureKind, W: Write>(
     w: &mut W,
 ) -> Result<(), ShortWrite>
     requires { page.old.written + array_vec_len page.old.text < 2 ^ 80 }
-    ensures put { (start : Option (List ℕ)) (text : List ℕ) (b : List T.Taken) →
+    ensures put { (start : Option (List ℕ)) (text : List ℕ) (b : List T.Received) →
         T.kind.watch.is_after analyser.now b →
         Pages start (W.contents w.old) page.old.text page.old.written text → MatchResult result
         (λ _. Pages start (W.contents w.new) page.new.text page.new.written
         (text ++ check_text T.kind.form.is_two summary.now
         (tally (T.kind.watch.dictionary analyser.now) (reports_by T.kind.watch analyser.now b))
         (history (T.kind.watch.depth analyser.now) (reports_by T.kind.watch analyser.now b))))
-        (λ cut. Cuts start (W.contents w.new)
+        (λ cut. TextStopsAt start (W.contents w.new)
         (text ++ check_text T.kind.form.is_two summary.now
         (tally (T.kind.watch.dictionary analyser.now) (reports_by T.kind.watch analyser.now b))
         (history (T.kind.watch.depth analyser.now) (reports_by T.kind.watch analyser.now b))) cut.sent) }

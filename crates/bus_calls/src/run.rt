@@ -17,14 +17,14 @@ pub struct CaptureRun<T> {
 }
 
 impl<T: CaptureKind> CaptureRun<T> {
-    ghost use Rattle.bus_calls.specs.Internal.Watching.{IsSound, Watches, IsCutIn, lines, last_lines};
+    ghost use Rattle.bus_calls.specs.Internal.Watching.{IsSound, WatchAfter, IsCutIn, lines, last_lines};
     ghost use Rattle.bus_calls.specs.Internal.Watching.{reported};
 
     /// Writes the lines of the end of a capture, and what is left of the page, and flushes.
     pub fn end<W: Write>(self, w: &mut W) -> Result<Summary, ToolFault>
         requires { IsSound T.kind self }
-        ensures { (start : Option (List ℕ)) (b : List T.Taken) →
-            Watches T.kind start (W.contents w.old) self b → MatchResult result
+        ensures { (start : Option (List ℕ)) (b : List T.Received) →
+            WatchAfter T.kind start (W.contents w.old) self b → MatchResult result
             (λ s. Appends start (W.contents w.new) (lines T.kind self b ++ last_lines T.kind self b)
             × (s ≡ self.reporter.summary))
             (λ fault. IsCutIn start (W.contents w.new) (lines T.kind self b ++ last_lines T.kind self b) fault) }
@@ -47,8 +47,8 @@ impl<T: CaptureKind> CaptureRun<T> {
     /// Writes the report of a check, and flushes.
     pub fn report<W: Write>(self, w: &mut W) -> Result<Summary, ToolFault>
         requires { IsSound T.kind self }
-        ensures { (start : Option (List ℕ)) (b : List T.Taken) →
-            Watches T.kind start (W.contents w.old) self b → MatchResult result
+        ensures { (start : Option (List ℕ)) (b : List T.Received) →
+            WatchAfter T.kind start (W.contents w.old) self b → MatchResult result
             (λ s. Appends start (W.contents w.new) (lines T.kind self b ++ reported T.kind self b)
             × (s ≡ self.reporter.summary))
             (λ fault. IsCutIn start (W.contents w.new) (lines T.kind self b ++ reported T.kind self b) fault) }

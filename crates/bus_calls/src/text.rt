@@ -3,7 +3,7 @@
 ghost use Rattle.std.specs.Prelude.{◌≡◌, ◌+◌, ◌≤◌, ◌<◌, ◌^◌, ℕ, List, [], ◌∷◌, ◌++◌, Option, MatchResult, OnOk, IfOk};
 ghost use Rattle.std.specs.Prelude.{length, take, true};
 ghost use Rattle.bus_calls.specs.Internal.Watching.{IsSound, IsSame};
-ghost use Rattle.bus_calls.specs.Internal.Sessions.{FollowsOctets, FollowsText, Stops};
+ghost use Rattle.bus_calls.specs.Internal.Sessions.{OctetsAfter, TextAfter, SourceStopsWith};
 
 use crate::capture_kind::CaptureKind;
 use crate::run::CaptureRun;
@@ -28,9 +28,9 @@ fn analyse_octet<T: CaptureKind, W: Write>(
 ) -> Result<(), ToolFault>
     requires { IsSound T.kind run.old }
     ensures taken { (start : Option (List ℕ)) (xs : List ℕ) → at ≡ length xs →
-        FollowsOctets T.kind start (W.contents w.old) run.old xs → MatchResult result
-        (λ _. FollowsOctets T.kind start (W.contents w.new) run.new (xs ++ octet ∷ []))
-        (λ fault. Stops T.kind true start (W.contents w.new) run.new (xs ++ octet ∷ []) fault) }
+        OctetsAfter T.kind start (W.contents w.old) run.old xs → MatchResult result
+        (λ _. OctetsAfter T.kind start (W.contents w.new) run.new (xs ++ octet ∷ []))
+        (λ fault. SourceStopsWith T.kind true start (W.contents w.new) run.new (xs ++ octet ∷ []) fault) }
     ensures same { IsSame T.kind run.old run.new }
     ensures sound { IsSound T.kind run.new }
 {
@@ -54,9 +54,9 @@ impl TextCapture {
         requires sound { IsSound T.kind run.old }
         requires few { self.old.at + length octets.now < 2 ^ 100 }
         ensures taken { (start : Option (List ℕ)) (xs : List ℕ) →
-            FollowsText T.kind start (W.contents w.old) self.old run.old xs → MatchResult result
-            (λ _. FollowsText T.kind start (W.contents w.new) self.new run.new (xs ++ octets.now))
-            (λ fault. Stops T.kind true start (W.contents w.new) run.new (xs ++ octets.now) fault) }
+            TextAfter T.kind start (W.contents w.old) self.old run.old xs → MatchResult result
+            (λ _. TextAfter T.kind start (W.contents w.new) self.new run.new (xs ++ octets.now))
+            (λ fault. SourceStopsWith T.kind true start (W.contents w.new) run.new (xs ++ octets.now) fault) }
         ensures at { OnOk result (self.new.at ≡ self.old.at + length octets.now) }
         ensures same { IsSame T.kind run.old run.new }
         ensures sound { IsSound T.kind run.new }

@@ -4,9 +4,9 @@ ghost use Rattle.std.specs.Prelude.{◌≡◌, ◌+◌, ◌*◌, ◌≤◌, ◌<
 ghost use Rattle.std.specs.Prelude.{zip};
 ghost use Rattle.bus_bits.specs.Bits.{bits_from};
 ghost use Rattle.bus_calls.specs.Internal.TwoLines.{two_line_kind};
-ghost use Rattle.bus_calls.specs.Internal.Watching.{FeedHalts, Feeds, IsSame, IsSound};
+ghost use Rattle.bus_calls.specs.Internal.Watching.{FeedStopsWith, FeedAfter, IsSame, IsSound};
 ghost use Rattle.bus_text.specs.Counting.{IsFew};
-ghost use Rattle.bus_text.specs.Adds.{Prints};
+ghost use Rattle.bus_text.specs.Advances.{AdvancesPage};
 ghost use Rattle.bus_text.specs.Pages.{HasRoomFor};
 ghost use Rattle.bus_text.specs.Listing.{listing};
 ghost use Rattle.bus_text.specs.Summary.{summary_of};
@@ -43,10 +43,10 @@ fn analyse_pairs<C: Check, W: Write>(
     requires sound { IsSound (two_line_kind C.check) run.old }
     requires enough { (count ≤ 8 * length first.now) × (count ≤ 8 * length second.now) }
     ensures taken { (start : Option (List ℕ)) (b : List (Bool × Bool)) →
-        Feeds (two_line_kind C.check) start (W.contents w.old) run.old b → MatchResult result
-        (λ _. Feeds (two_line_kind C.check) start (W.contents w.new) run.new
+        FeedAfter (two_line_kind C.check) start (W.contents w.old) run.old b → MatchResult result
+        (λ _. FeedAfter (two_line_kind C.check) start (W.contents w.new) run.new
         (b ++ zip (bits_from first.now 0 count) (bits_from second.now 0 count)))
-        (λ fault. FeedHalts (two_line_kind C.check) start (W.contents w.new) run.new
+        (λ fault. FeedStopsWith (two_line_kind C.check) start (W.contents w.new) run.new
         (b ++ zip (bits_from first.now 0 count) (bits_from second.now 0 count)) fault) }
     ensures same { IsSame (two_line_kind C.check) run.old run.new }
     ensures sound { IsSound (two_line_kind C.check) run.new }
@@ -68,7 +68,7 @@ fn analyse_pairs<C: Check, W: Write>(
 impl<C: Check> CaptureKind for PairAnalyser<C> {
     type Symbol = (bool, bool);
 
-    type Taken = (bool, bool);
+    type Received = (bool, bool);
 
     type Body = PackedPairs;
 

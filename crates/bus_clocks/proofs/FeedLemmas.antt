@@ -6,7 +6,7 @@ use Rattle.std.proofs.lemmas.List.{take_more, take-append-drop}
 use Rattle.bus_pairing.specs.declared.line.Line.{Line}
 use Rattle.bus_pairing.specs.declared.line.Line.TheVariants.{First, Second}
 use Rattle.bus_clocks.specs.Arrival.{Arrival, own}
-use Rattle.bus_clocks.specs.Clocks.{ClockState, RunsPast, decoder_on}
+use Rattle.bus_clocks.specs.Clocks.{ClockState, ExceedsPlaces, decoder_on}
 use Rattle.bus_clocks.proofs.ArrivalLemmas.{own-append}
 use Rattle.bus_clocks.proofs.RoomLemmas.{own-count}
 
@@ -41,7 +41,7 @@ one-own (First, bit) = refl
 one-own (Second, bit) = refl
 
 -- where no arrival runs past the last place
-pub room-all : {C : Type 0} (a : ClockState C) (xs : List Arrival) → (RunsPast a xs → ⊥) → (line : Line) →
+pub room-all : {C : Type 0} (a : ClockState C) (xs : List Arrival) → (ExceedsPlaces a xs → ⊥) → (line : Line) →
     (decoder_on a line).place + length (own line xs) ≤ 2 ^ 60
 room-all a xs none First = elim (cases_lt (2 ^ 60) (a.first.place + length (own First xs))) [
   | inl far ↦ absurd (none (inl far))
@@ -64,7 +64,7 @@ second-own (Second, bit) is = refl
 pub room-is : {C : Type 0} (a : ClockState C) (xs : List Arrival) (count first second : ℕ) →
     count ≡ length (own First xs) → first ≡ a.first.place → second ≡ a.second.place → first ≤ 2 ^ 60 →
     second ≤ 2 ^ 60 → count ≤ 2 ^ 60 - first →
-    IsTrue (leb (length xs - count) (2 ^ 60 - second)) ↔ (RunsPast a xs → ⊥)
+    IsTrue (leb (length xs - count) (2 ^ 60 - second)) ↔ (ExceedsPlaces a xs → ⊥)
 room-is a xs count first second is first_is second_is first_fits second_fits near = (
   (λ fits runs. elim runs [
     | inl far ↦ omega (arith, far, is, first_is, near, first_fits)

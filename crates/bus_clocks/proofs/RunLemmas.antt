@@ -18,7 +18,7 @@ use Rattle.bus_watch.specs.declared.fault.FeedFault.TheVariants.{PlaceLimit, Sin
 use Rattle.bus_watch.specs.declared.fault.RunFault.TheVariants.{Feed}
 use Rattle.bus_watch.specs.declared.pair.usage.PairUsage.{PairUsage}
 use Rattle.bus_clocks.specs.Arrival.{Arrival, own, arrived, decides}
-use Rattle.bus_clocks.specs.Clocks.{ClockState, IsAfterArrivals, RunsPast, two_clocks}
+use Rattle.bus_clocks.specs.Clocks.{ClockState, IsAfterArrivals, ExceedsPlaces, two_clocks}
 use Rattle.bus_clocks.specs.Headline.{ClockHeadline, WholeClockRun, StoppedAtArrival, ClockFails, all_seen_of_arrivals}
 use Rattle.bus_clocks.specs.Laws.{ArrivalsGrow}
 use Rattle.bus_clocks.proofs.FeedLemmas.{arrival_at, front-more, room-all}
@@ -117,7 +117,7 @@ stopped-at-arrival view sink a e xs s t consumed are grow new at =
 -- a fault of `feed`
 pub clock-fails : {A C : Type 0} (r : Result A FeedFault) (fault : FeedFault) (depth origin : ℕ) (a : ClockState C)
     (xs : List Arrival) (Stopped : ℕ → Type 0) → r ≡ Err fault → CanBeMade depth origin →
-    (r ≡ Err PlaceLimit) ↔ RunsPast a xs → a.first.place ≡ origin → a.second.place ≡ 0 → ForSink fault Stopped →
+    (r ≡ Err PlaceLimit) ↔ ExceedsPlaces a xs → a.first.place ≡ origin → a.second.place ≡ 0 → ForSink fault Stopped →
     ClockFails depth origin xs Stopped (Feed fault)
 clock-fails r PlaceLimit depth origin a xs Stopped is can limit first second stopped = (
   can,

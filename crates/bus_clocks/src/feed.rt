@@ -3,7 +3,7 @@
 ghost use Rattle.std.specs.Prelude.{◌≡◌, ◌-◌, ◌<◌, ◌≤◌, ◌^◌, ◌↔◌, ◌∷◌, [], IsErrOf, IfErr, OnOk, OnErr, IsTrue, length};
 ghost use Rattle.bus_bits.specs.Limits.{most_places};
 ghost use Rattle.bus_clocks.specs.Arrival.{own};
-ghost use Rattle.bus_clocks.specs.Clocks.{two_clocks, decoder_on, CountsOn, RunsPast};
+ghost use Rattle.bus_clocks.specs.Clocks.{two_clocks, decoder_on, CountsOn, ExceedsPlaces};
 ghost use Rattle.bus_pairing.specs.Sink.{SinkTook};
 ghost use Rattle.bus_pairing.specs.declared.line.Line.TheVariants.{First};
 ghost use Rattle.bus_watch.specs.Fed.{FedBy, RefusedBy, RefusedByAt, ForSink};
@@ -45,7 +45,7 @@ impl<C: Check> TwoClockAnalyser<C> {
     ///   seen at them was handed over, but for that report.
     pub fn feed<S: PairSink>(&mut self, arrivals: &[Arrival], sink: &mut S) -> Result<(), FeedFault>
         requires { S.sink.refusals sink.old < 2 ^ 64 - 1 }
-        ensures limit { IsErrOf result FeedFault.PlaceLimit ↔ RunsPast self.old arrivals.now }
+        ensures limit { IsErrOf result FeedFault.PlaceLimit ↔ ExceedsPlaces self.old arrivals.now }
         ensures unchanged { IsErrOf result FeedFault.PlaceLimit → (self.new ≡ self.old) × (sink.new ≡ sink.old) }
         ensures fed { OnOk result
             (FedBy (two_clocks C.check) S.sink self.old arrivals.now self.new sink.old sink.new) }
@@ -71,7 +71,7 @@ impl<C: Check> TwoClockAnalyser<C> {
 
     /// Whether all these bits have a place.
     fn has_room(&self, arrivals: &[Arrival]) -> bool
-        ensures { IsTrue result ↔ (RunsPast self.now arrivals.now → ⊥) }
+        ensures { IsTrue result ↔ (ExceedsPlaces self.now arrivals.now → ⊥) }
     {
         let first = count_first(arrivals);
         let second = arrivals.len() - first;

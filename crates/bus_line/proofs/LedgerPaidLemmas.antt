@@ -16,7 +16,7 @@ use Rattle.bus_line.specs.Due.{Mark, NoMark, FlagAt, AbortAt, current, class_of,
 use Rattle.bus_line.specs.Due.{reports, places}
 use Rattle.bus_line.specs.Ledger.{is_inserted, is_stored, stored, stored_from, kind_octets, octet_count, copied}
 use Rattle.bus_line.specs.Internal.EndedMark.{HasEnded}
-use Rattle.bus_line.specs.Internal.RunsTo.{closed_piece}
+use Rattle.bus_line.specs.Internal.AdvancesTo.{closed_piece}
 use Rattle.bus_line.specs.declared.decoder.ended_mark.EndedMark.{EndedMark}
 use Rattle.bus_line.specs.declared.decoder.ended_mark.EndedMark.TheVariants.{FlagMark, AbortMark, IdleMark, Other}
 use Rattle.bus_line.specs.Internal.Tracks.{settled_data}

@@ -19,7 +19,7 @@ pub mod SettleLemmas
 pub mod AdvanceLemmas
 pub mod DecidesLemmas
 pub mod TimeFillLemmas
-pub mod RunsToLemmas
+pub mod AdvancesToLemmas
 pub mod FlagLemmas
 pub mod ClassLemmas
 pub mod LedgerPaidLemmas

@@ -14,7 +14,7 @@ use Rattle.bus_line.specs.Internal.Run.{ones_at_end, data_so_far, ones_after}
 use Rattle.bus_line.specs.Due.{Mark, NoMark, FlagAt, AbortAt, current, piece_report, due_at}
 use Rattle.bus_line.specs.Ledger.{is_settled, belongs, is_inserted, assembled, is_stored, stored}
 use Rattle.bus_line.specs.Internal.LineState.{LineState}
-use Rattle.bus_line.specs.Internal.RunsTo.{closed_piece}
+use Rattle.bus_line.specs.Internal.AdvancesTo.{closed_piece}
 use Rattle.bus_line.specs.Internal.LineView.{settles_from}
 use Rattle.bus_line.specs.Internal.Tracks.{first_of, settled_data, padded, Holds, HoldsFor, Counts, HasTaken, Tracks}
 use Rattle.bus_line.proofs.RunLemmas.{data_after-more}

@@ -5,7 +5,7 @@ pub mod LineView
 pub mod Settled
 pub mod Flags
 pub mod TimeFill
-pub mod RunsTo
+pub mod AdvancesTo
 pub mod EndedMark
 pub mod Inserting
 pub mod EncoderState

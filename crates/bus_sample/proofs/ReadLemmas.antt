@@ -10,7 +10,7 @@ use Rattle.std.specs.Io.KnownBytes.{IsAtEnd}
 use Rattle.arrayvec.specs.ArrayVec.{array_vec_len}
 use Rattle.bus_sample.specs.Recording.{recorded, cut_record, size_of}
 use Rattle.bus_sample.specs.Samples.{IsFrontOf}
-use Rattle.bus_sample.specs.Internal.Runs.{HasTaken, HasRead, HaltsIn, Finishes}
+use Rattle.bus_sample.specs.Internal.Runs.{HasTaken, HasRead, StopsWith, ReadStopsWith}
 use Rattle.bus_sample.specs.declared.options.Form.{Form}
 use Rattle.bus_sample.specs.declared.reader.SampleRun.{SampleRun}
 use Rattle.bus_sample.specs.declared.fault.SampleFault.{SampleFault}
@@ -21,8 +21,8 @@ use Rattle.bus_sample.proofs.RecordLemmas.{recorded-grows}
 pub read-whole : (start now : Option (List ℕ)) (new : SampleRun) (form : Form) (xs ss : List ℕ)
     (r : Result (Unit {0}) SampleFault) → new.options.form ≡ form → recorded form xs ≡ ss → cut_record form xs ≡ [] →
     new.part.items ≡ [] → new.octets ≡ length xs →
-    MatchResult r (λ _. HasTaken start now new ss) (λ fault. HaltsIn start now new ss fault) →
-    MatchResult r (λ _. HasRead start now new xs) (λ fault. HaltsIn start now new (recorded form xs) fault)
+    MatchResult r (λ _. HasTaken start now new ss) (λ fault. StopsWith start now new ss fault) →
+    MatchResult r (λ _. HasRead start now new xs) (λ fault. StopsWith start now new (recorded form xs) fault)
 read-whole start now new form xs ss (Ok _) same is none part octets taken = record {
   taken = subst (λ f. HasTaken start now new (recorded f xs)) (sym same)
       (subst (λ samples. HasTaken start now new samples) (sym is) taken);
@@ -39,7 +39,7 @@ front-further xs ys zs further front = (
 )
 
 pub halts-further : (start now : Option (List ℕ)) (run : SampleRun) (samples more : List ℕ) (fault : SampleFault) →
-    IsFrontOf more samples → HaltsIn start now run samples fault → HaltsIn start now run more fault
+    IsFrontOf more samples → StopsWith start now run samples fault → StopsWith start now run more fault
 halts-further start now run samples more (Write sent) further halts = (
   halts.0,
   front-further halts.0 samples more further halts.1,
@@ -69,8 +69,8 @@ read-next start now run xs ys i x read inside is =
 
 pub halts-at : (start now : Option (List ℕ)) (run : SampleRun) (form : Form) (xs ys : List ℕ) (i x : ℕ)
     (fault : SampleFault) → 1 ≤ size_of form → i < length ys → x ≡ get_or ys i 0 →
-    HaltsIn start now run (recorded form ((xs ++ take i ys) ++ x ∷ [])) fault →
-    HaltsIn start now run (recorded form (xs ++ ys)) fault
+    StopsWith start now run (recorded form ((xs ++ take i ys) ++ x ∷ [])) fault →
+    StopsWith start now run (recorded form (xs ++ ys)) fault
 halts-at start now run form xs ys i x fault some inside is halts =
     let front = (xs ++ take i ys) ++ x ∷ [] in
     let whole : front ++ drop (i + 1) ys ≡ xs ++ ys = grind (arith, common_steps) in
@@ -82,8 +82,8 @@ all-octets i ys all = grind (arith, common_steps)
 
 -- how the reading ended
 pub halts-finishes : (after start now : Option (List ℕ)) (run : SampleRun) (form : Form) (xs : List ℕ)
-    (fault : SampleFault) → run.options.form ≡ form → HaltsIn start now run (recorded form xs) fault →
-    Finishes after start now run xs (Err fault)
+    (fault : SampleFault) → run.options.form ≡ form → StopsWith start now run (recorded form xs) fault →
+    ReadStopsWith after start now run xs (Err fault)
 halts-finishes after start now run form xs (Write sent) is halts = rw is halts
 halts-finishes after start now run form xs TooMany is halts = rw is halts
 halts-finishes after start now run form xs Octets is halts = absurd halts
@@ -95,7 +95,7 @@ pub ends-finishes : (after start now : Option (List ℕ)) (run : SampleRun) (xs 
     (r : Result (Unit {0}) SampleFault) → IsAtEnd after → HasRead start now run xs →
     MatchResult r (λ _. array_vec_len run.part ≡ 0)
     (λ fault. (0 < array_vec_len run.part) × (fault ≡ CutOff (run.octets - array_vec_len run.part))) →
-    Finishes after start now run xs r
+    ReadStopsWith after start now run xs r
 ends-finishes after start now run xs (Ok _) end read none =
     (end, nothing (cut_record run.options.form xs) (sym (ap length read.part) ∙ none), read)
   where
@@ -135,8 +135,8 @@ read-alike start now run xs ys at n x read inside is same =
 pub halts-alike : (start now : Option (List ℕ)) (run : SampleRun) (form : Form) (xs ys : List ℕ) (at n x : ℕ)
     (fault : SampleFault) → 1 ≤ size_of form → at < length ys → x ≡ get_or ys at 0 →
     take n (take (length ys - at) (drop at ys)) ≡ replicate n (slice_index (take (length ys - at) (drop at ys)) 0) →
-    HaltsIn start now run (recorded form ((xs ++ take at ys) ++ replicate n x)) fault →
-    HaltsIn start now run (recorded form (xs ++ ys)) fault
+    StopsWith start now run (recorded form ((xs ++ take at ys) ++ replicate n x)) fault →
+    StopsWith start now run (recorded form (xs ++ ys)) fault
 halts-alike start now run form xs ys at n x fault some inside is same halts =
     let front = xs ++ take (at + n) ys in
     let whole : front ++ drop (at + n) ys ≡ xs ++ ys = grind (arith, common_steps) in

@@ -4,7 +4,7 @@ use Rattle.std.specs.Io.KnownBytes.{Appends, IsAtEnd}
 use Rattle.bus_bits.specs.Limits.{most_places}
 use Rattle.bus_clocks.specs.Facts.{AreTapFacts}
 use Rattle.bus_clocks.specs.declared.facts.TapFacts.{TapFacts}
-use Rattle.bus_text.specs.Put.{Cuts}
+use Rattle.bus_text.specs.Put.{TextStopsAt}
 use Rattle.bus_sample.specs.Recording.{recorded, cut_record, levels, arrivals, size_of}
 use Rattle.bus_sample.specs.Marks.{marks_text, whole_text}
 use Rattle.bus_sample.specs.declared.options.SampleOptions.{SampleOptions}
@@ -45,4 +45,5 @@ SamplesBy o after start now xs (Err Read) =
 SamplesBy o after start now xs (Err ReadsLimit) =
     HasSize o × (o.reads ≤ length xs) × Appends start now (marks_text (arrivals o (recorded o.form xs)))
 SamplesBy o after start now xs (Err (Write sent)) =
-    (front text : List ℕ) × IsFrontOf (recorded o.form xs) front × IsTextOf o front text × Cuts start now text sent
+    (front text : List ℕ) × IsFrontOf (recorded o.form xs) front × IsTextOf o front text
+    × TextStopsAt start now text sent

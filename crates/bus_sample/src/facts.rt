@@ -3,7 +3,7 @@
 ghost use Rattle.std.specs.Prelude.{◌+◌, ◌++◌, ◌≤◌, ◌<◌, length, OnOk, IfErr, take};
 ghost use Rattle.std.specs.Io.KnownBytes.{Appends};
 ghost use Rattle.arrayvec.specs.ArrayVec.{array_vec_len};
-ghost use Rattle.bus_text.specs.Adds.{Adds};
+ghost use Rattle.bus_text.specs.Advances.{AdvancesText};
 ghost use Rattle.bus_sample.specs.Facts.{facts_text, gap_line, level_line, number_line, occurrences_line};
 
 use arrayvec::ArrayVec;
@@ -18,7 +18,7 @@ const ROOM: usize = 2048;
 fn push_count(text: &mut ArrayVec<u8, ROOM>, name: &[u8], n: u64)
     requires room { array_vec_len text.old + 60 ≤ 2048 }
     requires short { length name.now ≤ 12 }
-    ensures { Adds text.old (number_line name.now n) 40 text.new }
+    ensures { AdvancesText text.old (number_line name.now n) 40 text.new }
 {
     push_octets(text, name);
     text.push(b' ');
@@ -30,7 +30,7 @@ fn push_count(text: &mut ArrayVec<u8, ROOM>, name: &[u8], n: u64)
 fn push_level(text: &mut ArrayVec<u8, ROOM>, name: &[u8], level: bool)
     requires room { array_vec_len text.old + 60 ≤ 2048 }
     requires short { length name.now ≤ 12 }
-    ensures { Adds text.old (level_line name.now level) 40 text.new }
+    ensures { AdvancesText text.old (level_line name.now level) 40 text.new }
 {
     push_count(text, name, if level { 1 } else { 0 });
 }
@@ -39,7 +39,7 @@ fn push_level(text: &mut ArrayVec<u8, ROOM>, name: &[u8], level: bool)
 fn push_occurrences(text: &mut ArrayVec<u8, ROOM>, name: &[u8], occurrences: &Occurrences)
     requires room { array_vec_len text.old + 80 ≤ 2048 }
     requires short { length name.now ≤ 12 }
-    ensures { Adds text.old (occurrences_line name.now occurrences.now) 80 text.new }
+    ensures { AdvancesText text.old (occurrences_line name.now occurrences.now) 80 text.new }
 {
     push_octets(text, name);
     text.push(b' ');
@@ -55,7 +55,7 @@ fn push_occurrences(text: &mut ArrayVec<u8, ROOM>, name: &[u8], occurrences: &Oc
 fn push_gap(text: &mut ArrayVec<u8, ROOM>, name: &[u8], gap: &Gap)
     requires room { array_vec_len text.old + 80 ≤ 2048 }
     requires short { length name.now ≤ 12 }
-    ensures { Adds text.old (gap_line name.now gap.now) 60 text.new }
+    ensures { AdvancesText text.old (gap_line name.now gap.now) 60 text.new }
 {
     push_octets(text, name);
     text.push(b' ');
@@ -68,7 +68,7 @@ fn push_gap(text: &mut ArrayVec<u8, ROOM>, name: &[u8], gap: &Gap)
 /// Appends the lines of all facts.
 fn push_facts(text: &mut ArrayVec<u8, ROOM>, facts: &TapFacts)
     requires { array_vec_len text.old ≤ 0 }
-    ensures { Adds text.old (facts_text facts.now) 2048 text.new }
+    ensures { AdvancesText text.old (facts_text facts.now) 2048 text.new }
 {
     push_count(text, b"samples", facts.samples);
     push_level(text, b"txc-level", facts.first_levels.clock);

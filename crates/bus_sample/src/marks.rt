@@ -5,7 +5,7 @@ ghost use Rattle.arrayvec.specs.ArrayVec.{array_vec_len};
 ghost use Rattle.bus_clocks.specs.Arrival.{Arrival};
 ghost use Rattle.bus_clocks.specs.Sampled.{bits_of_edges, bit_on};
 ghost use Rattle.bus_text.specs.Pages.{Pages};
-ghost use Rattle.bus_text.specs.Put.{Cuts};
+ghost use Rattle.bus_text.specs.Put.{TextStopsAt};
 ghost use Rattle.bus_sample.specs.Marks.{mark, marks_text, whole_text};
 ghost use Rattle.bus_sample.specs.Internal.Runs.{HasMarked, length_of};
 ghost use Rattle.std.specs.Io.KnownBytes.{Appends};
@@ -54,7 +54,7 @@ impl Marks {
         ensures put { (start : Option (List ℕ)) (xs : List Arrival) →
             HasMarked start (W.contents w.old) self.old xs → MatchResult result
             (λ _. HasMarked start (W.contents w.new) self.new (xs ++ bits_of_edges edges))
-            (λ cut. Cuts start (W.contents w.new) (marks_text (xs ++ bits_of_edges edges)) cut.sent) }
+            (λ cut. TextStopsAt start (W.contents w.new) (marks_text (xs ++ bits_of_edges edges)) cut.sent) }
         ensures few { OnOk result (length_of self.new ≤ length_of self.old + 4) }
         ensures kept { OnErr result (self.new ≡ self.old) }
     {
@@ -105,7 +105,7 @@ impl Marks {
         ensures { (start : Option (List ℕ)) (xs : List Arrival) →
             HasMarked start (W.contents w.old) self.old xs → MatchResult result
             (λ _. Appends start (W.contents w.new) (whole_text xs))
-            (λ cut. Cuts start (W.contents w.new) (whole_text xs) cut.sent) }
+            (λ cut. TextStopsAt start (W.contents w.new) (whole_text xs) cut.sent) }
     {
         self.page.make_room(w)?;
         self.end_line();

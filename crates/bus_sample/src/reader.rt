@@ -6,7 +6,7 @@ ghost use Rattle.std.specs.Prelude.{length, replicate, take, slice_index, IsTrue
 ghost use Rattle.std.specs.Io.KnownBytes.{Consumes};
 ghost use Rattle.bus_sample.specs.Recording.{recorded, record_number, run_of, size_of};
 ghost use Rattle.bus_sample.specs.Samples.{HasSize, SamplesBy};
-ghost use Rattle.bus_sample.specs.Internal.Runs.{HasTaken, HasRead, HaltsIn, Finishes, IsSameRecord, IsSound};
+ghost use Rattle.bus_sample.specs.Internal.Runs.{HasTaken, HasRead, StopsWith, ReadStopsWith, IsSameRecord, IsSound};
 ghost use Rattle.bus_sample.specs.declared.options.Form.TheVariants.{Samples};
 ghost use Rattle.bus_sample.specs.declared.fault.SampleFault.TheVariants.{Octets, CutOff, Write};
 ghost use Rattle.arrayvec.specs.ArrayVec.{array_vec_len};
@@ -73,7 +73,7 @@ impl SampleRun {
         requires some { 1 ≤ count }
         ensures taken { (start : Option (List ℕ)) (ss : List ℕ) → HasTaken start (W.contents w.old) self.old ss →
             MatchResult result (λ n. HasTaken start (W.contents w.new) self.new (ss ++ replicate n sample))
-            (λ fault. HaltsIn start (W.contents w.new) self.new (ss ++ replicate count sample) fault) }
+            (λ fault. StopsWith start (W.contents w.new) self.new (ss ++ replicate count sample) fault) }
         ensures count { IfOk result (λ n. (1 ≤ n) × (n ≤ count)) }
         ensures same { IsSameRecord self.old self.new }
         ensures sound { IsSound self.new }
@@ -102,7 +102,7 @@ impl SampleRun {
         requires { IsSound self.old }
         ensures taken { (start : Option (List ℕ)) (ss : List ℕ) → HasTaken start (W.contents w.old) self.old ss →
             MatchResult result (λ _. HasTaken start (W.contents w.new) self.new (ss ++ replicate count sample))
-            (λ fault. HaltsIn start (W.contents w.new) self.new (ss ++ replicate count sample) fault) }
+            (λ fault. StopsWith start (W.contents w.new) self.new (ss ++ replicate count sample) fault) }
         ensures same { IsSameRecord self.old self.new }
         ensures sound { IsSound self.new }
     {
@@ -119,7 +119,7 @@ impl SampleRun {
         ensures taken { (start : Option (List ℕ)) (ss : List ℕ) → HasTaken start (W.contents w.old) self.old ss →
             MatchResult result
             (λ _. HasTaken start (W.contents w.new) self.new (ss ++ run_of self.old.options.form number))
-            (λ fault. HaltsIn start (W.contents w.new) self.new (ss ++ run_of self.old.options.form number) fault) }
+            (λ fault. StopsWith start (W.contents w.new) self.new (ss ++ run_of self.old.options.form number) fault) }
         ensures same { IsSameRecord self.old self.new }
         ensures sound { IsSound self.new }
     {
@@ -135,7 +135,7 @@ impl SampleRun {
         requires few { self.old.octets < 2 ^ 100 }
         ensures read { (start : Option (List ℕ)) (xs : List ℕ) → HasRead start (W.contents w.old) self.old xs →
             MatchResult result (λ _. HasRead start (W.contents w.new) self.new (xs ++ octet ∷ []))
-            (λ fault. HaltsIn start (W.contents w.new) self.new (recorded self.old.options.form (xs ++ octet ∷ []))
+            (λ fault. StopsWith start (W.contents w.new) self.new (recorded self.old.options.form (xs ++ octet ∷ []))
             fault) }
         ensures octets { self.new.octets ≡ self.old.octets + 1 }
         ensures options { self.new.options ≡ self.old.options }
@@ -157,7 +157,7 @@ impl SampleRun {
         requires few { self.old.octets + length octets.now < 2 ^ 100 }
         ensures read { (start : Option (List ℕ)) (xs : List ℕ) → HasRead start (W.contents w.old) self.old xs →
             MatchResult result (λ _. HasRead start (W.contents w.new) self.new (xs ++ octets.now))
-            (λ fault. HaltsIn start (W.contents w.new) self.new (recorded self.old.options.form (xs ++ octets.now))
+            (λ fault. StopsWith start (W.contents w.new) self.new (recorded self.old.options.form (xs ++ octets.now))
             fault) }
         ensures octets { OnOk result (self.new.octets ≡ self.old.octets + length octets.now) }
         ensures options { self.new.options ≡ self.old.options }
@@ -179,7 +179,7 @@ impl SampleRun {
         requires few { self.old.octets + length octets.now < 2 ^ 100 }
         ensures read { (start : Option (List ℕ)) (xs : List ℕ) → HasRead start (W.contents w.old) self.old xs →
             MatchResult result (λ _. HasRead start (W.contents w.new) self.new (xs ++ octets.now))
-            (λ fault. HaltsIn start (W.contents w.new) self.new (recorded self.old.options.form (xs ++ octets.now))
+            (λ fault. StopsWith start (W.contents w.new) self.new (recorded self.old.options.form (xs ++ octets.now))
             fault) }
         ensures octets { OnOk result (self.new.octets ≡ self.old.octets + length octets.now) }
         ensures options { self.new.options ≡ self.old.options }
@@ -206,7 +206,7 @@ impl SampleRun {
         requires few { self.old.octets + count < 2 ^ 100 }
         ensures read { (start : Option (List ℕ)) (xs : List ℕ) → HasRead start (W.contents w.old) self.old xs →
             MatchResult result (λ _. HasRead start (W.contents w.new) self.new (xs ++ replicate count octet))
-            (λ fault. HaltsIn start (W.contents w.new) self.new
+            (λ fault. StopsWith start (W.contents w.new) self.new
             (recorded self.old.options.form (xs ++ replicate count octet)) fault) }
         ensures octets { self.new.octets ≡ self.old.octets + count }
         ensures options { self.new.options ≡ self.old.options }
@@ -222,7 +222,7 @@ impl SampleRun {
         requires few { self.old.octets + length octets.now < 2 ^ 100 }
         ensures read { (start : Option (List ℕ)) (xs : List ℕ) → HasRead start (W.contents w.old) self.old xs →
             MatchResult result (λ _. HasRead start (W.contents w.new) self.new (xs ++ octets.now))
-            (λ fault. HaltsIn start (W.contents w.new) self.new (recorded self.old.options.form (xs ++ octets.now))
+            (λ fault. StopsWith start (W.contents w.new) self.new (recorded self.old.options.form (xs ++ octets.now))
             fault) }
         ensures octets { OnOk result (self.new.octets ≡ self.old.octets + length octets.now) }
         ensures options { self.new.options ≡ self.old.options }
@@ -258,7 +258,7 @@ impl SampleRun {
         requires fresh { (start : Option (List ℕ)) → HasRead start start self.old [] }
         requires none { self.old.octets ≡ 0 }
         ensures read { (xs : List ℕ) × Consumes (R.remaining r.old) (R.remaining r.new) xs
-            × Finishes (R.remaining r.new) (W.contents w.old) (W.contents w.new) self.new xs result }
+            × ReadStopsWith (R.remaining r.new) (W.contents w.old) (W.contents w.new) self.new xs result }
         ensures options { self.new.options ≡ self.old.options }
         ensures sound { IsSound self.new }
     {
@@ -278,7 +278,7 @@ impl SampleRun {
     pub(crate) fn end<W: Write>(&mut self, w: &mut W) -> Result<TapFacts, SampleFault>
         requires { IsSound self.old }
         ensures { (after start : Option (List ℕ)) (xs : List ℕ) →
-            Finishes after start (W.contents w.old) self.old xs (Ok tt)
+            ReadStopsWith after start (W.contents w.old) self.old xs (Ok tt)
             → SamplesBy self.old.options after start (W.contents w.new) xs result }
     {
         match self.marks.end(w) {
@@ -291,7 +291,7 @@ impl SampleRun {
     pub(crate) fn close_behind<W: Write>(&mut self, fault: SampleFault, w: &mut W) -> SampleFault
         requires { IsSound self.old }
         ensures { (after start : Option (List ℕ)) (xs : List ℕ) →
-            Finishes after start (W.contents w.old) self.old xs (Err fault)
+            ReadStopsWith after start (W.contents w.old) self.old xs (Err fault)
             → SamplesBy self.old.options after start (W.contents w.new) xs (Err result) }
     {
         if is_cut(&fault) {

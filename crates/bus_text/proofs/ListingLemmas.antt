@@ -9,7 +9,7 @@ use Rattle.bus_dictionary.specs.Entry.{FrameType}
 use Rattle.bus_pairing.specs.Seen.{SeenReport}
 use Rattle.bus_text.specs.Listing.{Line, is_left, text_of, report_line, verdict_line, stray_lines, seen_lines, lines_of}
 use Rattle.bus_text.specs.Listing.{listing}
-use Rattle.bus_text.specs.Adds.{Prints}
+use Rattle.bus_text.specs.Advances.{AdvancesPage}
 use Rattle.bus_text.specs.declared.filter.Filter.{Filter}
 use Rattle.bus_text.specs.declared.page.Page.{Page}
 use Rattle.bus_text.specs.declared.printer.Printer.{Printer}
@@ -30,28 +30,28 @@ text-one f l = elim (is_left f l) as (λ b.
     ]
 
 -- a page that stays is one on which nothing is put
-pub nothing-put : (most : ℕ) (page : Page) → Prints page [] most page
+pub nothing-put : (most : ℕ) (page : Page) → AdvancesPage page [] most page
 nothing-put most page = record { bytes = sym (append-nil page.text.items); len = omega arith; written = refl }
 
 -- nothing is put for no lines
 pub put-none : (f : Filter) (lines : List Line) (most : ℕ) (page : Page) → lines ≡ [] →
-    Prints page (text_of f lines) most page
+    AdvancesPage page (text_of f lines) most page
 unfolding text_of
 put-none f lines most page none = rw none (nothing-put most page)
 
 -- nothing is put for a line that the filter drops
 pub put-dropped : (f : Filter) (l : Line) (most : ℕ) (page : Page) → is_left f l ≡ false →
-    Prints page (text_of f (l ∷ [])) most page
+    AdvancesPage page (text_of f (l ∷ [])) most page
 put-dropped f l most page dropped = rw (text-one f l) (rw dropped (nothing-put most page))
 
 -- the text of a line that the filter leaves
 pub put-left : (f : Filter) (l : Line) {most : ℕ} {page new : Page} → is_left f l ≡ true →
-    Prints page l.text most new → Prints page (text_of f (l ∷ [])) most new
+    AdvancesPage page l.text most new → AdvancesPage page (text_of f (l ∷ [])) most new
 put-left f l left put = rw (text-one f l) (rw left put)
 
 -- two texts are put, one after the other
-pub put-behind : {first second : List ℕ} {m n : ℕ} {page mid new : Page} → Prints page first m mid →
-    Prints mid second n new → Prints page (first ++ second) (m + n) new
+pub put-behind : {first second : List ℕ} {m n : ℕ} {page mid new : Page} → AdvancesPage page first m mid →
+    AdvancesPage mid second n new → AdvancesPage page (first ++ second) (m + n) new
 put-behind {first = first} {second = second} {page = page} before behind = record {
   bytes = behind.bytes ∙ ap (λ t. t ++ second) before.bytes ∙ append_assoc page.text.items first second;
   len = omega (arith, before.len, behind.len);
@@ -59,8 +59,9 @@ put-behind {first = first} {second = second} {page = page} before behind = recor
 }
 
 -- the texts of some lines and of more
-pub put-both : (f : Filter) (xs ys : List Line) {m n : ℕ} {page mid new : Page} → Prints page (text_of f xs) m mid →
-    Prints mid (text_of f ys) n new → Prints page (text_of f (xs ++ ys)) (m + n) new
+pub put-both : (f : Filter) (xs ys : List Line) {m n : ℕ} {page mid new : Page} →
+    AdvancesPage page (text_of f xs) m mid →
+    AdvancesPage mid (text_of f ys) n new → AdvancesPage page (text_of f (xs ++ ys)) (m + n) new
 put-both f xs ys before behind = rw (text-append f xs ys) (put-behind before behind)
 
 -- the listing of reports is in parts
@@ -84,8 +85,8 @@ listing-one p d s =
 
 -- they were put, one after the other
 pub put-one : (p : Printer) (d : List FrameType) (s : SeenReport) {k m n : ℕ} {page own verdict all : Page}
-    → Prints page (text_of p.filter (report_line p.heads d s ∷ [])) k own →
-    Prints own (text_of p.filter (option_to_list (option_map (verdict_line s.line) s.verdict))) m verdict
-    → Prints verdict (text_of p.filter (stray_lines p.heads s)) n all →
-    Prints page (listing p d (s ∷ [])) (k + (m + n)) all
+    → AdvancesPage page (text_of p.filter (report_line p.heads d s ∷ [])) k own →
+    AdvancesPage own (text_of p.filter (option_to_list (option_map (verdict_line s.line) s.verdict))) m verdict
+    → AdvancesPage verdict (text_of p.filter (stray_lines p.heads s)) n all →
+    AdvancesPage page (listing p d (s ∷ [])) (k + (m + n)) all
 put-one p d s own verdict stray = rw (listing-one p d s) (put-behind own (put-behind verdict stray))

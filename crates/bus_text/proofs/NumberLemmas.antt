@@ -3,7 +3,7 @@ use Rattle.std.proofs.Common.{arith, ◌≡◌, refl, sym, ◌∙◌, ap, ◌+�
 use Rattle.std.proofs.Common.{take, map, get_or}
 use Rattle.std.proofs.Common.{decimal, drop, length, length-append}
 use Rattle.arrayvec.specs.ArrayVec.{ArrayVec}
-use Rattle.bus_text.specs.Adds.{Adds}
+use Rattle.bus_text.specs.Advances.{AdvancesText}
 use Rattle.std.proofs.lemmas.List.{take_at, drop_at}
 use borrow.Rule.Slice.PartMut.{put_mid}
 use Rattle.std.specs.List.{range_with_len}
@@ -27,7 +27,7 @@ mid-written front part after new text a k is begin long =
 -- a number was appended, of which these are the digits
 pub adds-digits : (old new : ArrayVec ℕ) (n : ℕ) (digits : List ℕ) → new.items ≡ old.items ++ digits → decimal n
     ≡ digits
-    → length digits ≤ 3 → Adds old (decimal n) 3 new
+    → length digits ≤ 3 → AdvancesText old (decimal n) 3 new
 adds-digits old new n digits put is few = record {
   bytes = put ∙ ap (λ l. old.items ++ l) (sym is);
   len = omega (arith, ap length put, length-append old.items digits, few);

@@ -5,8 +5,8 @@ use Rattle.std.specs.Io.KnownBytes.{Appends}
 use Rattle.std.proofs.Math.Seq.{take-length}
 use Rattle.std.proofs.lemmas.List.{take-append-le}
 use Rattle.arrayvec.specs.ArrayVec.{ArrayVec, array_vec_len}
-use Rattle.bus_text.specs.Put.{Cuts}
-use Rattle.bus_text.specs.Adds.{Prints}
+use Rattle.bus_text.specs.Put.{TextStopsAt}
+use Rattle.bus_text.specs.Advances.{AdvancesPage}
 use Rattle.bus_text.specs.Pages.{Pages}
 use Rattle.bus_text.specs.declared.page.Page.{Page}
 
@@ -24,14 +24,14 @@ pages-more start now page page' written text more put pages = record {
 
 -- likewise what is printed on it
 pub pages-printed : {start now : Option (List ℕ)} {page new : Page} {text more : List ℕ} {most : ℕ}
-    → Prints page more most new → Pages start now page.text page.written text →
+    → AdvancesPage page more most new → Pages start now page.text page.written text →
     Pages start now new.text new.written (text ++ more)
 pages-printed {start = start} {now = now} {page = page} {new = new} {text = text} {more = more} put before =
     rw put.written (pages-more start now page.text new.text page.written text more put.bytes before)
 
 -- what was cut short is a front of the text however it goes on
-pub cuts-more : (start now : Option (List ℕ)) (text more : List ℕ) (sent : ℕ) → Cuts start now text sent →
-    Cuts start now (text ++ more) sent
+pub cuts-more : (start now : Option (List ℕ)) (text more : List ℕ) (sent : ℕ) → TextStopsAt start now text sent →
+    TextStopsAt start now (text ++ more) sent
 cuts-more start now text more sent cut = record {
   out = subst (Appends start now) (sym (take-append-le sent text more cut.within)) cut.out;
   within = omega (arith, cut.within, length-append text more);
@@ -52,7 +52,7 @@ pages-whole start now page written text none pages =
 
 -- and nothing more is sent by what keeps it
 pub whole-cut : (start now : Option (List ℕ)) (text : List ℕ) (sent : ℕ) →
-    Appends start now text × (sent ≡ length text) → Cuts start now text sent
+    Appends start now text × (sent ≡ length text) → TextStopsAt start now text sent
 whole-cut start now text sent whole = record {
   out = subst (λ n. Appends start now (take n text)) (sym whole.1)
       (subst (Appends start now) (sym (take-length text)) whole.0);

@@ -6,6 +6,6 @@ pub mod Counting
 pub mod CheckText
 pub mod Given
 pub mod Put
-pub mod Adds
+pub mod Advances
 pub mod Pages
 pub mod Show

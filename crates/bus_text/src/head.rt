@@ -4,7 +4,7 @@ ghost use Rattle.std.specs.Prelude.{◌≡◌, ◌+◌, ◌≤◌, length};
 ghost use Rattle.arrayvec.specs.ArrayVec.{array_vec_len};
 ghost use Rattle.bus_dictionary.specs.Dictionary.{entry_at};
 ghost use Rattle.bus_text.specs.HeadText.{name_of, typed_text, head_text};
-ghost use Rattle.bus_text.specs.Adds.{Adds};
+ghost use Rattle.bus_text.specs.Advances.{AdvancesText};
 
 use crate::line::push_station;
 use crate::number::push_octet_number;
@@ -29,7 +29,7 @@ fn type_name(dictionary: &Dictionary, ftype: u8) -> &str
 fn push_typed<const N: usize>(text: &mut ArrayVec<u8, N>, station: u8, ftype: u8, what: &str)
     requires room { array_vec_len text.old + 61 ≤ N }
     requires short { length what.now ≤ 40 }
-    ensures { Adds text.old (typed_text station ftype what.now) 61 text.new }
+    ensures { AdvancesText text.old (typed_text station ftype what.now) 61 text.new }
 {
     push_station(text, station, ftype);
     text.push(b' ');
@@ -44,7 +44,7 @@ pub(crate) fn push_head<const N: usize>(
     dictionary: &Dictionary,
 )
     requires { array_vec_len text.old + 61 ≤ N }
-    ensures { Adds text.old (head_text standing dictionary.now) 61 text.new }
+    ensures { AdvancesText text.old (head_text standing dictionary.now) 61 text.new }
 {
     match standing {
         Standing::Known { station, ftype } => {

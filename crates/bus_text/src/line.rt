@@ -6,7 +6,7 @@ ghost use Rattle.bus_line.specs.Limits.{most_octets};
 ghost use Rattle.bus_line.specs.Shown.{kind_with, reported, span_of};
 ghost use Rattle.bus_text.specs.Listing.{cause_word, line_number, span_text, report_word};
 ghost use Rattle.bus_text.specs.HeadText.{station_text};
-ghost use Rattle.bus_text.specs.Adds.{Adds};
+ghost use Rattle.bus_text.specs.Advances.{AdvancesText};
 
 use crate::hex_digits::push_hex;
 use crate::number::push_octet_number;
@@ -23,7 +23,7 @@ pub(crate) type FrameLine = ArrayVec<u8, 640>;
 #[inline(always)]
 pub(crate) fn push_station<const N: usize>(text: &mut ArrayVec<u8, N>, station: u8, ftype: u8)
     requires { array_vec_len text.old + 20 ≤ N }
-    ensures { Adds text.old (station_text station ftype) 20 text.new }
+    ensures { AdvancesText text.old (station_text station ftype) 20 text.new }
 {
     push_octets(text, b"station ");
     push_octet_number(text, station);
@@ -35,7 +35,7 @@ pub(crate) fn push_station<const N: usize>(text: &mut ArrayVec<u8, N>, station: 
 #[inline(always)]
 pub(crate) fn push_line_number<const N: usize>(text: &mut ArrayVec<u8, N>, line: Option<Line>)
     requires { array_vec_len text.old + 2 ≤ N }
-    ensures { Adds text.old (line_number line) 2 text.new }
+    ensures { AdvancesText text.old (line_number line) 2 text.new }
 {
     match line {
         None => {}
@@ -48,7 +48,7 @@ pub(crate) fn push_line_number<const N: usize>(text: &mut ArrayVec<u8, N>, line:
 #[inline(always)]
 pub(crate) fn push_span<const N: usize>(text: &mut ArrayVec<u8, N>, places: &mut Places, span: Span)
     requires { array_vec_len text.old + 42 ≤ N }
-    ensures { Adds text.old (span_text span) 42 text.new }
+    ensures { AdvancesText text.old (span_text span) 42 text.new }
 {
     places.push(text, span.first);
     places.push(text, span.past);
@@ -58,7 +58,7 @@ pub(crate) fn push_span<const N: usize>(text: &mut ArrayVec<u8, N>, places: &mut
 #[inline(never)]
 fn push_cause<const N: usize>(text: &mut ArrayVec<u8, N>, cause: Cause)
     requires { array_vec_len text.old + 9 ≤ N }
-    ensures { Adds text.old (cause_word cause) 9 text.new }
+    ensures { AdvancesText text.old (cause_word cause) 9 text.new }
 {
     match cause {
         Cause::Unstuffed => push_octets(text, b"unstuffed"),
@@ -73,7 +73,7 @@ fn push_cause<const N: usize>(text: &mut ArrayVec<u8, N>, cause: Cause)
 fn push_word<const N: usize>(text: &mut ArrayVec<u8, N>, kind: EventKind, octets: &[u8])
     requires room { array_vec_len text.old + 522 ≤ N }
     requires held { length octets.now ≤ most_octets }
-    ensures { Adds text.old (report_word (kind_with octets.now kind)) 522 text.new }
+    ensures { AdvancesText text.old (report_word (kind_with octets.now kind)) 522 text.new }
 {
     match kind {
         EventKind::Frame => {
@@ -101,7 +101,7 @@ pub(crate) fn push_front<const N: usize>(
 )
     requires room { array_vec_len text.old + 564 ≤ N }
     requires held { length octets.now ≤ most_octets }
-    ensures { Adds text.old
+    ensures { AdvancesText text.old
         (span_text (span_of (reported octets.now event.now)) ++ report_word (reported octets.now event.now).kind)
         564 text.new }
 {

@@ -2,7 +2,7 @@
 
 ghost use Rattle.std.specs.Prelude.{◌+◌, ◌≤◌, decimal};
 ghost use Rattle.arrayvec.specs.ArrayVec.{array_vec_len};
-ghost use Rattle.bus_text.specs.Adds.{Adds};
+ghost use Rattle.bus_text.specs.Advances.{AdvancesText};
 
 use crate::text::push_octets;
 use arrayvec::ArrayVec;
@@ -11,7 +11,7 @@ use itoa::Buffer;
 /// Appends a number in decimal.
 pub fn push_number<const N: usize>(text: &mut ArrayVec<u8, N>, n: u64)
     requires { array_vec_len text.old + 20 ≤ N }
-    ensures { Adds text.old (decimal n) 20 text.new }
+    ensures { AdvancesText text.old (decimal n) 20 text.new }
 {
     let mut buffer = Buffer::new();
     push_octets(text, buffer.format(n).as_bytes());
@@ -21,7 +21,7 @@ pub fn push_number<const N: usize>(text: &mut ArrayVec<u8, N>, n: u64)
 #[inline(always)]
 pub(crate) fn push_octet_number<const N: usize>(text: &mut ArrayVec<u8, N>, octet: u8)
     requires { array_vec_len text.old + 3 ≤ N }
-    ensures { Adds text.old (decimal octet) 3 text.new }
+    ensures { AdvancesText text.old (decimal octet) 3 text.new }
 {
     let last = b'0' + octet % 10;
     if octet < 10 {

@@ -4,7 +4,7 @@ ghost use Rattle.std.specs.Prelude.{◌≡◌, ◌+◌, ◌<◌, ◌≤◌, ◌^
 ghost use Rattle.std.specs.Prelude.{length};
 ghost use Rattle.std.specs.Io.KnownBytes.{Appends};
 ghost use Rattle.arrayvec.specs.ArrayVec.{array_vec_len};
-ghost use Rattle.bus_text.specs.Put.{Cuts};
+ghost use Rattle.bus_text.specs.Put.{TextStopsAt};
 ghost use Rattle.bus_text.specs.Pages.{HasRoomFor, Pages};
 
 use crate::places::Places;
@@ -49,7 +49,7 @@ impl Page {
         ensures turned { (start : Option (List ℕ)) (text : List ℕ) →
             Pages start (W.contents w.old) self.old.text self.old.written text → MatchResult result
             (λ _. Pages start (W.contents w.new) self.new.text self.new.written text)
-            (λ cut. Cuts start (W.contents w.new) text cut.sent) }
+            (λ cut. TextStopsAt start (W.contents w.new) text cut.sent) }
         ensures kept { OnErr result (self.new ≡ self.old) }
         ensures short { IfErr result (λ cut. cut.sent < self.old.written + array_vec_len self.old.text) }
         ensures empty { OnOk result (array_vec_len self.new.text ≡ 0) }
@@ -72,7 +72,7 @@ impl Page {
         ensures turned { (start : Option (List ℕ)) (text : List ℕ) →
             Pages start (W.contents w.old) self.old.text self.old.written text → MatchResult result
             (λ _. Pages start (W.contents w.new) self.new.text self.new.written text)
-            (λ cut. Cuts start (W.contents w.new) text cut.sent) }
+            (λ cut. TextStopsAt start (W.contents w.new) text cut.sent) }
         ensures kept { OnErr result (self.new ≡ self.old) }
         ensures short { IfErr result (λ cut. cut.sent < self.old.written + array_vec_len self.old.text) }
         ensures room { OnOk result (HasRoomFor 2048 self.new) }
@@ -91,7 +91,7 @@ impl Page {
         ensures closed { (start : Option (List ℕ)) (text : List ℕ) →
             Pages start (W.contents w.old) self.old.text self.old.written text → MatchResult result
             (λ _. Appends start (W.contents w.new) text)
-            (λ cut. Cuts start (W.contents w.new) text cut.sent) }
+            (λ cut. TextStopsAt start (W.contents w.new) text cut.sent) }
         ensures empty { OnOk result (array_vec_len self.new.text ≡ 0) }
         ensures sum { OnOk result (self.new.written ≡ self.old.written + array_vec_len self.old.text) }
     {

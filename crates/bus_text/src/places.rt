@@ -2,7 +2,7 @@
 
 ghost use Rattle.std.specs.Prelude.{◌≡◌, ◌+◌, ◌*◌, ◌/◌, ◌^◌, ◌++◌, ◌<◌, ◌≤◌, ℕ, length, codes, decimal};
 ghost use Rattle.arrayvec.specs.ArrayVec.{array_vec_len};
-ghost use Rattle.bus_text.specs.Adds.{Adds};
+ghost use Rattle.bus_text.specs.Advances.{AdvancesText};
 
 use crate::number::push_number;
 use crate::text::push_octets;
@@ -54,7 +54,7 @@ impl Places {
     #[inline(always)]
     pub fn push<const N: usize>(&mut self, text: &mut ArrayVec<u8, N>, place: u64)
         requires { array_vec_len text.old + 21 ≤ N }
-        ensures { Adds text.old (decimal place ++ codes " ") 21 text.new }
+        ensures { AdvancesText text.old (decimal place ++ codes " ") 21 text.new }
     {
         if place < 10000 {
             push_number(text, place);

@@ -12,7 +12,7 @@ ghost use Rattle.bus_text.specs.Kinds.{kind_word};
 ghost use Rattle.bus_text.specs.Listing.{report_kind, report_line, outcome_kind, frame_line, verdict_line, begun_line};
 ghost use Rattle.bus_text.specs.Listing.{begun_lines, pending_lines, strays_at, head_part, text_of, listing, passes};
 ghost use Rattle.bus_text.specs.Listing.{station_of, line_of_commands, ending_text, ending_lines, pair_ending_lines};
-ghost use Rattle.bus_text.specs.Adds.{Adds, Prints};
+ghost use Rattle.bus_text.specs.Advances.{AdvancesText, AdvancesPage};
 ghost use Rattle.bus_text.specs.Pages.{HasRoomFor};
 
 use crate::filter::Filter;
@@ -77,7 +77,7 @@ fn line_of_commands(line: Option<Line>) -> Option<Line>
 #[inline(always)]
 fn push_kind<const N: usize>(text: &mut ArrayVec<u8, N>, kind: Kind)
     requires { array_vec_len text.old + 9 ≤ N }
-    ensures { Adds text.old (kind_word kind ++ codes " ") 9 text.new }
+    ensures { AdvancesText text.old (kind_word kind ++ codes " ") 9 text.new }
 {
     push_octets(text, kind.word().as_bytes());
     text.push(b' ');
@@ -87,7 +87,7 @@ fn push_kind<const N: usize>(text: &mut ArrayVec<u8, N>, kind: Kind)
 #[inline(always)]
 fn push_frame(page: &mut Page, line: Option<Line>, kind: Kind, span: Span, station: u8, ftype: u8)
     requires { HasRoomFor 100 page.old }
-    ensures { Prints page.old (frame_line line kind span station ftype).text 100 page.new }
+    ensures { AdvancesPage page.old (frame_line line kind span station ftype).text 100 page.new }
 {
     push_line_number(&mut page.text, line);
     push_span(&mut page.text, &mut page.places, span);
@@ -100,7 +100,7 @@ fn push_frame(page: &mut Page, line: Option<Line>, kind: Kind, span: Span, stati
 #[inline(always)]
 fn push_begun(page: &mut Page, line: Option<Line>, span: Span)
     requires { HasRoomFor 100 page.old }
-    ensures { Prints page.old (begun_line line span).text 100 page.new }
+    ensures { AdvancesPage page.old (begun_line line span).text 100 page.new }
 {
     push_line_number(&mut page.text, line);
     push_span(&mut page.text, &mut page.places, span);
@@ -132,8 +132,8 @@ impl Printer {
     )
         requires room { HasRoomFor 964 page.old }
         requires held { length octets.now ≤ most_octets }
-        ensures { Prints page.old (listing self.now dictionary.now (found_on line octets.now finding.now ∷ [])) 964
-            page.new }
+        ensures { AdvancesPage page.old
+            (listing self.now dictionary.now (found_on line octets.now finding.now ∷ [])) 964 page.new }
     {
         self.put_report(line, finding, octets, dictionary, page);
         self.put_verdict(line, finding.verdict, page);
@@ -167,7 +167,7 @@ impl Printer {
     )
         requires room { HasRoomFor 640 page.old }
         requires held { length octets.now ≤ most_octets }
-        ensures { Prints page.old
+        ensures { AdvancesPage page.old
             (text_of self.now.filter
             (report_line self.now.heads dictionary.now (found_on line octets.now finding.now) ∷ [])) 629
             page.new }
@@ -185,7 +185,7 @@ impl Printer {
     #[inline(always)]
     fn put_head(&self, standing: Option<Standing>, dictionary: &Dictionary, page: &mut Page)
         requires room { HasRoomFor 66 page.old }
-        ensures { Prints page.old (head_part self.now.heads dictionary.now standing) 62 page.new }
+        ensures { AdvancesPage page.old (head_part self.now.heads dictionary.now standing) 62 page.new }
     {
         let Some(standing) = standing else {
             return;
@@ -201,7 +201,7 @@ impl Printer {
     #[inline(always)]
     fn put_verdict(&self, line: Option<Line>, verdict: Option<Verdict>, page: &mut Page)
         requires room { HasRoomFor 100 page.old }
-        ensures { Prints page.old
+        ensures { AdvancesPage page.old
             (text_of self.now.filter (option_to_list (option_map (verdict_line line) verdict))) 100
             page.new }
     {
@@ -224,7 +224,7 @@ impl Printer {
     #[inline(always)]
     fn put_stray(&self, line: Option<Line>, finding: &Finding, page: &mut Page)
         requires room { HasRoomFor 100 page.old }
-        ensures { Prints page.old
+        ensures { AdvancesPage page.old
             (text_of self.now.filter
             (strays_at line self.now.heads finding.now.stray finding.now.event.span finding.now.standing)) 100
             page.new }
@@ -257,7 +257,7 @@ impl Printer {
         page: &mut Page,
     )
         requires room { HasRoomFor 100 page.old }
-        ensures { Prints page.old (text_of self.now.filter (frame_line line kind span station ftype ∷ [])) 100
+        ensures { AdvancesPage page.old (text_of self.now.filter (frame_line line kind span station ftype ∷ [])) 100
             page.new }
     {
         if !self.filter.passes(kind, Some(station), Some(ftype)) {
@@ -269,7 +269,7 @@ impl Printer {
     /// Puts the line of a piece that has begun on the page, if one has.
     fn put_begun(&self, line: Option<Line>, begun: Option<Span>, page: &mut Page)
         requires room { HasRoomFor 100 page.old }
-        ensures { Prints page.old (text_of self.now.filter (begun_lines line begun)) 100 page.new }
+        ensures { AdvancesPage page.old (text_of self.now.filter (begun_lines line begun)) 100 page.new }
     {
         let Some(span) = begun else {
             return;
@@ -283,7 +283,7 @@ impl Printer {
     /// Puts the line of a command without a verdict on the page, if there is one.
     fn put_pending(&self, line: Option<Line>, pending: Option<Pending>, page: &mut Page)
         requires room { HasRoomFor 100 page.old }
-        ensures { Prints page.old (text_of self.now.filter (pending_lines line pending)) 100 page.new }
+        ensures { AdvancesPage page.old (text_of self.now.filter (pending_lines line pending)) 100 page.new }
     {
         let Some(command) = pending else {
             return;
@@ -301,7 +301,7 @@ impl Printer {
     /// Puts the lines of the end on the page.
     pub fn put_ending(&self, ending: &Ending, page: &mut Page)
         requires room { HasRoomFor 200 page.old }
-        ensures { Prints page.old (ending_text self.now (ending_lines ending.now.begun ending.now.pending)) 200
+        ensures { AdvancesPage page.old (ending_text self.now (ending_lines ending.now.begun ending.now.pending)) 200
             page.new }
     {
         self.put_begun(None, ending.begun, page);
@@ -311,7 +311,7 @@ impl Printer {
     /// Puts the lines of the end of two lines on the page.
     pub fn put_pair_ending(&self, ending: &PairEnding, page: &mut Page)
         requires room { HasRoomFor 300 page.old }
-        ensures { Prints page.old
+        ensures { AdvancesPage page.old
             (ending_text self.now (pair_ending_lines ending.now.first ending.now.second ending.now.pending)) 300
             page.new }
     {

@@ -4,9 +4,9 @@ ghost use Rattle.std.specs.Prelude.{◌≡◌, ◌+◌, ◌++◌, ◌<◌, ◌�
 ghost use Rattle.std.specs.Prelude.{decimal};
 ghost use Rattle.arrayvec.specs.ArrayVec.{array_vec_len};
 ghost use Rattle.bus_text.specs.CheckText.{count_text, summary_text, tally_line, has_none, tally_text, last_text};
-ghost use Rattle.bus_text.specs.Put.{Cuts};
+ghost use Rattle.bus_text.specs.Put.{TextStopsAt};
 ghost use Rattle.bus_text.specs.Pages.{HasRoomFor, Pages};
-ghost use Rattle.bus_text.specs.Adds.{Adds, Prints};
+ghost use Rattle.bus_text.specs.Advances.{AdvancesText, AdvancesPage};
 
 use crate::hex_digits::push_hex;
 use crate::line::{push_line_number, push_span};
@@ -23,7 +23,7 @@ use std::io::Write;
 fn push_named<const N: usize>(text: &mut ArrayVec<u8, N>, name: &[u8], n: u64)
     requires room { array_vec_len text.old + 30 ≤ N }
     requires short { length name.now ≤ 10 }
-    ensures { Adds text.old (name.now ++ decimal n) 30 text.new }
+    ensures { AdvancesText text.old (name.now ++ decimal n) 30 text.new }
 {
     push_octets(text, name);
     push_number(text, n);
@@ -33,7 +33,7 @@ fn push_named<const N: usize>(text: &mut ArrayVec<u8, N>, name: &[u8], n: u64)
 fn push_count<const N: usize>(text: &mut ArrayVec<u8, N>, word: &[u8], count: u64)
     requires room { array_vec_len text.old + 30 ≤ N }
     requires short { length word.now ≤ 8 }
-    ensures { Adds text.old (count_text word.now count) 30 text.new }
+    ensures { AdvancesText text.old (count_text word.now count) 30 text.new }
 {
     push_octets(text, word);
     text.push(b' ');
@@ -44,7 +44,7 @@ fn push_count<const N: usize>(text: &mut ArrayVec<u8, N>, word: &[u8], count: u6
 /// Appends the ten counts, a line for each.
 fn push_summary<const N: usize>(text: &mut ArrayVec<u8, N>, summary: &Summary)
     requires { array_vec_len text.old + 300 ≤ N }
-    ensures { Adds text.old (summary_text summary.now) 300 text.new }
+    ensures { AdvancesText text.old (summary_text summary.now) 300 text.new }
 {
     push_count(text, b"frames", summary.frames);
     push_count(text, b"damaged", summary.damaged);
@@ -61,7 +61,7 @@ fn push_summary<const N: usize>(text: &mut ArrayVec<u8, N>, summary: &Summary)
 /// Appends the line of a station's verdicts.
 fn push_tally<const N: usize>(text: &mut ArrayVec<u8, N>, station: u8, counts: Counts)
     requires { array_vec_len text.old + 140 ≤ N }
-    ensures { Adds text.old (tally_line station counts) 140 text.new }
+    ensures { AdvancesText text.old (tally_line station counts) 140 text.new }
 {
     push_octets(text, b"station ");
     push_octet_number(text, station);
@@ -75,7 +75,7 @@ fn push_tally<const N: usize>(text: &mut ArrayVec<u8, N>, station: u8, counts: C
 /// Appends the line of a frame of the history.
 fn push_kept(page: &mut Page, line: Option<Line>, kept: &Kept)
     requires { HasRoomFor 572 page.old }
-    ensures { Prints page.old (last_text line kept.now.span kept.now.octets.items) 572 page.new }
+    ensures { AdvancesPage page.old (last_text line kept.now.span kept.now.octets.items) 572 page.new }
 {
     push_octets(&mut page.text, b"last ");
     push_line_number(&mut page.text, line);
@@ -101,7 +101,7 @@ pub fn put_summary<W: Write>(
     ensures put { (start : Option (List ℕ)) (text : List ℕ) →
         Pages start (W.contents w.old) page.old.text page.old.written text → MatchResult result
         (λ _. Pages start (W.contents w.new) page.new.text page.new.written (text ++ summary_text summary.now))
-        (λ cut. Cuts start (W.contents w.new) (text ++ summary_text summary.now) cut.sent) }
+        (λ cut. TextStopsAt start (W.contents w.new) (text ++ summary_text summary.now) cut.sent) }
     ensures few { OnOk result
         (page.new.written + array_vec_len page.new.text ≤ page.old.written + array_vec_len page.old.text + 300) }
 {
@@ -121,7 +121,7 @@ pub fn put_tally<W: Write>(
     ensures put { (start : Option (List ℕ)) (text : List ℕ) →
         Pages start (W.contents w.old) page.old.text page.old.written text → MatchResult result
         (λ _. Pages start (W.contents w.new) page.new.text page.new.written (text ++ tally_text station counts))
-        (λ cut. Cuts start (W.contents w.new) (text ++ tally_text station counts) cut.sent) }
+        (λ cut. TextStopsAt start (W.contents w.new) (text ++ tally_text station counts) cut.sent) }
     ensures few { OnOk result
         (page.new.written + array_vec_len page.new.text ≤ page.old.written + array_vec_len page.old.text + 140) }
 {
@@ -145,7 +145,8 @@ pub fn put_kept<W: Write>(
         Pages start (W.contents w.old) page.old.text page.old.written text → MatchResult result
         (λ _. Pages start (W.contents w.new) page.new.text page.new.written
         (text ++ last_text line kept.now.span kept.now.octets.items))
-        (λ cut. Cuts start (W.contents w.new) (text ++ last_text line kept.now.span kept.now.octets.items) cut.sent) }
+        (λ cut. TextStopsAt start (W.contents w.new)
+        (text ++ last_text line kept.now.span kept.now.octets.items) cut.sent) }
     ensures few { OnOk result
         (page.new.written + array_vec_len page.new.text ≤ page.old.written + array_vec_len page.old.text + 572) }
 {

@@ -327,7 +327,7 @@ impl PairSink for Collector {
     }
 }
 
-/// Feeds arrivals to a sink whose count of refusals has room for one more.
+/// FeedAfter arrivals to a sink whose count of refusals has room for one more.
 fn feed<C: Check>(
     rt: &impl Abort,
     analyser: &mut TwoClockAnalyser<C>,

@@ -230,7 +230,7 @@ fn analyser<C: Check>(rt: &impl Abort, alloc: Global) -> PairAnalyser<C> {
     new_analyser(rt, alloc, read(rt, alloc, CALLS), 2)
 }
 
-/// Feeds pairs to a sink whose count of refusals has room for two more.
+/// FeedAfter pairs to a sink whose count of refusals has room for two more.
 fn feed<C: Check>(
     rt: &impl Abort,
     analyser: &mut PairAnalyser<C>,

@@ -5,7 +5,7 @@ use Rattle.bus_dictionary.specs.Entry.{FrameType}
 use Rattle.bus_pairing.specs.Seen.{SeenReport}
 use Rattle.bus_text.specs.Counting.{IsFew}
 use Rattle.bus_text.specs.Pages.{Pages}
-use Rattle.bus_text.specs.Put.{Cuts}
+use Rattle.bus_text.specs.Put.{TextStopsAt}
 use Rattle.bus_text.specs.Summary.{summary_of}
 use Rattle.bus_text.specs.declared.page.Page.{Page}
 use Rattle.bus_text.specs.declared.put.ShortWrite.{ShortWrite}
@@ -15,7 +15,7 @@ use Rattle.bus_calls.specs.declared.reporter.Reporter.{Reporter}
 -- the writer went from `start` to `now` by a text, the last part of which stands on the page, or it was cut off in it
 abbrev pub IsOut : Option (List ℕ) → Option (List ℕ) → Page → Option ShortWrite → List ℕ → Type 0
 IsOut start now page None text = Pages start now page.text page.written text
-IsOut start now page (Some cut) text = Cuts start now text cut.sent × (cut.sent < length text)
+IsOut start now page (Some cut) text = TextStopsAt start now text cut.sent × (cut.sent < length text)
 
 -- these reports, told with this dictionary, lead the reporter and what the writer wrote on
 pub record ReportsSeen (d : List FrameType) (old : Reporter) (before : Option (List ℕ)) (seen : List SeenReport)

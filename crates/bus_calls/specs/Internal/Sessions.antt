@@ -3,7 +3,7 @@ use Rattle.std.specs.Prelude.{◌≡◌, ℕ, ◌<◌, Bool, true, false, List, 
 use Rattle.bus_bits.specs.Capture.{CaptureOf, CaptureFault}
 use Rattle.bus_calls.specs.Captures.{capture, whole_capture, IsSameFault}
 use Rattle.bus_calls.specs.Internal.Kinds.{KindView}
-use Rattle.bus_calls.specs.Internal.Watching.{Watches, Feeds, IsCutOff}
+use Rattle.bus_calls.specs.Internal.Watching.{WatchAfter, FeedAfter, IsCutOff}
 use Rattle.bus_calls.specs.declared.run.CaptureRun.{CaptureRun}
 use Rattle.bus_calls.specs.declared.text.TextCapture.{TextCapture}
 use Rattle.bus_calls.specs.declared.packed.PackedCapture.{PackedCapture}
@@ -36,31 +36,31 @@ module _ {A R X B : Type 0} (t : KindView A R X B) where
   IsReadBy (source.Packed p) xs = IsRead p.head.items p.body xs
 
   -- these octets of a text have no fault, and their bits were followed
-  pub record FollowsOctets (start now : Option (List ℕ)) (run : CaptureRun A) (xs : List ℕ) : Type 0 where
+  pub record OctetsAfter (start now : Option (List ℕ)) (run : CaptureRun A) (xs : List ℕ) : Type 0 where
     pub clean : (t.form.text xs).fault ≡ None
-    pub bits : Feeds t start now run (t.form.text xs).bits
+    pub bits : FeedAfter t start now run (t.form.text xs).bits
 
   -- these octets of a text were taken, and their bits followed
-  pub record FollowsText (start now : Option (List ℕ)) (text : TextCapture) (run : CaptureRun A)
+  pub record TextAfter (start now : Option (List ℕ)) (text : TextCapture) (run : CaptureRun A)
       (xs : List ℕ) : Type 0 where
     pub at : text.at ≡ length xs
     pub clean : (t.form.text xs).fault ≡ None
-    pub bits : Feeds t start now run (t.form.text xs).bits
+    pub bits : FeedAfter t start now run (t.form.text xs).bits
 
   -- these octets of a packed capture begin with a good head, and their bits were followed
-  pub record FollowsBody (start now : Option (List ℕ)) (body : B) (run : CaptureRun A) (xs : List ℕ) : Type 0 where
+  pub record BodyAfter (start now : Option (List ℕ)) (body : B) (run : CaptureRun A) (xs : List ℕ) : Type 0 where
     pub read : t.is_body body xs
-    pub bits : Feeds t start now run (t.form.packed xs).bits
+    pub bits : FeedAfter t start now run (t.form.packed xs).bits
 
   -- these octets of a packed capture were taken, and their bits followed
-  pub record FollowsPacked (start now : Option (List ℕ)) (p : PackedCapture B) (run : CaptureRun A)
+  pub record PackedSourceAfter (start now : Option (List ℕ)) (p : PackedCapture B) (run : CaptureRun A)
       (xs : List ℕ) : Type 0 where
     pub read : IsRead p.head.items p.body xs
-    pub bits : Feeds t start now run (t.form.packed xs).bits
+    pub bits : FeedAfter t start now run (t.form.packed xs).bits
 
-  abbrev pub Follows : Option (List ℕ) → Option (List ℕ) → Source B → CaptureRun A → List ℕ → Type 0
-  Follows start now (source.Text text) run xs = FollowsText start now text run xs
-  Follows start now (source.Packed p) run xs = FollowsPacked start now p run xs
+  abbrev pub SourceAfter : Option (List ℕ) → Option (List ℕ) → Source B → CaptureRun A → List ℕ → Type 0
+  SourceAfter start now (source.Text text) run xs = TextAfter start now text run xs
+  SourceAfter start now (source.Packed p) run xs = PackedSourceAfter start now p run xs
 
   -- this capture has a fault, and its bits with a place were followed
   pub record Faulty (start now : Option (List ℕ)) (run : CaptureRun A) (c : CaptureOf X)
@@ -68,13 +68,13 @@ module _ {A R X B : Type 0} (t : KindView A R X B) where
     pub cause : CaptureFault
     pub found : c.fault ≡ Some cause
     pub answered : IsSameFault fault cause
-    pub bits : Watches t start now run c.bits
+    pub bits : WatchAfter t start now run c.bits
 
   -- why the taking of octets stopped, whose bits are these: their fault, or the writer was cut off in the lines of
   -- some of them
-  abbrev pub StopsAt : Option (List ℕ) → Option (List ℕ) → CaptureRun A → CaptureOf X → ToolFault → Type 0
-  StopsAt start now run c (Write sent) = IsCutOff t start now run c.bits sent
-  StopsAt start now run c fault = Faulty start now run c fault
+  abbrev pub CaptureStopsWith : Option (List ℕ) → Option (List ℕ) → CaptureRun A → CaptureOf X → ToolFault → Type 0
+  CaptureStopsWith start now run c (Write sent) = IsCutOff t start now run c.bits sent
+  CaptureStopsWith start now run c fault = Faulty start now run c fault
 
-  abbrev pub Stops : Bool → Option (List ℕ) → Option (List ℕ) → CaptureRun A → List ℕ → ToolFault → Type 0
-  Stops text start now run xs fault = StopsAt start now run (taken_of text run xs) fault
+  abbrev pub SourceStopsWith : Bool → Option (List ℕ) → Option (List ℕ) → CaptureRun A → List ℕ → ToolFault → Type 0
+  SourceStopsWith text start now run xs fault = CaptureStopsWith start now run (taken_of text run xs) fault

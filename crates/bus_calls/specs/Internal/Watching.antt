@@ -13,7 +13,7 @@ use Rattle.bus_text.specs.Listing.{Line, listing, ending_text}
 use Rattle.bus_text.specs.Summary.{summary_of}
 use Rattle.bus_text.specs.Counting.{IsFew}
 use Rattle.bus_text.specs.Pages.{Pages}
-use Rattle.bus_text.specs.Put.{Cuts}
+use Rattle.bus_text.specs.Put.{TextStopsAt}
 use Rattle.bus_text.specs.CheckText.{check_text}
 use Rattle.bus_text.specs.declared.printer.Printer.{Printer}
 use Rattle.bus_calls.specs.Internal.Kinds.{KindView}
@@ -33,7 +33,7 @@ ended (Some p) lines = ending_text p lines
 
 -- the writer was cut off in this text
 abbrev pub IsCutIn : Option (List ℕ) → Option (List ℕ) → List ℕ → ToolFault → Type 0
-IsCutIn start now text (Write sent) = Cuts start now text sent
+IsCutIn start now text (Write sent) = TextStopsAt start now text sent
 IsCutIn start now text fault = ⊥
 
 -- of what has the place `origin` first, that with a place below 2^60
@@ -69,7 +69,7 @@ module _ {A R X B : Type 0} (t : KindView A R X B) where
       (history (t.watch.depth run.analyser) (reports_by t.watch run.analyser b))
 
   -- these bits were followed
-  pub record Watches (start now : Option (List ℕ)) (run : CaptureRun A) (b : List X) : Type 0 where
+  pub record WatchAfter (start now : Option (List ℕ)) (run : CaptureRun A) (b : List X) : Type 0 where
     pub is_after : t.watch.is_after run.analyser b
     pub counts : run.reporter.summary ≡ summary_of (seen_by t.watch run.analyser b)
     pub page : Pages start now run.reporter.page.text run.reporter.page.written (lines run b)
@@ -87,26 +87,26 @@ module _ {A R X B : Type 0} (t : KindView A R X B) where
     pub front : List X
     pub more : List X
     pub all : bits ≡ front ++ more
-    pub cut : Cuts start now (lines run front) sent
+    pub cut : TextStopsAt start now (lines run front) sent
     pub short : sent < length (lines run front)
 
   -- why the following of these bits stopped: only those with a place were followed, or the writer was cut off
-  abbrev pub Halts : Option (List ℕ) → Option (List ℕ) → CaptureRun A → List X → ToolFault → Type 0
-  Halts start now run b PlaceLimit =
+  abbrev pub WatchStopsWith : Option (List ℕ) → Option (List ℕ) → CaptureRun A → List X → ToolFault → Type 0
+  WatchStopsWith start now run b PlaceLimit =
       (most_places - t.watch.origin run.analyser < length b)
-      × Watches start now run (within (t.watch.origin run.analyser) b)
-  Halts start now run b (Write sent) = IsCutOff start now run (within (t.watch.origin run.analyser) b) sent
-  Halts start now run b fault = ⊥
+      × WatchAfter start now run (within (t.watch.origin run.analyser) b)
+  WatchStopsWith start now run b (Write sent) = IsCutOff start now run (within (t.watch.origin run.analyser) b) sent
+  WatchStopsWith start now run b fault = ⊥
 
   -- what the analyser takes of these symbols
   abbrev pub fed : CaptureRun A → List R → List X
   fed run b = t.form.fed (t.rest run.analyser) b
 
   -- these symbols came: what the analyser takes of them was followed
-  pub record Feeds (start now : Option (List ℕ)) (run : CaptureRun A) (b : List R) : Type 0 where
+  pub record FeedAfter (start now : Option (List ℕ)) (run : CaptureRun A) (b : List R) : Type 0 where
     pub rule : t.is_fed run.analyser b
-    pub bits : Watches start now run (fed run b)
+    pub bits : WatchAfter start now run (fed run b)
 
   -- why the following of what the analyser takes of them stopped
-  abbrev pub FeedHalts : Option (List ℕ) → Option (List ℕ) → CaptureRun A → List R → ToolFault → Type 0
-  FeedHalts start now run b fault = Halts start now run (fed run b) fault
+  abbrev pub FeedStopsWith : Option (List ℕ) → Option (List ℕ) → CaptureRun A → List R → ToolFault → Type 0
+  FeedStopsWith start now run b fault = WatchStopsWith start now run (fed run b) fault

@@ -11,7 +11,7 @@ use bus_fcs::Check;
 
 impl DecoderWords {
     ghost use Rattle.bus_line.specs.Words.{IsDecoder, AreDecoderWords, state};
-    ghost use Rattle.bus_line.specs.Internal.RunsTo.{Aborts, Closes, ClosesAs, DecidesLast};
+    ghost use Rattle.bus_line.specs.Internal.AdvancesTo.{Aborts, Closes, ClosesAs, DecidesLast};
 
     /// Finds whether the newest bit ends a flag, or is the seventh or the fifteenth one of a run, and
     /// returns what that decides.

@@ -11,7 +11,7 @@ use bus_fcs::Check;
 
 impl DecoderWords {
     ghost use Rattle.bus_line.specs.Words.{HasBits, IsDecoder, state};
-    ghost use Rattle.bus_line.specs.Internal.RunsTo.{RunsToStop};
+    ghost use Rattle.bus_line.specs.Internal.AdvancesTo.{AdvancesToStop};
 
     /// Takes bits up to the first that may decide a report: those of the piece that the last flag opens by strides of
     /// 56, up to the first after six ones, and others as time fill or up to 48.
@@ -27,7 +27,7 @@ impl DecoderWords {
         requires sound { IsDecoder self.old (F.octets frame.old) }
         requires bits { HasBits self.old octets.now from end }
         ensures count { (1 ≤ result.count) × (result.count ≤ end - from) }
-        ensures reaches { RunsToStop C.check (state self.old check.old (F.octets frame.old))
+        ensures reaches { AdvancesToStop C.check (state self.old check.old (F.octets frame.old))
             (bits_from octets.now from result.count) result.is_stop (state self.new check.new (F.octets frame.new)) }
         ensures sound { IsDecoder self.new (F.octets frame.new) }
     {

@@ -20,7 +20,7 @@ use std::cmp::min;
 impl DecoderWords {
     ghost use Rattle.bus_line.specs.Words.{HasBits, IsDecoder, AreDecoderWords, state};
     ghost use Rattle.bus_line.specs.After.{AdvancesWith, Decides};
-    ghost use Rattle.bus_line.specs.Internal.RunsTo.{RunsToStop};
+    ghost use Rattle.bus_line.specs.Internal.AdvancesTo.{AdvancesToStop};
     ghost use Rattle.bus_line.specs.Internal.Flags.{SkipsFlags};
     ghost use Rattle.bus_line.specs.Internal.TimeFill.{SkipsOnes, AreFlags};
 
@@ -86,7 +86,7 @@ impl DecoderWords {
         requires sound { IsDecoder self.old (F.octets frame.old) }
         requires bits { HasBits self.old octets.now from end }
         ensures count { (1 ≤ result.count) × (result.count ≤ end - from) }
-        ensures reaches { RunsToStop C.check (state self.old check.old (F.octets frame.old))
+        ensures reaches { AdvancesToStop C.check (state self.old check.old (F.octets frame.old))
             (bits_from octets.now from result.count) result.is_stop (state self.new check.new (F.octets frame.new)) }
         ensures sound { IsDecoder self.new (F.octets frame.new) }
     {

@@ -35,7 +35,7 @@ fn newest(last_bits: u64, bits: u64, count: u64) -> u64
 impl DecoderWords {
     ghost use Rattle.bus_line.specs.Words.{IsDecoder, AreDecoderWords, state};
     ghost use Rattle.bus_line.specs.After.{AdvancesWith};
-    ghost use Rattle.bus_line.specs.Internal.RunsTo.{ConsumesBits, RunsToStop};
+    ghost use Rattle.bus_line.specs.Internal.AdvancesTo.{ConsumesBits, AdvancesToStop};
 
     /// Takes a bit as [`LineDecoder::push`](crate::LineDecoder::push) does, with the octets of the piece and their
     /// check in the caller's hands. Returns the report that it decides, if it decides one.
@@ -74,7 +74,7 @@ impl DecoderWords {
         requires word { IsWordOf word.count word.bits }
         requires room { self.old.place + word.count ≤ most_places }
         ensures count { (1 ≤ result.count) × (result.count ≤ word.count) }
-        ensures reaches { RunsToStop C.check (state self.old check.old (F.octets frame.old))
+        ensures reaches { AdvancesToStop C.check (state self.old check.old (F.octets frame.old))
             (bits_of result.count word.bits) result.is_stop (state self.new check.new (F.octets frame.new)) }
         ensures sound { IsDecoder self.new (F.octets frame.new) }
     {

@@ -6,7 +6,7 @@ use Rattle.bus_bits.specs.Limits.{most_places}
 use Rattle.bus_clocks.specs.Arrival.{Arrival}
 use Rattle.bus_clocks.specs.Tapped.{IsTapAfter}
 use Rattle.bus_text.specs.Pages.{Pages}
-use Rattle.bus_text.specs.Put.{Cuts}
+use Rattle.bus_text.specs.Put.{TextStopsAt}
 use Rattle.bus_sample.specs.Recording.{recorded, cut_record, levels, arrivals, size_of}
 use Rattle.bus_sample.specs.Marks.{marks_text}
 use Rattle.bus_sample.specs.Samples.{IsFrontOf, HasSize}
@@ -44,26 +44,26 @@ pub record HasRead (start now : Option (List ℕ)) (run : SampleRun) (xs : List 
   pub octets : run.octets ≡ length xs
 
 -- this fault stopped it among these samples
-abbrev pub HaltsIn : Option (List ℕ) → Option (List ℕ) → SampleRun → List ℕ → SampleFault → Type 0
-HaltsIn start now run samples (Write sent) =
-    (front : List ℕ) × IsFrontOf samples front × Cuts start now (marks_text (arrivals run.options front)) sent
-HaltsIn start now run samples TooMany =
+abbrev pub StopsWith : Option (List ℕ) → Option (List ℕ) → SampleRun → List ℕ → SampleFault → Type 0
+StopsWith start now run samples (Write sent) =
+    (front : List ℕ) × IsFrontOf samples front × TextStopsAt start now (marks_text (arrivals run.options front)) sent
+StopsWith start now run samples TooMany =
     (most_places < length samples)
     × (front : List ℕ) × IsFrontOf samples front × HasMarked start now run.marks (arrivals run.options front)
-HaltsIn start now run samples _ = ⊥
+StopsWith start now run samples _ = ⊥
 
 -- the open record stays
 abbrev pub IsSameRecord : SampleRun → SampleRun → Type 0
 IsSameRecord old new = (new.part ≡ old.part) × (new.octets ≡ old.octets) × (new.options ≡ old.options)
 
 -- how the reading of these octets ended, whose reader has `after` left
-abbrev pub Finishes : Option (List ℕ) → Option (List ℕ) → Option (List ℕ) → SampleRun → List ℕ
+abbrev pub ReadStopsWith : Option (List ℕ) → Option (List ℕ) → Option (List ℕ) → SampleRun → List ℕ
     → Result (Unit {0}) SampleFault → Type 0
-Finishes after start now run xs (Ok _) =
+ReadStopsWith after start now run xs (Ok _) =
     IsAtEnd after × (cut_record run.options.form xs ≡ []) × HasRead start now run xs
-Finishes after start now run xs (Err (CutOff octet)) =
+ReadStopsWith after start now run xs (Err (CutOff octet)) =
     IsAtEnd after × (0 < length (cut_record run.options.form xs))
     × (octet ≡ length xs - length (cut_record run.options.form xs)) × HasRead start now run xs
-Finishes after start now run xs (Err Read) = HasRead start now run xs
-Finishes after start now run xs (Err ReadsLimit) = (run.options.reads ≤ length xs) × HasRead start now run xs
-Finishes after start now run xs (Err fault) = HaltsIn start now run (recorded run.options.form xs) fault
+ReadStopsWith after start now run xs (Err Read) = HasRead start now run xs
+ReadStopsWith after start now run xs (Err ReadsLimit) = (run.options.reads ≤ length xs) × HasRead start now run xs
+ReadStopsWith after start now run xs (Err fault) = StopsWith start now run (recorded run.options.form xs) fault

@@ -58,7 +58,7 @@ impl ReportSink for Collector {
     }
 }
 
-/// Feeds bits to a sink whose count of refusals has room for one more.
+/// FeedAfter bits to a sink whose count of refusals has room for one more.
 pub(super) fn feed<C: Check>(
     rt: &impl Abort,
     analyser: &mut Analyser<C>,

@@ -99,7 +99,7 @@ fn pushed(rt: &impl Abort, alloc: Global, bits: &[bool]) -> Vec<Told> {
     told
 }
 
-/// Feeds octets from a bit on, up to `size` bits at a time.
+/// FeedAfter octets from a bit on, up to `size` bits at a time.
 fn fed(
     rt: &impl Abort,
     alloc: Global,
@@ -128,7 +128,7 @@ fn fed(
     told
 }
 
-/// Feeds bits of one octet, of which the first is its lowest, or else its highest.
+/// FeedAfter bits of one octet, of which the first is its lowest, or else its highest.
 fn feed_eight(
     line: &mut Port1Line,
     eight: &[bool; 8],
@@ -143,7 +143,7 @@ fn feed_eight(
     }
 }
 
-/// Feeds bits octet by octet, from a bit of the first on.
+/// FeedAfter bits octet by octet, from a bit of the first on.
 fn fed_alone(
     rt: &impl Abort,
     alloc: Global,

@@ -297,7 +297,7 @@ fn bits_asked_for(rt: HostRuntime) {
     }
 }
 
-/// Feeds ones to a decoder with room for so many bits, and then more of them.
+/// FeedAfter ones to a decoder with room for so many bits, and then more of them.
 fn check_room(rt: &impl Abort, room: u64, kind: u32, want: u32, case: impl Display + Copy + Drop) {
     let mut line = decoder(rt, LIMIT.saturating_sub(room));
     let mut report = UNTOLD;

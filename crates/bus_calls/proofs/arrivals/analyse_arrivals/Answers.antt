@@ -5,7 +5,7 @@ use Rattle.bus_clocks.specs.Clocks.{bits_taken}
 use Rattle.bus_calls.specs.declared.arrivals.ClockAnalyser.{ClockAnalyser}
 use Rattle.bus_calls.specs.declared.run.CaptureRun.{CaptureRun}
 use Rattle.bus_calls.specs.Internal.Arrivals.{arrivals_kind}
-use Rattle.bus_calls.specs.Internal.Watching.{Watches}
+use Rattle.bus_calls.specs.Internal.Watching.{WatchAfter}
 use Rattle.bus_text.specs.declared.fault.ToolFault.TheVariants as fault
 use Rattle.bus_calls.proofs.ReportingLemmas.{none-cut}
 use Rattle.bus_calls.proofs.ToldLemmas.{told-cut, told-sound, told-watched}
@@ -86,7 +86,7 @@ returns-clause-taken g c = λ start b followed.
     (take n xs) _ c.scan-taken.ensures.told in
     let now : CaptureRun (ClockAnalyser g.row.C.Denot) =
     record { analyser = record old { analyser = c.scan-taken.new.self }; reporter = c.scan-taken.new.observer } in
-    subst (λ (ys : List Arrival). Watches (arrivals_kind view) start (g.W.Write.contents c.scan-taken.new.out) now
+    subst (λ (ys : List Arrival). WatchAfter (arrivals_kind view) start (g.W.Write.contents c.scan-taken.new.out) now
     (b ++ ys))
     (take_all n xs (omega (arith, c.if-taken-arrivals.false)))
     (told-watched (arrivals_kind view) c.args.run.now now (take n xs) (g.W.Write.contents c.args.w.now)

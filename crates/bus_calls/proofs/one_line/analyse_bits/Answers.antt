@@ -1,7 +1,7 @@
 use Rattle.std.proofs.Common.{◌≡◌, ◌+◌, ◌≤◌, ◌^◌, ◌++◌, ℕ, length, subst, arith}
 use Rattle.bus_bits.specs.Bits.{bits_from}
 use Rattle.bus_calls.specs.Internal.OneLine.{one_line_kind}
-use Rattle.bus_calls.specs.Internal.Watching.{Watches}
+use Rattle.bus_calls.specs.Internal.Watching.{WatchAfter}
 use Rattle.bus_calls.specs.declared.run.CaptureRun.{CaptureRun}
 use Rattle.bus_watch.specs.After.{AnalyserState}
 use Rattle.bus_text.specs.declared.fault.ToolFault.TheVariants as fault
@@ -70,7 +70,7 @@ returns-clause-taken g c = λ start b followed.
     record { analyser = c.scan-taken.new.self; reporter = c.scan-taken.new.observer } in
     record {
       rule = tt;
-      bits = subst (λ (k : ℕ). Watches kind start (g.W.Write.contents c.scan-taken.new.out) now
+      bits = subst (λ (k : ℕ). WatchAfter kind start (g.W.Write.contents c.scan-taken.new.out) now
           (b ++ bits_from os 0 k)) all
           (told-watched kind c.args.run.now now (bits_from os 0 n) (g.W.Write.contents c.args.w.now)
           (g.W.Write.contents c.scan-taken.new.out) c.scan-taken.ensures.told

@@ -1,7 +1,7 @@
 use Rattle.std.proofs.Common.{List, [], ◌∷◌, ◌++◌, ◌+◌, take, drop, subst, arith}
 use Rattle.std.proofs.lemmas.Result.{err_from_is_err_and}
 use Rattle.std.proofs.lemmas.List.{take_all}
-use Rattle.bus_calls.specs.Internal.Watching.{Feeds, FeedHalts}
+use Rattle.bus_calls.specs.Internal.Watching.{FeedAfter, FeedStopsWith}
 use Rattle.bus_calls.proofs.WatchingLemmas.{same-both, feed-halts-more, item-middle, item-next}
 use Rattle.bus_calls.proofs.packed.analyse_symbols.Goals as goal
 
@@ -15,7 +15,7 @@ returns-in_err-analyse_symbol-clause-taken g c =
     let halts = c.in_err-analyse_symbol.ensures.taken start (b ++ take i all)
     (c.loop-symbol.invariant.followed start b followed) in
     subst (λ (z : List g.row.T-Symbol.Denot).
-    FeedHalts g.T.CaptureKind.kind start (g.W.Write.contents c.analyse_symbol.new.w) c.analyse_symbol.new.run z
+    FeedStopsWith g.T.CaptureKind.kind start (g.W.Write.contents c.analyse_symbol.new.w) c.analyse_symbol.new.run z
     c.in_err-analyse_symbol.field-0.0)
     (item-middle b all i x x c.loop-symbol-test.true c.symbol-item.is)
     (feed-halts-more g.T.CaptureKind.kind c.laws.ensures start _ c.analyse_symbol.new.run
@@ -32,7 +32,7 @@ loop-symbol-preserved g c = record {
       let all = c.args.symbols.now in
       let i = c.loop-symbol.symbol-index in
       let x = c.symbol-item.result in
-      subst (Feeds g.T.CaptureKind.kind start (g.W.Write.contents c.analyse_symbol.new.w) c.analyse_symbol.new.run)
+      subst (FeedAfter g.T.CaptureKind.kind start (g.W.Write.contents c.analyse_symbol.new.w) c.analyse_symbol.new.run)
       (item-next b all i x x c.loop-symbol-test.true c.symbol-item.is)
       (c.in_ok-analyse_symbol.ensures.taken start (b ++ take i all)
       (c.loop-symbol.invariant.followed start b followed));
@@ -42,6 +42,6 @@ pub returns-clause-taken : goal.returns-clause-taken
 returns-clause-taken g c =
     λ start b followed.
     subst (λ (x : List g.row.T-Symbol.Denot).
-    Feeds g.T.CaptureKind.kind start (g.W.Write.contents c.loop-symbol.w) c.loop-symbol.run (b ++ x))
+    FeedAfter g.T.CaptureKind.kind start (g.W.Write.contents c.loop-symbol.w) c.loop-symbol.run (b ++ x))
     (take_all c.loop-symbol.symbol-index c.args.symbols.now (omega arith))
     (c.loop-symbol.invariant.followed start b followed)

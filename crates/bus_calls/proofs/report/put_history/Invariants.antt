@@ -11,7 +11,7 @@ abbrev pub invariant-loop-i : goal.invariant-loop-i
 invariant-loop-i g l = record {
   few : l.page.written + array_vec_len l.page.text ≤ l.fn.page.written + array_vec_len l.fn.page.text + 572 * l.i;
   within : l.i ≤ l.i-end;
-  put : (start : Option (List ℕ)) (text : List ℕ) (b : List g.row.T-Taken.Denot) →
+  put : (start : Option (List ℕ)) (text : List ℕ) (b : List g.row.T-Received.Denot) →
       g.T.CaptureKind.kind.watch.is_after l.analyser b →
       Pages start (g.W.Write.contents l.fn.w) l.fn.page.text l.fn.page.written text
       → Pages start (g.W.Write.contents l.w) l.page.text l.page.written

@@ -3,7 +3,7 @@ use Rattle.std.proofs.lemmas.Result.{err_from_is_err_and}
 use Rattle.bus_calls.specs.Internal.Watching.{reports_by}
 use Rattle.bus_pairing.specs.History.{history, tally}
 use Rattle.bus_text.specs.CheckText.{summary_text, tallies_text, history_text}
-use Rattle.bus_text.specs.Put.{Cuts}
+use Rattle.bus_text.specs.Put.{TextStopsAt}
 use Rattle.bus_text.specs.Pages.{Pages}
 use Rattle.bus_text.proofs.PagesLemmas.{cuts-more}
 use Rattle.bus_calls.proofs.ReportLemmas.{report-parts}
@@ -22,7 +22,7 @@ returns-in_err-put_summary-clause-put g c =
     let cut = c.in_err-put_summary.ensures.put start text p in
     let sent = c.in_err-put_summary.field-0.0.sent in
     let now = g.W.Write.contents c.put_summary.new.w in
-    subst (λ (l : List ℕ). Cuts start now l sent) (report-parts text s t h)
+    subst (λ (l : List ℕ). TextStopsAt start now l sent) (report-parts text s t h)
     (cuts-more start now ((text ++ s) ++ t) h sent (cuts-more start now (text ++ s) t sent cut)))
 
 pub returns-in_err-put_tallies-clause-put : goal.returns-in_err-put_tallies-clause-put
@@ -39,7 +39,7 @@ returns-in_err-put_tallies-clause-put g c =
     let first = c.in_ok-put_summary.ensures.put start text p in
     let sent = c.in_err-put_tallies.field-0.0.sent in
     let now = g.W.Write.contents c.put_tallies.new.w in
-    subst (λ (l : List ℕ). Cuts start now l sent) (report-parts text s t h)
+    subst (λ (l : List ℕ). TextStopsAt start now l sent) (report-parts text s t h)
     (cuts-more start now ((text ++ s) ++ t) h sent
     (c.in_err-put_tallies.ensures.put start (text ++ s) b is_after first)))
 
@@ -56,5 +56,5 @@ returns-clause-put g c = λ start text b is_after p.
     let second = c.in_ok-put_tallies.ensures.put start (text ++ s) b is_after first in
     subst (λ (l : List ℕ). MatchResult c.put_history.result
     (λ _. Pages start now c.put_history.new.page.text c.put_history.new.page.written l)
-    (λ cut. Cuts start now l cut.sent)) (report-parts text s t h)
+    (λ cut. TextStopsAt start now l cut.sent)) (report-parts text s t h)
     (c.put_history.ensures.put start ((text ++ s) ++ t) b is_after second)

@@ -10,7 +10,7 @@ use Rattle.bus_calls.proofs.report.put_tallies.Given as goal
 abbrev pub invariant-loop-station : goal.invariant-loop-station
 invariant-loop-station g l = record {
   few : l.page.written + array_vec_len l.page.text ≤ l.fn.page.written + array_vec_len l.fn.page.text + 140 * l.station;
-  put : (start : Option (List ℕ)) (text : List ℕ) (b : List g.row.T-Taken.Denot) →
+  put : (start : Option (List ℕ)) (text : List ℕ) (b : List g.row.T-Received.Denot) →
       g.T.CaptureKind.kind.watch.is_after l.analyser b →
       Pages start (g.W.Write.contents l.fn.w) l.fn.page.text l.fn.page.written text
       → Pages start (g.W.Write.contents l.w) l.page.text l.page.written

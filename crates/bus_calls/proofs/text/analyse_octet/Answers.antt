@@ -3,7 +3,7 @@ use Rattle.std.proofs.Common.{append-nil}
 use Rattle.std.specs.Option.{option_to_list}
 use Rattle.bus_bits.specs.Capture.{bad_mark}
 use Rattle.bus_calls.specs.Captures.{fed_by}
-use Rattle.bus_calls.specs.Internal.Watching.{Feeds}
+use Rattle.bus_calls.specs.Internal.Watching.{FeedAfter}
 use Rattle.bus_text.specs.declared.fault.ToolFault.TheVariants as fault
 use Rattle.bus_calls.proofs.CapturesLemmas.{followed-fits, fault-in}
 use Rattle.bus_calls.proofs.SessionsTextLemmas.{mark-taken}
@@ -38,7 +38,7 @@ returns-in-Ok-None-clause-taken g c =
     (c.in-Ok-None.ensures xs f.clean) in
     record {
       clean = given.0;
-      bits = subst (Feeds kind start (g.W.Write.contents c.args.w.now) c.args.run.now)
+      bits = subst (FeedAfter kind start (g.W.Write.contents c.args.w.now) c.args.run.now)
           (sym (given.1 ∙ append-nil b)) f.bits;
     }
 

@@ -1,7 +1,7 @@
 use Rattle.std.proofs.Common.{◌≡◌, ◌+◌, ◌≤◌, ◌^◌, ◌++◌, ℕ, length, zip, subst, arith}
 use Rattle.bus_bits.specs.Bits.{bits_from}
 use Rattle.bus_calls.specs.Internal.TwoLines.{two_line_kind}
-use Rattle.bus_calls.specs.Internal.Watching.{Watches}
+use Rattle.bus_calls.specs.Internal.Watching.{WatchAfter}
 use Rattle.bus_calls.specs.declared.run.CaptureRun.{CaptureRun}
 use Rattle.bus_watch.specs.Pairs.{PairState}
 use Rattle.bus_text.specs.declared.fault.ToolFault.TheVariants as fault
@@ -75,7 +75,7 @@ returns-clause-taken g c = λ start b followed.
     record { analyser = c.scan-taken.new.self; reporter = c.scan-taken.new.observer } in
     record {
       rule = tt;
-      bits = subst (λ (k : ℕ). Watches kind start (g.W.Write.contents c.scan-taken.new.out) now
+      bits = subst (λ (k : ℕ). WatchAfter kind start (g.W.Write.contents c.scan-taken.new.out) now
           (b ++ zip (bits_from os 0 k) (bits_from ys 0 k))) all
           (told-watched kind c.args.run.now now (zip (bits_from os 0 n) (bits_from ys 0 n))
           (g.W.Write.contents c.args.w.now)

@@ -3,8 +3,8 @@ use Rattle.std.proofs.lemmas.Result.{err_from_is_err_and}
 use Rattle.std.proofs.lemmas.List.{take_all}
 use Rattle.bus_bits.specs.Capture.{CaptureOf, capped}
 use Rattle.bus_calls.specs.Captures.{fed_by}
-use Rattle.bus_calls.specs.Internal.Sessions.{FollowsBody, IsRead, Stops}
-use Rattle.bus_calls.specs.Internal.Watching.{Feeds}
+use Rattle.bus_calls.specs.Internal.Sessions.{BodyAfter, IsRead, SourceStopsWith}
+use Rattle.bus_calls.specs.Internal.Watching.{FeedAfter}
 use Rattle.bus_calls.proofs.WatchingLemmas.{same-both, same-self, item-next}
 use Rattle.bus_calls.proofs.CapturesLemmas.{fault-in, stops-more, front-grown}
 use Rattle.bus_calls.proofs.SessionsPackedLemmas.{faulty-stops, none-read}
@@ -26,7 +26,7 @@ returns-in_err-many-clause-taken g c =
     (xs ++ take (i + n) os))))
     (capped origin (fed_by kind.form rest (kind.form.packed (xs ++ os)))) c.in_err-many.field-0.0
     (front-grown kind.form c.laws.ensures.form kind.form.packed c.laws.ensures.form.packed rest origin xs os (i + n))
-    (subst (λ (ys : List ℕ). Stops kind false start (g.W.Write.contents c.analyse_packed.new.w)
+    (subst (λ (ys : List ℕ). SourceStopsWith kind false start (g.W.Write.contents c.analyse_packed.new.w)
     c.analyse_packed.new.run ys c.in_err-many.field-0.0) (octets-next xs os i n) stops.1))
 
 pub returns-in_err-many-clause-same : goal.returns-in_err-many-clause-same
@@ -44,7 +44,7 @@ loop-taken-preserved-then-many-gt0 g c = record {
   front = λ start xs followed.
       let os = c.args.octets.now in
       let i = c.loop-taken.taken in
-      subst (FollowsBody g.T.CaptureKind.kind start (g.W.Write.contents c.analyse_packed.new.w)
+      subst (BodyAfter g.T.CaptureKind.kind start (g.W.Write.contents c.analyse_packed.new.w)
       c.analyse_packed.new.body c.analyse_packed.new.run)
       (octets-next xs os i c.in_ok-many.many)
       (c.in_ok-many.ensures.taken start (xs ++ take i os) (c.loop-taken.invariant.front start xs followed));
@@ -67,7 +67,8 @@ returns-in_err-decode_octet-clause-taken g c =
     (xs ++ take (i + 1) os))))
     (capped origin (fed_by kind.form rest (kind.form.packed (xs ++ os)))) c.in_err-decode_octet.field-0.0
     (front-grown kind.form c.laws.ensures.form kind.form.packed c.laws.ensures.form.packed rest origin xs os (i + 1))
-    (subst (λ (ys : List ℕ). Stops kind false start (g.W.Write.contents c.decode_octet.new.w) c.decode_octet.new.run ys
+    (subst (λ (ys : List ℕ). SourceStopsWith kind false start (g.W.Write.contents c.decode_octet.new.w)
+    c.decode_octet.new.run ys
     c.in_err-decode_octet.field-0.0) (item-next xs os i (get_or os i 0) 0 c.loop-taken-test.true refl)
     (c.in_err-decode_octet.ensures.taken start front here)))
 
@@ -91,7 +92,7 @@ loop-taken-preserved g c = record {
       let front = xs ++ take i os in
       let here = none-read kind start _ _ _ front _ c.in_ok-many.many (omega (arith, c.if-many-gt0.false))
       (c.in_ok-many.ensures.taken start front (c.loop-taken.invariant.front start xs followed)) in
-      subst (FollowsBody kind start (g.W.Write.contents c.decode_octet.new.w) c.decode_octet.new.body
+      subst (BodyAfter kind start (g.W.Write.contents c.decode_octet.new.w) c.decode_octet.new.body
       c.decode_octet.new.run)
       (item-next xs os i (get_or os i 0) 0 c.loop-taken-test.true refl)
       (c.in_ok-decode_octet.ensures.taken start front here);
@@ -124,7 +125,7 @@ loop-taken-init g c = record {
       record {
         read = subst (λ b. IsRead kind c.fill_head.new.self.head.items b front)
             (sym c.take.ensures.value ∙ c.in-Some.is) read.0;
-        bits = subst (Feeds kind start (g.W.Write.contents c.args.w.now) c.args.run.now) (sym read.1) followed.bits;
+        bits = subst (FeedAfter kind start (g.W.Write.contents c.args.w.now) c.args.run.now) (sym read.1) followed.bits;
       };
 }
 
@@ -132,6 +133,6 @@ pub returns-clause-taken : goal.returns-clause-taken
 returns-clause-taken g c = λ start xs followed.
     let all = take_all c.loop-taken.taken c.args.octets.now (omega (arith, c.loop-taken-test.false)) in
     let front = c.loop-taken.invariant.front start xs followed in
-    let whole = subst (λ (os : List ℕ). FollowsBody g.T.CaptureKind.kind start (g.W.Write.contents c.loop-taken.w)
+    let whole = subst (λ (os : List ℕ). BodyAfter g.T.CaptureKind.kind start (g.W.Write.contents c.loop-taken.w)
     c.loop-taken.body c.loop-taken.run (xs ++ os)) all front in
     record { read = whole.read; bits = whole.bits }

@@ -1,7 +1,7 @@
 use Rattle.std.proofs.Common.{◌≡◌, None, arith, [], refl, sym, ap, subst}
 use Rattle.bus_bits.specs.Capture.{CaptureOf}
-use Rattle.bus_calls.specs.Internal.Watching.{Feeds, Watches}
-use Rattle.bus_calls.specs.Internal.Sessions.{Follows, IsRead}
+use Rattle.bus_calls.specs.Internal.Watching.{FeedAfter, WatchAfter}
+use Rattle.bus_calls.specs.Internal.Sessions.{SourceAfter, IsRead}
 use Rattle.bus_calls.specs.declared.reader.Source.{Source}
 use Rattle.bus_calls.specs.declared.run.CaptureRun.{CaptureRun}
 use Rattle.bus_calls.proofs.ReadingLemmas.{watched-none}
@@ -15,21 +15,23 @@ returns-clause-fresh g c =
     let law = c.laws.ensures in
     let run : CaptureRun g.row.T.Denot = record { analyser = c.in_ok-analyser.analyser; reporter = c.new-2.result } in
     let made = c.in_ok-analyser.ensures in
-    let none : Feeds kind start start run [] = record {
+    let none : FeedAfter kind start start run [] = record {
       rule = made.3.none;
-      bits = subst (Watches kind start start run) (sym (law.form.fed_none (kind.rest run.analyser)))
+      bits = subst (WatchAfter kind start start run) (sym (law.form.fed_none (kind.rest run.analyser)))
           (watched-none kind law start run made.2.is_after c.new-2.ensures.none (c.new-2.ensures.blank start));
     } in
     let followed = λ (d : CaptureOf g.row.T-Symbol.Denot) (e : d ≡ record { bits = []; fault = None }).
-    subst (λ (x : CaptureOf g.row.T-Symbol.Denot). Feeds kind start start run x.bits) (sym e) none in
+    subst (λ (x : CaptureOf g.row.T-Symbol.Denot). FeedAfter kind start start run x.bits) (sym e) none in
     elim c.if-options.branch [
-      | then-options w ↦ subst (λ (s : Source g.row.T-Body.Denot). Follows kind start start s run []) (sym w.source-is)
+      | then-options w ↦ subst (λ (s : Source g.row.T-Body.Denot). SourceAfter kind start start s run [])
+          (sym w.source-is)
           (record {
             at = refl;
             clean = ap (λ (d : CaptureOf g.row.T-Symbol.Denot). d.fault) law.form.blank;
             bits = followed (kind.form.text []) law.form.blank;
           })
-      | else-options w ↦ subst (λ (s : Source g.row.T-Body.Denot). Follows kind start start s run []) (sym w.source-is)
+      | else-options w ↦ subst (λ (s : Source g.row.T-Body.Denot). SourceAfter kind start start s run [])
+          (sym w.source-is)
           (record {
             read = subst (λ b. IsRead kind w.new.result.head.items b []) (sym w.new.ensures.1)
                 (w.new.ensures.0, omega arith);

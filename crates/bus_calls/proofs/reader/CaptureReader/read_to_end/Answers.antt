@@ -1,8 +1,8 @@
 use Rattle.std.proofs.Common.{rules, arith, Bool, ◌++◌, take, ◌∙◌, subst}
 use Rattle.std.proofs.lemmas.Result.{err_from_is_err_and}
 use Rattle.bus_calls.specs.Internal.Watching.{lines}
-use Rattle.bus_calls.specs.Internal.Sessions.{is_text, taken_of, Stops}
-use Rattle.bus_calls.specs.Internal.Reading.{IsClean, Finishes}
+use Rattle.bus_calls.specs.Internal.Sessions.{is_text, taken_of, SourceStopsWith}
+use Rattle.bus_calls.specs.Internal.Reading.{IsClean, ReadStopsWith}
 use Rattle.bus_text.proofs.KnownBytesLemmas.{consumes_both, consumes_end, consumes_kept, longer}
 use Rattle.bus_calls.proofs.WatchingLemmas.{same-both}
 use Rattle.bus_text.proofs.PagesLemmas.{cut-short}
@@ -25,7 +25,7 @@ returns-in-Ok-eq0-clause-read g c =
     (c.finish.ensures before.0 (read-by g.T.CaptureKind.kind start now self.source self.run before.0 before.2)) in (
       before.0,
       consumes_end _ _ after before.0 _ (search rules) before.1 c.in-Ok-eq0.ensures.bytes.0,
-      subst (λ (b : Bool). Finishes g.T.CaptureKind.kind b c.args.reads after start now self.run before.0
+      subst (λ (b : Bool). ReadStopsWith g.T.CaptureKind.kind b c.args.reads after start now self.run before.0
           c.finish.result)
           c.loop-turn.invariant.text ends,
     )
@@ -53,7 +53,8 @@ returns-in_err-analyse-clause-read g c =
     let now = g.W.Write.contents c.analyse.new.w in
     let xs = before.0 ++ take c.in-Ok.count c.read.new.buf in
     let stops =
-    subst (λ (b : Bool). Stops g.T.CaptureKind.kind b start now c.analyse.new.self.run xs c.in_err-analyse.field-0.0)
+    subst (λ (b : Bool). SourceStopsWith g.T.CaptureKind.kind b start now c.analyse.new.self.run xs
+    c.in_err-analyse.field-0.0)
     c.loop-turn.invariant.text (c.in_err-analyse.ensures.taken start before.0 before.2) in
     rw (failed.1, failed.2) (
       xs,

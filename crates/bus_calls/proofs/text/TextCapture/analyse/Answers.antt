@@ -4,7 +4,7 @@ use Rattle.std.proofs.lemmas.Result.{err_from_is_err_and}
 use Rattle.std.proofs.lemmas.List.{take_all}
 use Rattle.bus_bits.specs.Capture.{capped}
 use Rattle.bus_calls.specs.Captures.{fed_by}
-use Rattle.bus_calls.specs.Internal.Sessions.{FollowsOctets, Stops}
+use Rattle.bus_calls.specs.Internal.Sessions.{OctetsAfter, SourceStopsWith}
 use Rattle.bus_calls.proofs.WatchingLemmas.{same-self, same-both, item-next}
 use Rattle.bus_calls.proofs.CapturesLemmas.{stops-more, front-grown}
 use Rattle.bus_bits.proofs.GatherLemmas.{octets-next}
@@ -16,7 +16,7 @@ loop-taken-init g c = record {
   sound = c.requires.sound;
   same = same-self g.T.CaptureKind.kind c.args.run.now;
   front = λ start xs followed. subst
-      (FollowsOctets g.T.CaptureKind.kind start (g.W.Write.contents c.args.w.now) c.args.run.now)
+      (OctetsAfter g.T.CaptureKind.kind start (g.W.Write.contents c.args.w.now) c.args.run.now)
       (sym (append-nil xs)) (record { clean = followed.clean; bits = followed.bits });
 }
 
@@ -35,7 +35,8 @@ returns-in_err-many-clause-taken g c =
     (i + n) os))))
     (capped origin (fed_by kind.form rest (kind.form.text (xs ++ os)))) c.in_err-many.field-0.0
     (front-grown kind.form c.laws.ensures.form kind.form.text c.laws.ensures.form.text rest origin xs os (i + n))
-    (subst (λ (ys : List ℕ). Stops kind true start (g.W.Write.contents c.analyse_text.new.w) c.analyse_text.new.run ys
+    (subst (λ (ys : List ℕ). SourceStopsWith kind true start (g.W.Write.contents c.analyse_text.new.w)
+    c.analyse_text.new.run ys
     c.in_err-many.field-0.0) (octets-next xs os i n) stops.2))
 
 pub returns-in_err-many-clause-same : goal.returns-in_err-many-clause-same
@@ -52,7 +53,7 @@ loop-taken-preserved-then-many-gt0 g c = record {
   front = λ start xs followed.
       let os = c.args.octets.now in
       let i = c.loop-taken.taken in
-      subst (FollowsOctets g.T.CaptureKind.kind start (g.W.Write.contents c.analyse_text.new.w) c.analyse_text.new.run)
+      subst (OctetsAfter g.T.CaptureKind.kind start (g.W.Write.contents c.analyse_text.new.w) c.analyse_text.new.run)
       (octets-next xs os i c.in_ok-many.many)
       (c.in_ok-many.ensures.taken start (xs ++ take i os) (c.loop-taken.invariant.front start xs followed));
 }
@@ -78,7 +79,8 @@ returns-in_err-analyse_octet-clause-taken g c =
     (xs ++ take (i + 1) os))))
     (capped origin (fed_by kind.form rest (kind.form.text (xs ++ os)))) c.in_err-analyse_octet.field-0.0
     (front-grown kind.form c.laws.ensures.form kind.form.text c.laws.ensures.form.text rest origin xs os (i + 1))
-    (subst (λ (ys : List ℕ). Stops kind true start (g.W.Write.contents c.analyse_octet.new.w) c.analyse_octet.new.run ys
+    (subst (λ (ys : List ℕ). SourceStopsWith kind true start (g.W.Write.contents c.analyse_octet.new.w)
+    c.analyse_octet.new.run ys
     c.in_err-analyse_octet.field-0.0) (item-next xs os i x 0 c.loop-taken-test.true refl) stops))
 
 pub returns-in_err-analyse_octet-clause-same : goal.returns-in_err-analyse_octet-clause-same
@@ -102,7 +104,7 @@ loop-taken-preserved g c = record {
       omega (arith, followed.at, octets-before xs os i c.loop-taken-test.true) in
       let here = none-taken kind start _ _ front _ c.in_ok-many.many (omega (arith, c.if-many-gt0.false))
       (c.in_ok-many.ensures.taken start front (c.loop-taken.invariant.front start xs followed)) in
-      subst (FollowsOctets kind start (g.W.Write.contents c.analyse_octet.new.w) c.analyse_octet.new.run)
+      subst (OctetsAfter kind start (g.W.Write.contents c.analyse_octet.new.w) c.analyse_octet.new.run)
       (item-next xs os i (get_or os i 0) 0 c.loop-taken-test.true refl)
       (c.in_ok-analyse_octet.ensures.taken start front at here);
 }
@@ -112,7 +114,7 @@ returns-clause-taken g c =
     λ start xs followed.
     let all = take_all c.loop-taken.taken c.args.octets.now (omega arith) in
     let whole =
-    subst (λ (os : List ℕ). FollowsOctets g.T.CaptureKind.kind start (g.W.Write.contents c.loop-taken.w)
+    subst (λ (os : List ℕ). OctetsAfter g.T.CaptureKind.kind start (g.W.Write.contents c.loop-taken.w)
     c.loop-taken.run
     (xs ++ os)) all (c.loop-taken.invariant.front start xs followed) in
     record {

@@ -12,7 +12,7 @@ use Rattle.bus_line.specs.Internal.Settled.{HasNoStop, data_in_word}
 use Rattle.bus_line.specs.Internal.Tracks.{Tracks}
 use Rattle.bus_line.specs.declared.decoder_words.DecoderWords.{DecoderWords}
 use Rattle.bus_line.proofs.TimeFillLemmas.{last-bits-small, settled-behind, word-front, word-is, word_of}
-use Rattle.bus_line.proofs.RunsToLemmas.{no_stop-front}
+use Rattle.bus_line.proofs.AdvancesToLemmas.{no_stop-front}
 use Rattle.bus_line.proofs.SettleLemmas.{Shifted, word-settled, word-unsettled}
 use Rattle.bus_line.proofs.StepLemmas.{settles-open}
 use Rattle.bus_line.proofs.WordsLemmas.{settles-told, shifted}

@@ -2,8 +2,8 @@ use Rattle.std.proofs.Common.{◌≡◌, List, Bool, [], ◌∷◌, subst, arith
 use Rattle.bus_bits.specs.Octet.{bits_of}
 use Rattle.bus_bits.proofs.OctetLemmas.{length-bits, one_bit}
 use Rattle.bus_line.specs.Words.{state}
-use Rattle.bus_line.specs.Internal.RunsTo.{ConsumesBits}
-use Rattle.bus_line.proofs.RunsToLemmas.{decided, ran-last}
+use Rattle.bus_line.specs.Internal.AdvancesTo.{ConsumesBits}
+use Rattle.bus_line.proofs.AdvancesToLemmas.{decided, ran-last}
 use Rattle.bus_line.proofs.decoder_words.DecoderWords.push.Goals as goal
 
 pub decide-requires-clause-some : goal.decide-requires-clause-some

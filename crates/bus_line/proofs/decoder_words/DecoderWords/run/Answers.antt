@@ -2,8 +2,8 @@ use Rattle.std.proofs.Common.{◌+◌, ◌-◌, List, Bool, None, subst, arith}
 use Rattle.bus_bits.specs.Octet.{bits_of}
 use Rattle.bus_line.specs.After.{Decides}
 use Rattle.bus_line.specs.Words.{state}
-use Rattle.bus_line.specs.Internal.RunsTo.{RunsTo, RunsToStop}
-use Rattle.bus_line.proofs.RunsToLemmas.{runs-on, strode}
+use Rattle.bus_line.specs.Internal.AdvancesTo.{AdvancesTo, AdvancesToStop}
+use Rattle.bus_line.proofs.AdvancesToLemmas.{runs-on, strode}
 use Rattle.bus_line.proofs.TimeFillLemmas.{turn-bits}
 use Rattle.bus_line.proofs.DecidesLemmas.{place-on, decides-from, decides-on}
 use Rattle.bus_line.proofs.decoder_words.DecoderWords.run.Goals as goal
@@ -31,12 +31,12 @@ returns-then-reached-clause-reaches g c =
     let mid = state c.consume.new.self c.consume.new.check (g.F.FrameBuffer.octets c.consume.new.frame) in
     let bits = turn-bits c.args.octets.now c.loop-at.at x n c.seven_octets_at-bits.ensures
     (omega (arith, reached.ensures.count)) in
-    let run = subst (λ (stop : Bool). RunsToStop g.C.Check.check old (bits_of n x) stop mid) c.if-reached.true
+    let run = subst (λ (stop : Bool). AdvancesToStop g.C.Check.check old (bits_of n x) stop mid) c.if-reached.true
     (strode x n reached.result.is_stop reached.ensures.count.0 reached.ensures.count.1 reached.ensures.before
     reached.ensures.none c.consume.ensures.consumes) in
     runs-on c.args.octets.now c.loop-at.invariant.begun c.loop-at.invariant.decides n
     (c.loop-at.at + n - c.args.from) (omega (arith, c.loop-at.invariant.begun))
-    (subst (λ (z : List Bool). RunsTo g.C.Check.check old z mid) bits run)
+    (subst (λ (z : List Bool). AdvancesTo g.C.Check.check old z mid) bits run)
 
 pub loop-at-preserved : goal.loop-at-preserved
 loop-at-preserved g c =
@@ -48,7 +48,7 @@ loop-at-preserved g c =
     let new = state c.consume.new.self c.consume.new.check (g.F.FrameBuffer.octets c.consume.new.frame) in
     let bits = turn-bits c.args.octets.now c.loop-at.at x n c.seven_octets_at-bits.ensures
     (omega (arith, reached.ensures.count)) in
-    let quiet = subst (λ (stop : Bool). RunsToStop g.C.Check.check old (bits_of n x) stop new) c.if-reached.false
+    let quiet = subst (λ (stop : Bool). AdvancesToStop g.C.Check.check old (bits_of n x) stop new) c.if-reached.false
     (strode x n reached.result.is_stop reached.ensures.count.0 reached.ensures.count.1 reached.ensures.before
     reached.ensures.none c.consume.ensures.consumes) in
     record {

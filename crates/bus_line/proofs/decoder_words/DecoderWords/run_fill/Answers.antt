@@ -1,9 +1,9 @@
 use Rattle.std.proofs.Common.{◌≡◌, ℕ, List, Bool, sym, subst, ap, ◌∙◌, arith}
 use Rattle.bus_bits.specs.Bits.{bits_from}
 use Rattle.bus_line.specs.Words.{state}
-use Rattle.bus_line.specs.Internal.RunsTo.{RunsToStop}
+use Rattle.bus_line.specs.Internal.AdvancesTo.{AdvancesToStop}
 use Rattle.bus_line.proofs.DecidesLemmas.{place-on}
-use Rattle.bus_line.proofs.RunsToLemmas.{stops-on}
+use Rattle.bus_line.proofs.AdvancesToLemmas.{stops-on}
 use Rattle.bus_line.proofs.decoder_words.DecoderWords.run_fill.Goals as goal
 
 pub run_word-requires-clause-sound : goal.run_word-requires-clause-sound
@@ -32,7 +32,7 @@ returns-then-past-from-clause-reaches g c =
     ap (λ (at : ℕ). bits_from os at n) (sym c.if-past-from.true) in
     stops-on os past.ensures.within.0 (past.ensures.decides c.args.check.now (octets c.args.frame.now)) n n
     (omega (arith, c.if-past-from.true)) scanned.result.is_stop _
-    (subst (λ (bits : List Bool). RunsToStop g.C.Check.check
+    (subst (λ (bits : List Bool). AdvancesToStop g.C.Check.check
     (state past.new.self c.args.check.now (octets c.args.frame.now)) bits scanned.result.is_stop
     (state scanned.new.self scanned.new.check (octets scanned.new.frame)))
     (word.ensures.bits n scanned.ensures.count.1 ∙ here) scanned.ensures.reaches)

@@ -5,7 +5,7 @@ use Rattle.bus_line.specs.After.{After}
 use Rattle.bus_line.specs.Words.{state}
 use Rattle.bus_line.specs.Internal.Settled.{HasNoStop, IsWord}
 use Rattle.bus_line.proofs.AdvanceLemmas.{no_stop-before, word-joined}
-use Rattle.bus_line.proofs.RunsToLemmas.{no_stop-front, ran-to}
+use Rattle.bus_line.proofs.AdvancesToLemmas.{no_stop-front, ran-to}
 use Rattle.bus_line.proofs.decoder_words.DecoderWords.run_word.Goals as goal
 
 pub returns-clause-reaches : goal.returns-clause-reaches

@@ -8,9 +8,9 @@ use Rattle.bus_line.specs.After.{Decides}
 use Rattle.bus_line.specs.Report.{Report}
 use Rattle.bus_line.specs.Shown.{reported}
 use Rattle.bus_line.specs.Words.{state}
-use Rattle.bus_line.specs.Internal.RunsTo.{RunsToStop}
+use Rattle.bus_line.specs.Internal.AdvancesTo.{AdvancesToStop}
 use Rattle.bus_line.proofs.DecidesLemmas.{advances-quiet, is-none, place-on, decides-from, decides-on}
-use Rattle.bus_line.proofs.RunsToLemmas.{decided-on}
+use Rattle.bus_line.proofs.AdvancesToLemmas.{decided-on}
 use Rattle.bus_line.proofs.decoder_words.DecoderWords.scan.Goals as goal
 
 pub loop-reached-init : goal.loop-reached-init
@@ -40,7 +40,7 @@ decide-event-requires-clause-some g c =
     let old = state c.loop-reached.self c.loop-reached.check (g.F.FrameBuffer.octets c.loop-reached.frame) in
     let new = state run.new.self run.new.check (g.F.FrameBuffer.octets run.new.frame) in
     let bits = bits_from c.args.octets.now c.loop-reached.reached run.result.count in
-    let reached = subst (λ (stop : Bool). RunsToStop g.C.Check.check old bits stop new)
+    let reached = subst (λ (stop : Bool). AdvancesToStop g.C.Check.check old bits stop new)
     (not-false run.result.is_stop c.if-not-run.false) run.ensures.reaches in
     let long = length-from c.args.octets.now c.loop-reached.reached run.result.count in
     let begins = c.loop-reached.invariant.sound.within.begins in
@@ -62,7 +62,7 @@ loop-reached-preserved-then-not-run g c =
     let old = state c.loop-reached.self c.loop-reached.check (g.F.FrameBuffer.octets c.loop-reached.frame) in
     let new = state run.new.self run.new.check (g.F.FrameBuffer.octets run.new.frame) in
     let bits = bits_from c.args.octets.now c.loop-reached.reached n in
-    let quiet = subst (λ (stop : Bool). RunsToStop g.C.Check.check old bits stop new)
+    let quiet = subst (λ (stop : Bool). AdvancesToStop g.C.Check.check old bits stop new)
     (not-true run.result.is_stop c.if-not-run.true) run.ensures.reaches in
     record {
       begun = omega (arith, now.begun);

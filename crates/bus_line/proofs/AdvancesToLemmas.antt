@@ -16,7 +16,7 @@ use Rattle.bus_line.specs.declared.event.Event.{Event}
 use Rattle.bus_line.specs.Due.{current, placed}
 use Rattle.bus_line.specs.After.{AdvancesWith, After, DecideNothing, Decides, due_of}
 use Rattle.bus_line.specs.Internal.LineState.{LineState}
-use Rattle.bus_line.specs.Internal.RunsTo.{ConsumesBits, DecidesLast, RunsTo, RunsToStop}
+use Rattle.bus_line.specs.Internal.AdvancesTo.{ConsumesBits, DecidesLast, AdvancesTo, AdvancesToStop}
 use Rattle.bus_line.specs.Internal.Settled.{HasNoStop}
 use Rattle.bus_line.specs.Internal.Tracks.{HasTaken, Tracks}
 use Rattle.bus_line.proofs.DueMoreLemmas.{placed-more}
@@ -71,7 +71,7 @@ module _ {C : Type 0} {view : CheckView C} {old new : LineState C} {bits : List 
 
   -- and one after them
   pub ran-last : 1 ≤ length bits → ((b : List Bool) → After view old b → HasNoStop b bits (length bits - 1)) →
-      RunsTo view old bits new
+      AdvancesTo view old bits new
   ran-last some no_stop =
       let n : ℕ = length bits - 1 in
       let all : take (n + 1) bits ≡ bits = take_all (n + 1) bits (omega (arith, some)) in
@@ -93,7 +93,8 @@ module _ {C : Type 0} {view : CheckView C} {old new : LineState C} {bits : List 
   -- which all are settled, unless the last may decide a report
   pub ran-to : (is_stop : Bool) → 1 ≤ length bits →
       (is_stop ≡ false → (b : List Bool) → After view old b → HasNoStop b bits (length bits)) →
-      ((b : List Bool) → After view old b → HasNoStop b bits (length bits - 1)) → RunsToStop view old bits is_stop new
+      ((b : List Bool) → After view old b → HasNoStop b bits (length bits - 1))
+      → AdvancesToStop view old bits is_stop new
   ran-to true some all no_stop = ran-last some no_stop
   ran-to false some all no_stop = ran-all (all refl)
 
@@ -102,7 +103,7 @@ pub strode : {C : Type 0} {view : CheckView C} {old new : LineState C} (x n : �
     ((i : ℕ) → i + 1 < n → bit_or (old.last_bits / 256) (x * 256 % 18446744073709551616) / 2 ^ (2 + i) % 64 ≢ 63) →
     (is_stop ≡ false → (n ≡ 56) × ((i : ℕ) → i < 56 →
     bit_or (old.last_bits / 256) (x * 256 % 18446744073709551616) / 2 ^ (2 + i) % 64 ≢ 63)) →
-    ConsumesBits view old (bits_of n x) new → RunsToStop view old (bits_of n x) is_stop new
+    ConsumesBits view old (bits_of n x) new → AdvancesToStop view old (bits_of n x) is_stop new
 strode {C} {view} {old} x n is_stop some few before none consumed =
     let long = length-bits n x in
     ran-to consumed is_stop (omega (arith, long, some))
@@ -119,7 +120,7 @@ strode {C} {view} {old} x n is_stop some few before none consumed =
 -- ---- what the last of them decides
 
 pub decided : {C : Type 0} {view : CheckView C} {old mid new : LineState C} {bits : List Bool}
-    {event : Option Event} → RunsTo view old bits mid → DecidesLast view mid event new
+    {event : Option Event} → AdvancesTo view old bits mid → DecidesLast view mid event new
     → AdvancesWith view old bits event new
 decided {C} {view} {old} {mid} {new} {bits} {event} reached decision =
     let front = reached.front in
@@ -161,7 +162,7 @@ decided {C} {view} {old} {mid} {new} {bits} {event} reached decision =
 -- ---- after bits that decide nothing
 
 runs-more : {C : Type 0} {view : CheckView C} {a c e : LineState C} {xs ys : List Bool}
-    → Decides view a xs None c → RunsTo view c ys e → RunsTo view a (xs ++ ys) e
+    → Decides view a xs None c → AdvancesTo view c ys e → AdvancesTo view a (xs ++ ys) e
 runs-more {C} {view} {a} {c} {e} {xs} {ys} quiet reached =
     let more : xs ++ ys ≡ (xs ++ reached.front) ++ reached.last ∷ [] =
     ap (λ (z : List Bool). xs ++ z) reached.all ∙ sym (append_assoc xs reached.front (reached.last ∷ [])) in
@@ -179,21 +180,22 @@ runs-more {C} {view} {a} {c} {e} {xs} {ys} quiet reached =
 
 pub runs-on : {C : Type 0} {view : CheckView C} (os : List ℕ) {from at : ℕ} {a c e : LineState C} → from ≤ at
     → Decides view a (bits_from os from (at - from)) None c → (n m : ℕ) → m ≡ at - from + n
-    → RunsTo view c (bits_from os at n) e → RunsTo view a (bits_from os from m) e
+    → AdvancesTo view c (bits_from os at n) e → AdvancesTo view a (bits_from os from m) e
 runs-on os begun quiet n m count reached = rw (← joins os begun quiet n m count) (runs-more quiet reached)
 
 pub stops-on : {C : Type 0} {view : CheckView C} (os : List ℕ) {from at : ℕ} {a c : LineState C} → from ≤ at
     → Decides view a (bits_from os from (at - from)) None c → (n m : ℕ) → m ≡ at - from + n → (is_stop : Bool)
-    → (e : LineState C) → RunsToStop view c (bits_from os at n) is_stop e
-    → RunsToStop view a (bits_from os from m) is_stop e
+    → (e : LineState C) → AdvancesToStop view c (bits_from os at n) is_stop e
+    → AdvancesToStop view a (bits_from os from m) is_stop e
 stops-on os begun quiet n m count true e reached = runs-on os begun quiet n m count reached
 stops-on os begun quiet n m count false e reached = decides-on os begun quiet n m count reached
 
 -- and what the last decides, where it is a stop
 pub decided-on : {C : Type 0} {view : CheckView C} (os : List ℕ) {from at : ℕ} {a c mid new : LineState C}
     {event : Option Event} → from ≤ at → Decides view a (bits_from os from (at - from)) None c → (n m : ℕ)
-    → m ≡ at - from + n → (is_stop : Bool) → not is_stop ≡ false → RunsToStop view c (bits_from os at n) is_stop mid
+    → m ≡ at - from + n → (is_stop : Bool) → not is_stop ≡ false → AdvancesToStop view c (bits_from os at n) is_stop mid
     → DecidesLast view mid event new → AdvancesWith view a (bits_from os from m) event new
 decided-on {C} {view} os {from} {at} {a} {c} {mid} begun quiet n m count is_stop going reached decision =
-    decided (runs-on os begun quiet n m count (subst (λ (stop : Bool). RunsToStop view c (bits_from os at n) stop mid)
+    decided (runs-on os begun quiet n m count
+    (subst (λ (stop : Bool). AdvancesToStop view c (bits_from os at n) stop mid)
     (not-false is_stop going) reached)) decision

@@ -25,7 +25,7 @@ pub record ConsumesBits {C : Type 0} (view : CheckView C) (old : LineState C) (b
       → Tracks view new (b ++ bits) (current b)
 
 -- these bits lead from old to new; those before the last decide nothing, and what the last decides is still to be found
-pub record RunsTo {C : Type 0} (view : CheckView C) (old : LineState C) (bits : List Bool)
+pub record AdvancesTo {C : Type 0} (view : CheckView C) (old : LineState C) (bits : List Bool)
     (new : LineState C) : Type 0 where
   pub front : List Bool
   pub last : Bool
@@ -38,10 +38,10 @@ pub record RunsTo {C : Type 0} (view : CheckView C) (old : LineState C) (bits : 
   pub before : DecideNothing view old front
 
 -- these bits lead from old to new, and decide nothing, but for the last where that is a stop
-abbrev pub RunsToStop : {C : Type 0} → CheckView C → LineState C → List Bool → Bool → LineState C →
+abbrev pub AdvancesToStop : {C : Type 0} → CheckView C → LineState C → List Bool → Bool → LineState C →
     Type 0
-RunsToStop view old bits true new = RunsTo view old bits new
-RunsToStop view old bits false new = Decides view old bits None new
+AdvancesToStop view old bits true new = AdvancesTo view old bits new
+AdvancesToStop view old bits false new = Decides view old bits None new
 
 -- what the last bit decides is this event, or nothing, and leads from old to new
 pub record DecidesLast {C : Type 0} (view : CheckView C) (old : LineState C) (event : Option Event)
