@@ -3,7 +3,7 @@
 import assert from "node:assert/strict";
 import { test } from "node:test";
 import { Lanes } from "../src/worker/lanes.js";
-import { RATE, Talk } from "../../scripts/modules/tests/support/bus_talk.js";
+import { RATE, Talk } from "../../scripts/modules/tests/support/bus_traffic.js";
 
 const NO_NAMES = new Map();
 const BINS = 10;

@@ -4,7 +4,7 @@ import assert from "node:assert/strict";
 import { test } from "node:test";
 import { KeptBits } from "../src/engine/bits.js";
 import { warningsOfLevels } from "../src/worker/levels.js";
-import { Talk } from "../../scripts/modules/tests/support/bus_talk.js";
+import { Talk } from "../../scripts/modules/tests/support/bus_traffic.js";
 
 const WIRES = ["TXC", "TXD", "RXC", "RXD"];
 

@@ -4,7 +4,7 @@ import assert from "node:assert/strict";
 import { test } from "node:test";
 import { findingsOf } from "../findings/findings.js";
 import { verdictOf } from "../statistics/verdict.js";
-import { RATE, Talk } from "./support/bus_talk.js";
+import { RATE, Talk } from "./support/bus_traffic.js";
 
 const WITH_WINDOW = [{ type: 0, name: "t0", length: 0, answered: true, window: 1536 }];
 const WITHOUT_WINDOW = [{ ...WITH_WINDOW[0], window: 0 }];
