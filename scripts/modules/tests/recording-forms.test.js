@@ -33,6 +33,7 @@ test("the form by the beginning", () => {
   assert.throws(() => formOfRecording(text), /^Error: this is text|this is text/);
 });
 
+/** @type {[string, import("../recording/forms.js").Form, string, string[]][]} */
 const HEADS = [
   ["names of a table of sigrok", "csv", "; Channels (2/2): clk, data in\nlogic,logic\n0,1\n", ["clk", "data in"]],
   ["columns after the times", "csv", 'Time [s],"a",b c\n0.1,0,1\n', ["a", "b c"]],

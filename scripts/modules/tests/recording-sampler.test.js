@@ -24,7 +24,7 @@ function programOrNone() {
 
 const program = programOrNone();
 
-/** A recording of random levels, each of which stands for some samples. */
+/** A recording of random levels, each of which stands for some samples. @returns {any} */
 function recordingOf(random) {
   const hasRuns = random.once(2);
   const width = hasRuns ? 1 : random.between(1, 3);
@@ -54,10 +54,10 @@ test("the samples of examples/vectors", () => {
   for (const row of JSON.parse(readFileSync(`${TOP}examples/vectors/samples.json`, "utf8"))) {
     let bits = "";
     const turned = row.turned.reduce((mask, wire) => mask | (1 << ["txc", "txd", "rxc", "rxd"].indexOf(wire)), 0);
-    const recording = { hasRuns: false, width: 1, wires: row.wires };
+    const recording = /** @type {any} */ ({ hasRuns: false, width: 1, wires: row.wires });
     const arrive = (line, bit) => (bits += ["01", "oi"][line][bit]);
     const sampler = new Sampler(recording, { hold: row.hold, jump: 2 }, turned, arrive);
-    sampler.take(Uint8Array.from(row.samples, (digit) => Number.parseInt(digit, 16)));
+    sampler.take(Uint8Array.from([...row.samples], (digit) => Number.parseInt(digit, 16)));
     assert.equal(bits, row.bits, row.name);
   }
 });
@@ -75,7 +75,8 @@ test("bits and facts", { skip: program === null ? "no program port1-sample" : fa
     assert.equal(status, 0, stderr.toString());
     let bits = "";
     const turned = turns.reduce((mask, isTurned, at) => mask | (Number(isTurned) << at), 0);
-    const sampler = new Sampler(recording, { hold, jump }, turned, (line, bit) => (bits += ["01", "oi"][line][bit]));
+    const whole = /** @type {any} */ (recording);
+    const sampler = new Sampler(whole, { hold, jump }, turned, (line, bit) => (bits += ["01", "oi"][line][bit]));
     const size = recording.hasRuns ? 8 : recording.width;
     for (const piece of inPieces(octets, size * random.between(1, 40))) sampler.take(piece);
     assert.equal(bits, stdout.toString().replaceAll("\n", ""), `seed ${seed}: ${words.join(" ")}`);
