@@ -117,6 +117,7 @@ def tests_beside(top: Path) -> Dict[str, Set[str]]:
     for pattern, form in [
         ("c/tests/*.c", r"^static void (\w+)\(void\) \{"),
         ("tests/table/*.py", r"(?:\bCase\(|\bname=)\s*\"([^\"]+)\""),
+        ("examples/vectors/*.json", r"\"name\": \"([^\"]+)\""),
         ("scripts/tests/*.py", r"^def (\w+)\(folder: Path\) -> List\[str\]:"),
     ]:
         for path in sorted(top.glob(pattern)):

@@ -5,6 +5,7 @@ code; a piece of code within it counts as one word, and a link as its text.
 """
 
 import re
+import subprocess
 from pathlib import Path
 from typing import Dict, Iterator, List, Tuple
 
@@ -34,6 +35,14 @@ UNWANTED = [
     (r"\bthose that\b|\bthat of the\b|\bthose of the\b", "name the thing"),
     (r"\bwhat (?:it|they|these|was|were|takes|took)\b", "a noun serves"),
 ]
+
+# Names that went: CHANGELOG.md alone has them, to say what stands in their place.
+GONE = re.compile(
+    r"\b(?:ClosesPage|CutsIt|FeedHalts|FollowsBody|FollowsOctets|FollowsPacked|FollowsText|HaltsIn|JournalState"
+    r"|LeadsTold|LineWords|PairListener|RunsPast|RunsTo|RunsToStop|SeesPairs|Teller|are_sound|bus_capture|bus_encode"
+    r"|bus_serve|bus_talk|heard_on|may_answer|may_wait|would_take)\b"
+)
+SOURCES = {".antt", ".c", ".edit", ".edits", ".h", ".js", ".md", ".py", ".rt", ".toml"}
 
 # Words of a document that are no prose of its own: titles of Rattle's names, and quotations.
 CODE = re.compile(r"`[^`]*`")
@@ -94,11 +103,20 @@ def problems_of_picture() -> Iterator[str]:
         yield f"{len(content)} octets, over {MOST_OF_PICTURE}, or no PNG: `tests/page --picture {PICTURE}` makes it"
 
 
+def problems_of_names() -> Iterator[str]:
+    files = subprocess.run(["git", "ls-files"], cwd=TOP, capture_output=True, text=True, check=True).stdout.splitlines()
+    for name in files:
+        if Path(name).suffix in SOURCES and name not in ("CHANGELOG.md", str(Path(__file__).relative_to(TOP))):
+            for found in sorted(set(GONE.findall((TOP / name).read_text(encoding="utf-8")))):
+                yield f"{name}: {found} went"
+
+
 def results_of_language() -> Iterator[Tuple[str, List[str]]]:
     """What is wrong with the words of each document, and of all together."""
     documents = texts()
     total = sum(len(text.split()) for text in documents.values())
     yield "all documents: words", [f"{total}, over {MOST_WORDS}"] if total > MOST_WORDS else []
+    yield "all sources: names that went", [*problems_of_names()]
     yield f"{FIRST_PAGE}: its length", [*problems_of_first_page(documents[FIRST_PAGE])]
     yield f"{DECISIONS}: its entries", [*problems_of_decisions(documents[DECISIONS])]
     yield f"{PICTURE}: its size", [*problems_of_picture()]

@@ -22,6 +22,7 @@ import browser
 from built import newest_of, sources_of
 from library import Bench, captures, octets_of, talk, traffic
 from needs import NODE_MODULES, Skipped, needs, needs_file, needs_module
+from table.vectors import VECTORS
 
 PROGRAM = Path(os.environ.get("PORT1") or TOP / "crates" / "port1" / "out" / "port1")
 
@@ -302,23 +303,34 @@ def broken_jobs() -> Iterator[Job]:
         yield text_job(f"a bad dictionary: {text[:20]!r}", bits, 1, text)
 
 
+def listings_of(page: Path, jobs: Sequence[Job]) -> List[Tuple[str, Optional[str]]]:
+    """What the modules of the page list of captures, and their faults."""
+    with tempfile.TemporaryDirectory(prefix="port1-") as folder:
+        asked = []
+        for number, job in enumerate(jobs):
+            file = Path(folder, str(number))
+            file.write_bytes(job.content)
+            asked.append({"file": str(file), "form": job.form, "kind": job.kind, "dictionary": job.dictionary})
+        return [(got["text"], got["fault"]) for got in listed(page, asked)]
+
+
 def problems_of_jobs(page: Path, jobs: Callable[[], Iterator[Job]]) -> List[str]:
     bench()
     every = list(jobs())
-    with tempfile.TemporaryDirectory(prefix="port1-") as folder:
-        asked = []
-        for number, job in enumerate(every):
-            file = Path(folder, str(number))
-            file.write_bytes(job.content)
-            told = {"file": str(file), "form": job.form, "kind": job.kind, "dictionary": job.dictionary}
-            asked.append(told)
-        found = listed(page, asked)
     problems = []
-    for job, got in zip(every, found):
-        text, fault = program_lists(job)
-        if (got["text"], got["fault"]) != (text, fault):
-            problems.append(f"{job.name}: wanted {text[:200]!r}, {fault}; got {got['text'][:200]!r}, {got['fault']}")
+    for job, (text, fault) in zip(every, listings_of(page, every)):
+        wanted, why = program_lists(job)
+        if (text, fault) != (wanted, why):
+            problems.append(f"{job.name}: wanted {wanted[:200]!r}, {why}; got {text[:200]!r}, {fault}")
     return problems
+
+
+def problems_of_vectors(page: Path) -> List[str]:
+    """Whether the page lists the captures that the tests of all languages read."""
+    kinds: Dict[str, Union[int, str]] = {"one line": 1, "two lines": 2, "arrivals": "arrivals"}
+    jobs = [text_job(vector.name, vector.marks, kinds[vector.kind], vector.dictionary) for vector in VECTORS]
+    pairs = zip(VECTORS, listings_of(page, jobs))
+    return [f"{one.kind}, {one.name}: {got}" for one, got in pairs if got != (one.listing, None)]
 
 
 RECORDINGS = [
@@ -670,6 +682,7 @@ def tests_of(page: Path, is_long: bool) -> Iterator[Test]:
     for file in sorted([*TOP.glob("page/tests/*.test.js"), *TOP.glob("scripts/modules/tests/*.test.js")]):
         yield Test(f"modules: {file.name}", partial(problems_of_modules, file, is_long), file.name == TIMED)
     yield Test("the layout of the library", problems_of_layout)
+    yield Test("listings: vectors", partial(problems_of_vectors, page))
     yield Test("listings: examples", partial(problems_of_jobs, page, example_jobs))
     yield Test("listings: talks", partial(problems_of_jobs, page, partial(generated_jobs, 50 if is_long else 13)))
     yield Test("listings: traffic", partial(problems_of_jobs, page, traffic_jobs))

@@ -22,6 +22,7 @@ from typing import Callable, Dict, Iterator, List, NamedTuple, Sequence, Tuple, 
 
 from built import problems_of_build, words_of_archive
 from header import Layout, Sources, results_of_header
+from table.vectors import VECTORS, WORDS, Vector
 from version import version_of
 
 TOP = Path(__file__).resolve().parent.parent.parent
@@ -351,6 +352,22 @@ def problems_of_list(bench: Bench, programs: Sequence[Path], capture: bytes) -> 
     return [f"{words} lists it otherwise" for words in calls if bench.run(words, capture) != wanted]
 
 
+def problems_of_vector(bench: Bench, examples: Dict[str, List[Path]], vector: Vector) -> List[str]:
+    """Whether the library lists a capture of examples/vectors, or with a dictionary tells its verdicts."""
+    if vector.dictionary:
+        rows = [f"{ftype},{length}" + f",{window}" * answered for ftype, length, answered, window in vector.entries]
+        lines = [line for line in vector.listing.splitlines() if set(line.split()) & set(FOLLOWS)]
+        calls = [[program, *WORDS[vector.kind], *rows] for program in examples["watch"]]
+        return problems_of_output(bench, calls, vector.marks.encode(), lines)
+    calls = [[program, str(chunk)] for program in examples["list"] for chunk in CHUNKS]
+    return problems_of_output(bench, calls, packed(vector.symbols), vector.listing.splitlines())
+
+
+def problems_of_output(bench: Bench, calls: Sequence[List[Word]], stdin: bytes, wanted: List[str]) -> List[str]:
+    pairs = [(words, bench.run(words, stdin).decode().splitlines()) for words in calls]
+    return [f"{words}: wanted {wanted}, got {got}" for words, got in pairs if got != wanted]
+
+
 def problems_of_live(bench: Bench, programs: Sequence[Path]) -> List[str]:
     bits = damaged(bench.encoded(orders(random.Random(9), 400)), random.Random(9))
     bits += bench.encoded(f"flag\nframe {'a5' * 256}\nidle\n")
@@ -487,6 +504,9 @@ def results_of_examples(bench: Bench) -> Iterator[Result]:
             yield f"library: {program.name} is linked", bench.link(compiler, source, program)
     for name, capture in captures(bench):
         yield f"library: list: {name}", problems_of_list(bench, programs["list"], capture)
+    for vector in VECTORS:
+        if vector.dictionary and vector.kind != "arrivals" or vector.kind == "one line":
+            yield f"library: {vector.kind}: {vector.name}", problems_of_vector(bench, programs, vector)
     yield "library: live", problems_of_live(bench, programs["live"])
     yield "library: live shows a frame as it closes", problems_of_waiting(bench, programs["live"])
     for name, text in texts_to_send():

@@ -8,7 +8,9 @@ const STYLE = readFileSync(new URL("../style.css", import.meta.url), "utf8");
 
 const [TEXT, GRAPHIC] = [4.5, 3];
 
-/** Colours by the grounds on which they stand, and how much they have to differ. */
+/** Colours by the grounds on which they stand, and how much they have to differ.
+ * @type {[number, string[], string[]][]}
+ */
 const PAIRS = [
   [TEXT, ["ink", "faint"], ["ground", "panel", "field"]],
   [TEXT, ["ink"], ["chosen-ground", "warn-ground"]],
@@ -33,8 +35,8 @@ function coloursOf(block) {
   return Object.fromEntries([...block.matchAll(/--([\w-]+): (#[0-9a-f]{6});/g)].map(([, name, colour]) => [name, colour]));
 }
 
-const [, light] = /^:root \{([^}]*)\}/m.exec(STYLE);
-const [, dark] = /prefers-color-scheme: dark\) \{\s*:root \{([^}]*)\}/.exec(STYLE);
+const [, light] = /^:root \{([^}]*)\}/m.exec(STYLE) ?? [];
+const [, dark] = /prefers-color-scheme: dark\) \{\s*:root \{([^}]*)\}/.exec(STYLE) ?? [];
 const SCHEMES = { light: coloursOf(light), dark: { ...coloursOf(light), ...coloursOf(dark) } };
 
 /** The relative luminance of a colour. */

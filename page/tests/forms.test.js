@@ -43,7 +43,7 @@ const OTHERS = [
   ["a dump that is cut off in its head", "$timescale 1 us $end\n$var wire 1 ! TXC $e", /cut off within its definitions/],
 ];
 
-const blobOf = (text) => new Blob([Uint8Array.from(text, (character) => character.charCodeAt(0))]);
+const blobOf = (text) => new Blob([Uint8Array.from([...text], (character) => character.charCodeAt(0))]);
 
 for (const [name, text, form] of READ) {
   test(`read: ${name}`, async () => assert.equal((await desk.lookAt(blobOf(text))).form, form));

@@ -3,7 +3,7 @@
 import assert from "node:assert/strict";
 import { test } from "node:test";
 import { Lanes } from "../src/worker/lanes.js";
-import { RATE, Talk } from "../../scripts/modules/tests/support/bus_talk.js";
+import { RATE, Talk } from "../../scripts/modules/tests/support/bus_traffic.js";
 
 const NO_NAMES = new Map();
 const BINS = 10;
@@ -46,16 +46,16 @@ test("marks are those that reach into view, with their lines", () => {
   const talk = new Talk().answered(0, 1, 0).answered(10, 1, 0).answered(20, 1, 0);
   const [lane] = lanesOf(talk).between(talk.place(10) + 40, talk.place(20), BINS);
   const [commands, answers] = lane.tracks;
-  assert.deepEqual(commands.marks.map(({ first, past }) => [first, past]), [[talk.place(10), talk.place(10) + 41]]);
-  assert.equal(answers.marks.length, 1);
-  assert.match(answers.marks[0].text, /^2 .* station 1 type 128 t128$/);
+  assert.deepEqual(commands.marks?.map(({ first, past }) => [first, past]), [[talk.place(10), talk.place(10) + 41]]);
+  assert.equal(answers.marks?.length, 1);
+  assert.match(answers.marks?.[0].text, /^2 .* station 1 type 128 t128$/);
   assert.equal(commands.count, 0, "none begins in view");
 });
 
 test("a piece that began long before is in view as long as it lasts", () => {
   const talk = new Talk().write(1, 0, 900000, "overlong").answered(6000, 1, 0);
   const damage = lanesOf(talk).between(800000, 810000, BINS).at(-1);
-  assert.deepEqual(damage.tracks[0].marks.map(({ first, past }) => [first, past]), [[0, 900000]]);
+  assert.deepEqual(damage?.tracks[0].marks?.map(({ first, past }) => [first, past]), [[0, 900000]]);
 });
 
 test("many are counted in bins, which lead to the first of each", () => {
@@ -63,10 +63,10 @@ test("many are counted in bins, which lead to the first of each", () => {
   talk.rounds(2000, (_, round) => talk.answered(5 * round, 1, 0));
   const [lane] = lanesOf(talk).between(0, talk.place(10000), BINS);
   const [commands] = lane.tracks;
-  assert.deepEqual([...commands.counts], Array(BINS).fill(200));
+  assert.deepEqual([...(commands.counts ?? [])], Array(BINS).fill(200));
   assert.equal(commands.marks, undefined);
   const { listing } = talk;
-  const places = [...commands.leaders].map((row) => listing.firsts[row]);
+  const places = [...(commands.leaders ?? [])].map((row) => listing.firsts[row]);
   assert.deepEqual(places, Array.from({ length: BINS }, (_, bin) => talk.place(1000 * bin)));
 });
 
@@ -84,11 +84,11 @@ test("of many stations those with most lines have lanes, and the rest share one"
   const shown = lanes.between(0, RATE, BINS);
   assert.equal(shown.length, 24);
   assert.equal(lanes.stations.length, 40);
-  assert.deepEqual([shown.at(-1).name, shown.at(-1).about], ["others", "17 stations"]);
+  assert.deepEqual([shown.at(-1)?.name, shown.at(-1)?.about], ["others", "17 stations"]);
   const commands = shown.flatMap(({ tracks }) => tracks.filter(({ id }) => id === "command"));
   assert.equal(commands.reduce((sum, { total }) => sum + total, 0), 10 + 2 * 30);
   const { firsts } = talk.listing;
-  const others = shown.at(-1).tracks[0].marks.map(({ row }) => firsts[row]);
+  const others = shown.at(-1)?.tracks[0].marks?.map(({ row }) => firsts[row]) ?? [];
   assert.deepEqual(others, [...others].sort((one, other) => one - other), "the shared lane is in order");
 });
 

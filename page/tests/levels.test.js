@@ -4,7 +4,7 @@ import assert from "node:assert/strict";
 import { test } from "node:test";
 import { KeptBits } from "../src/engine/bits.js";
 import { warningsOfLevels } from "../src/worker/levels.js";
-import { Talk } from "../../scripts/modules/tests/support/bus_talk.js";
+import { Talk } from "../../scripts/modules/tests/support/bus_traffic.js";
 
 const WIRES = ["TXC", "TXD", "RXC", "RXD"];
 
@@ -19,6 +19,7 @@ const [REST, ZERO, MOSTLY_ONES, MOSTLY_ZEROS] = [0xff, 0, 0x7e, 0x81];
 const NOTHING = new Talk().listing;
 const FRAMES = new Talk().frame(1, 1, 1, 0).frame(2, 3, 1, 128).listing;
 
+/** @type {[string, string[], KeptBits, import("../../scripts/modules/listing/listing.js").Listing, string[]][]} */
 const CASES = [
   ["both well", WIRES, bitsOf(MOSTLY_ONES, MOSTLY_ONES), FRAMES, []],
   ["both well, without frames", WIRES, bitsOf(MOSTLY_ONES, MOSTLY_ONES), NOTHING, []],

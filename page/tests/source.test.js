@@ -8,7 +8,8 @@ import { read } from "../src/worker/source.js";
 
 const LINES = Array.from({ length: 50 }, (_, at) => `${100 * at} ${100 * at + 15} idle\n`);
 
-const jobOf = (file) => ({ file, form: "listing", lines: 1, channels: [], rising: true, entries: null, engine: null });
+/** @param {Blob} file @returns {import("../src/worker/source.js").Job} */
+const jobOf = (file) => ({ file, form: "listing", entries: null, engine: null });
 const readText = (text) => read(jobOf(new Blob([text])), () => undefined);
 const textOf = ({ listing }) => listing.textOf(0, listing.length);
 
@@ -36,7 +37,7 @@ test("a wrong line that is not the last is a fault", async () => {
 function growing(name, octets) {
   const refused = Object.assign(new Error("changed"), { name });
   const part = (from) => ({ arrayBuffer: () => (from < octets ? Promise.resolve(new ArrayBuffer(4)) : Promise.reject(refused)) });
-  return { size: 1 << 23, slice: part };
+  return /** @type {any} */ ({ size: 1 << 23, slice: part });
 }
 
 for (const [name, wanted] of [

@@ -8,6 +8,7 @@ declare const process: {
   pid: number;
   stdin: import("node:stream").Readable;
   exit(status: number): never;
+  memoryUsage(): { arrayBuffers: number; heapUsed: number };
   on(event: string, listener: () => void): void;
   once(event: string, listener: () => void): void;
   emit(event: string, ...words: any[]): boolean;
@@ -19,11 +20,15 @@ interface Buffer extends Uint8Array {
   toString(encoding?: string, from?: number, past?: number): string;
   write(text: string, at: number, encoding: string): number;
   writeBigUInt64LE(number: bigint, at: number): number;
+  writeUInt16LE(number: number, at: number): number;
+  writeUIntLE(number: number, at: number, octets: number): number;
+  indexOf(octets: string | number, from?: number): number;
+  lastIndexOf(octets: string | number, from?: number): number;
   subarray(from?: number, past?: number): Buffer;
 }
 
 declare const Buffer: {
-  from(octets: string | Uint8Array | ArrayBuffer, encoding?: string): Buffer;
+  from(octets: string | Uint8Array | ArrayBuffer | number[], encoding?: string): Buffer;
   alloc(size: number): Buffer;
   concat(parts: readonly Uint8Array[]): Buffer;
 };
@@ -57,13 +62,13 @@ declare module "node:fs" {
     file: number, room: Uint8Array, at: number, count: number, place: number | null, done: (...found: any[]) => void,
   ): void;
   function readFileSync(path: string | URL | number): Buffer;
-  function readFileSync(path: string | URL, encoding: string): string;
+  function readFileSync(path: string | URL | number, encoding: string): string;
   function readSync(file: number, room: Uint8Array, at?: number, count?: number, place?: number | null): number;
   function renameSync(from: string, to: string): void;
-  function rmSync(path: string, options: { force: boolean; recursive?: boolean }): void;
+  function rmSync(path: string, options: { force?: boolean; recursive?: boolean }): void;
   function statSync(path: string): Stats;
-  function writeFileSync(path: string, text: string | Uint8Array): void;
-  function writeSync(file: number, octets: Uint8Array, at?: number): number;
+  function writeFileSync(path: string | URL | number, text: string | Uint8Array): void;
+  function writeSync(file: number, octets: Uint8Array, at?: number, count?: number): number;
 }
 
 declare module "node:child_process" {
@@ -76,10 +81,11 @@ declare module "node:child_process" {
     on(event: string, listener: (...words: any[]) => void): this;
   }
   function spawn(program: string, words: string[], options?: object): Child;
-  function spawnSync(program: string, words: string[], options: object): {
+  function spawnSync(program: string, words: string[], options?: object): {
     error?: Error & { code?: string };
     status: number | null;
     signal: string | null;
+    stdout: Buffer;
     stderr: Buffer;
   };
 }
@@ -89,7 +95,11 @@ declare module "node:stream/promises" {
 }
 
 declare module "node:crypto" {
-  function createHash(name: string): { update(octets: Uint8Array): void; digest(form: string): string };
+  interface Hash {
+    update(octets: Uint8Array | string): Hash;
+    digest(form: string): string;
+  }
+  function createHash(name: string): Hash;
 }
 
 declare module "node:events" {

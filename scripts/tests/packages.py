@@ -1,5 +1,6 @@
 """The C library as `make install-library` packs it, in a folder that is then moved: pkg-config, CMake and Python."""
 
+import json
 import os
 import random
 import re
@@ -10,6 +11,7 @@ from pathlib import Path
 from typing import Dict, List, Optional, Sequence, Tuple
 
 from needs import Skipped, needs
+from table.vectors import VECTORS
 from tests.case import CALL, ONE_CALL, REPLY, SECONDS, TOP
 from tests.case import Run, Test, Word, listed, packed, plain, random_bits, written_by
 
@@ -228,9 +230,9 @@ if decoder.open is not None:
 """
 
 # Bits of one line as text, as `port1 list --bits --dict` lists them, the names of the dictionary aside.
-PAIRED = """import sys
+PAIRED = """import json, sys
 from port1 import *
-entries = {0: Entry(1, True, 40), 1: Entry(0, True), 9: Entry(2), 128: Entry(2), 129: Entry(1)}
+entries = {ftype: Entry(*entry) for ftype, *entry in json.loads(sys.argv[1])}
 decoder, pairing = LineDecoder(max(3 + entry.length for entry in entries.values())), Pairing(entries)
 ends = {Standing.UNKNOWN: " unknown", Standing.WRONG_LENGTH: " length"}
 for report in filter(None, map(decoder.push, map(int, sys.stdin.read()))):
@@ -248,7 +250,12 @@ if decoder.open is not None:
 if pairing.waiting:
     first, past, station, ftype = pairing.waiting
     print(first, past, "pending", "station", station, "type", ftype)
-for call in [lambda: Pairing({256: Entry(0)}), lambda: Pairing({0: Entry(256)}), lambda: pairing.take(report, 3),
+"""
+
+PAIRED_REFUSED = """from port1 import *
+pairing = Pairing({0: Entry(1, True, 40)})
+for call in [lambda: Pairing({256: Entry(0)}), lambda: Pairing({0: Entry(256)}),
+             lambda: pairing.take(Report(Kind.IDLE, 0, 15), 3),
              lambda: pairing.take(Report(Kind.FRAME, 0, 24, None, b"abc"))]:
     try:
         call()
@@ -262,12 +269,15 @@ a line is 0, 1 or 2, not 3
 a frame has at least four octets, those of the check among them
 """
 
-# The same entries, with names that a listing has nowhere else.
+# Entries: type, length, whether it is answered, window.
+PAIRED_ENTRIES = [(0, 1, True, 40), (1, 0, True, 0), (9, 2, False, 0), (128, 2, False, 0), (129, 1, False, 0)]
+
+# The same, with names that a listing has nowhere else.
 PAIRED_DICTIONARY = "version = 2\n" + "".join(
-    f'[[frame]]\ntype = {ftype}\nname = "N{ftype}"\nlength = {length}\n{more}'
-    for ftype, length, more in [
-        *[(0, 1, "answered = true\nwindow = 40\n"), (1, 0, "answered = true\n"), (9, 2, ""), (128, 2, ""), (129, 1, "")],
-    ]
+    f'[[frame]]\ntype = {ftype}\nname = "N{ftype}"\nlength = {length}\n'
+    + "answered = true\n" * answered
+    + f"window = {window}\n" * (window > 0)
+    for ftype, length, answered, window in PAIRED_ENTRIES
 )
 
 SENT = """import sys
@@ -428,11 +438,29 @@ def pairing_in_python(folder: Path) -> List[str]:
         words = [os.environ["PORT1"], "list", "--bits", f"--dict={PAIRED_DICTIONARY}"]
         stdin = "".join(bits).encode()
         wanted = subprocess.run(words, input=stdin, stdout=subprocess.PIPE, check=True, timeout=SECONDS).stdout.decode()
-        wanted = re.sub(r" N\d+$", "", wanted, flags=re.MULTILINE) + PAIRED_REFUSES
-        problems += unlike(f"{seed}", wanted.splitlines(), python(PAIRED, [], stdin, module).decode().splitlines())
+        wanted = re.sub(r" N\d+$", "", wanted, flags=re.MULTILINE)
+        got = python(PAIRED, [json.dumps(PAIRED_ENTRIES)], stdin, module).decode()
+        problems += unlike(f"{seed}", wanted.splitlines(), got.splitlines())
         seen |= set(wanted.split())
     words = {"answered", "late", "missing", "spoilt", "stray", "pending", "unknown", "length", "control", "untyped", "idle"}
+    problems += unlike("refusals", PAIRED_REFUSES, python(PAIRED_REFUSED, [], b"", module).decode())
     return problems or [f"no capture has {word}" for word in sorted(words - seen - {"pending"})]
+
+
+def vectors_in_python(folder: Path) -> List[str]:
+    """It lists the captures of one line that the tests of all languages read."""
+    module = moved(folder) / "lib" / "python"
+    problems = []
+    for vector in VECTORS:
+        if vector.kind != "one line":
+            continue
+        if vector.dictionary:
+            got = python(PAIRED, [json.dumps(vector.entries)], vector.symbols.encode(), module)
+        else:
+            got = python(PRINTED, ["7"], packed(vector.symbols), module)
+        wanted = re.sub(r"( type \d+) (?!unknown$|length$)\w+$", r"\1", vector.listing, flags=re.MULTILINE)
+        problems += unlike(vector.name, wanted, got.decode())
+    return problems
 
 
 def encoder_in_python(folder: Path) -> List[str]:
@@ -585,6 +613,7 @@ TESTS: List[Test] = [
     taken_away,
     decoder_in_python,
     pairing_in_python,
+    vectors_in_python,
     encoder_in_python,
     taps_in_python,
     refusals_in_python,

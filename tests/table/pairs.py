@@ -8,7 +8,6 @@ from typing import Tuple
 from .captures import (
     CALL,
     CALLS,
-    CONTROL_19,
     FLAG,
     IDLE,
     LAST_ORIGIN,
@@ -18,15 +17,13 @@ from .captures import (
     REPLY,
     SHORT,
     WITHIN,
-    WITHIN_1,
     marks,
     packed_pairs,
-    sent,
-    text,
 )
 from .case import Case, fault
 from .checks import report
 from .lists import KINDS, chosen
+from .vectors import capture, cases
 
 # The bits of two lines.
 Lines = Tuple[str, str]
@@ -51,13 +48,7 @@ REST = "1" * 57
 # A call on the first line, and after it the reply on the second.
 CALL_AND_REPLY = (CALLED + REST, REST + REPLIED)
 
-CALL_AND_REPLY_LINES = """\
-2 0 15 idle
-1 8 49 frame 108300fde5 station 16 type 0 call
-1 57 72 idle
-2 65 106 frame 108380f561 station 16 type 128 reply
-1 8 49 answered station 16 type 0
-"""
+_, CALL_AND_REPLY_LINES = capture("two lines", "a call and its reply")
 
 CALL_AND_REPLY_REPORT = report(
     "station 16 answered 1 missing 0 spoilt 0 late 0",
@@ -71,22 +62,14 @@ CALL_AND_REPLY_REPORT = report(
 # Both frames end at one place.
 AT_ONE_PLACE = (CALLED, REPLIED)
 
-AT_ONE_PLACE_LINES = """\
-1 8 49 frame 108300fde5 station 16 type 0 call
-2 8 49 frame 108380f561 station 16 type 128 reply
-1 8 49 answered station 16 type 0
-"""
+_, AT_ONE_PLACE_LINES = capture("two lines", "frames that end at one place")
 
 # The reply comes on the first line, where it answers nothing.
 ANSWER_ON_FIRST = (CALLED + REPLY.replace(" ", "") + FLAG, "1" * 106)
 
 ONE_CALL = (CALLED, REST)
 
-ONE_CALL_LINES = """\
-2 0 15 idle
-1 8 49 frame 108300fde5 station 16 type 0 call
-1 8 49 pending station 16 type 0
-"""
+_, ONE_CALL_LINES = capture("two lines", "one call")
 
 # Lines of all kinds but `late`. The second call is followed by a notice before its reply comes; the third by damage on
 # the second line, where a long piece ends one bit before the call does.
@@ -100,31 +83,7 @@ ALL_KINDS = (
     ),
 )
 
-ALL_KINDS_LINES = """\
-2 0 15 idle
-1 8 49 frame 108300fde5 station 16 type 0 call
-1 57 72 idle
-2 65 106 frame 108380f561 station 16 type 128 reply
-1 8 49 answered station 16 type 0
-2 114 129 idle
-1 122 163 frame 108300fde5 station 16 type 0 call
-1 179 221 frame ff83095a3b station 255 type 9 notice
-1 122 163 missing station 16 type 0
-1 229 244 idle
-2 237 278 frame 108380f561 station 16 type 128 reply
-2 237 278 stray station 16 type 128
-2 286 334 overlong
-1 294 335 frame 108300fde5 station 16 type 0 call
-1 343 358 idle
-2 342 366 damaged short
-1 294 335 spoilt station 16 type 0
-2 374 382 abort
-2 382 397 idle
-1 391 432 frame 108300fde5 station 16 type 0 call
-1 440 441 open
-2 439 441 open
-1 391 432 pending station 16 type 0
-"""
+_, ALL_KINDS_LINES = capture("two lines", "all kinds")
 
 # The packed form of one call on the first line.
 PACKED_CALL = packed_pairs(*ONE_CALL)
@@ -137,146 +96,6 @@ def of_kind(kind: str) -> str:
     every = ALL_KINDS_LINES.splitlines(keepends=True)
     return "".join(line for line in every if line.split()[3] == kind)
 
-
-def listed(name: str, lines: Lines, stdout: str, dictionary: str = CALLS) -> Case:
-    """A text capture of two lines that is listed."""
-    return Case(name, [*TWO, "--dict", dictionary], marks(*lines), stdout)
-
-
-PIECES = [
-    Case("nothing", BY_CALLS),
-    Case("only space", BY_CALLS, b" \t\r\n"),
-    listed("a call and its reply", CALL_AND_REPLY, CALL_AND_REPLY_LINES),
-    listed("frames that end at one place", AT_ONE_PLACE, AT_ONE_PLACE_LINES),
-    listed(
-        "a reply on the first line",
-        ANSWER_ON_FIRST,
-        """\
-2 0 15 idle
-1 8 49 frame 108300fde5 station 16 type 0 call
-1 57 98 frame 108380f561 station 16 type 128 reply
-1 8 49 missing station 16 type 0
-1 57 98 stray station 16 type 128
-""",
-    ),
-    listed("one call", ONE_CALL, ONE_CALL_LINES),
-    Case(
-        name="all sorts of space",
-        words=BY_CALLS,
-        stdin=b"\t" + b"\r\n \t".join(bytes([mark]) for mark in marks(*ONE_CALL)) + b"\r\n\r\n",
-        stdout=ONE_CALL_LINES,
-    ),
-    listed(
-        "a call on the second line, which waits for nothing",
-        (FLAG + "1" * 49, CALLED),
-        "1 8 23 idle\n2 8 49 frame 108300fde5 station 16 type 0 call\n",
-    ),
-    listed(
-        "a reply on the second line to no call",
-        (REST, REPLIED),
-        """\
-1 0 15 idle
-2 8 49 frame 108380f561 station 16 type 128 reply
-2 8 49 stray station 16 type 128
-""",
-    ),
-    listed(
-        "a reply that ends one bit before its call",
-        ("1" + CALLED, REPLIED + "1"),
-        """\
-2 8 49 frame 108380f561 station 16 type 128 reply
-2 8 49 stray station 16 type 128
-1 9 50 frame 108300fde5 station 16 type 0 call
-2 57 58 open
-1 9 50 pending station 16 type 0
-""",
-    ),
-    listed(
-        "a reply from another station",
-        (CALLED + "1" * 56, REST + FLAG + sent(b"\x11\x83\x80") + FLAG),
-        """\
-2 0 15 idle
-1 8 49 frame 108300fde5 station 16 type 0 call
-1 57 72 idle
-2 65 105 frame 118380293b station 17 type 128 reply
-1 8 49 missing station 16 type 0
-2 65 105 stray station 17 type 128
-""",
-    ),
-    listed(
-        "a long piece on the second line, after a call",
-        (CALLED + "1" * 7, FLAG + LONG + FLAG),
-        """\
-1 8 49 frame 108300fde5 station 16 type 0 call
-2 8 56 overlong
-1 8 49 spoilt station 16 type 0
-""",
-    ),
-    listed(
-        "an abort on the second line, after a call",
-        (CALLED + "1" * 12, "1" * 50 + FLAG + "0000" + "1" * 7),
-        """\
-2 0 15 idle
-1 8 49 frame 108300fde5 station 16 type 0 call
-2 58 62 abort
-1 8 49 spoilt station 16 type 0
-""",
-    ),
-    listed(
-        "a reply on the second line that ends where damage on the first does",
-        (CALLED + "0" * 33 + FLAG, "1" * 41 + REPLIED),
-        """\
-2 0 15 idle
-1 8 49 frame 108300fde5 station 16 type 0 call
-1 57 90 damaged unaligned
-1 8 49 spoilt station 16 type 0
-2 49 90 frame 108380f561 station 16 type 128 reply
-2 49 90 stray station 16 type 128
-""",
-    ),
-    listed(
-        "idle lines that are told at one place",
-        (IDLE, IDLE),
-        "1 0 15 idle\n2 0 15 idle\n",
-    ),
-    listed(
-        "a piece not closed on each line",
-        (FLAG + "00001", "1" + FLAG + "0001"),
-        "1 8 13 open\n2 9 13 open\n",
-    ),
-    *[
-        listed(
-            f"a reply sixteen bits after its call, with a window of {window} in {version}",
-            CALL_AND_REPLY,
-            CALL_AND_REPLY_LINES.replace("answered", outcome),
-            dictionary.replace("16", window),
-        )
-        for window, version, dictionary, outcome in [
-            ("16", "version 2", WITHIN, "answered"),
-            ("15", "version 2", WITHIN, "late"),
-            ("15", "version 1", WITHIN_1, "answered"),
-        ]
-    ],
-    listed("all kinds", ALL_KINDS, ALL_KINDS_LINES),
-    Case(
-        name="without a dictionary no call waits and no stray is told",
-        words=TWO,
-        stdin=marks(*CALL_AND_REPLY),
-        stdout="2 0 15 idle\n1 8 49 frame 108300fde5\n1 57 72 idle\n2 65 106 frame 108380f561\n",
-    ),
-    Case(
-        name="heads on both lines",
-        words=BY_CALLS,
-        stdin=marks(FLAG + CONTROL_19 + FLAG + "1" * 10, NOTICED),
-        stdout="1 8 40 frame 1013ccb8 control 19\n2 8 50 frame ff83095a3b station 255 type 9 notice\n",
-    ),
-    Case(
-        name="the marks 0 and 1 alone: the second line is 0 all the time",
-        words=BY_CALLS,
-        stdin=text(FLAG, CALL, FLAG),
-        stdout=chosen(ONE_CALL_LINES, 2, 3),
-    ),
-]
 
 AT_THE_LAST_PLACE = """\
 1 1152921504606846927 1152921504606846968 frame 108300fde5
@@ -650,4 +469,4 @@ CHECKED = [
     ],
 ]
 
-PAIRS = [*PIECES, *ORIGINS, *FILTERS, *TEXT_FAULTS, *PACKED_CAPTURES, *CHECKED]
+PAIRS = [*cases("two lines"), *ORIGINS, *FILTERS, *TEXT_FAULTS, *PACKED_CAPTURES, *CHECKED]

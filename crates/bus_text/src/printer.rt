@@ -132,8 +132,8 @@ impl Printer {
     )
         requires room { HasRoomFor 964 page.old }
         requires held { length octets.now ≤ most_octets }
-        ensures { AdvancesPage page.old (listing self.now dictionary.now (found_on line octets.now finding.now ∷ [])) 964
-            page.new }
+        ensures { AdvancesPage page.old
+            (listing self.now dictionary.now (found_on line octets.now finding.now ∷ [])) 964 page.new }
     {
         self.put_report(line, finding, octets, dictionary, page);
         self.put_verdict(line, finding.verdict, page);

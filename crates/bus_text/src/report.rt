@@ -145,7 +145,8 @@ pub fn put_kept<W: Write>(
         Pages start (W.contents w.old) page.old.text page.old.written text → MatchResult result
         (λ _. Pages start (W.contents w.new) page.new.text page.new.written
         (text ++ last_text line kept.now.span kept.now.octets.items))
-        (λ cut. TextStopsAt start (W.contents w.new) (text ++ last_text line kept.now.span kept.now.octets.items) cut.sent) }
+        (λ cut. TextStopsAt start (W.contents w.new)
+        (text ++ last_text line kept.now.span kept.now.octets.items) cut.sent) }
     ensures few { OnOk result
         (page.new.written + array_vec_len page.new.text ≤ page.old.written + array_vec_len page.old.text + 572) }
 {

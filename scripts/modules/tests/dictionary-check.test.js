@@ -36,7 +36,8 @@ test("files that are no UTF-8 or no TOML, too deep, empty, or with line ends of 
   const windows = "; the lines end with CR LF: `tr -d '\\r'` takes the CR away";
   const rest = WINDOWS.split("version = 2")[1].replace("window", "# window");
   const deep = `version = 1\nx = ${"[".repeat(90)}${"]".repeat(90)}${rest}`;
-  for (const [octets, wanted] of [
+  /** @type {[Buffer, string[]][]} */
+  const rows = [
     [Buffer.from(WINDOWS.replace("reply", "r\xe9ply"), "latin1"), ["8: not UTF-8"]],
     [Buffer.from([0x61, 0xe2, 0x82]), ["1: not UTF-8"]],
     [Buffer.from("a = 1\n\xed\xa0\x80", "latin1"), ["2: not UTF-8"]],
@@ -47,7 +48,8 @@ test("files that are no UTF-8 or no TOML, too deep, empty, or with line ends of 
     [Buffer.from(`x = ${"[".repeat(5000)}`), ["1: not TOML: brackets too deep in one another (at line 1, column 85)"]],
     [Buffer.from(""), ["1: there is no `version` and no `frame`", "1: port1 says: version is not 1 or 2"]],
     [Buffer.from(POLL), []],
-  ]) {
+  ];
+  for (const [octets, wanted] of rows) {
     assert.deepEqual(said(findingsOfFile(octets, SCHEMA)), wanted);
   }
 });
@@ -56,7 +58,8 @@ test("a schema with what the validator does not know is refused", () => {
   const table = new Map();
   assert.deepEqual(faultsBySchema(table, { type: "object" }), []);
   const refusal = (what) => new Error(`the schema has what its reader does not know: ${what}`);
-  for (const [schema, error] of [
+  /** @type {[object, Error][]} */
+  const rows = [
     [{ maxItems: 1 }, refusal("maxItems: 1")],
     [{ type: "null" }, refusal('type: "null"')],
     [{ type: ["object"] }, refusal('type: ["object"]')],
@@ -67,7 +70,8 @@ test("a schema with what the validator does not know is refused", () => {
     [{ $ref: "#/definitions/a" }, new Error("the schema does not define #/definitions/a")],
     [{ $ref: "other.json" }, refusal('$ref: "other.json"')],
     [{ enum: ["x"] }, refusal('enum: ["x"]')],
-  ]) {
+  ];
+  for (const [schema, error] of rows) {
     assert.throws(() => faultsBySchema(table, schema), error, JSON.stringify(schema));
   }
 });

@@ -194,12 +194,14 @@ test("brackets in one another", () => {
 });
 
 test("a fault has a line and a column, which count characters", () => {
-  for (const [text, line, column] of [
+  /** @type {[string, number, number][]} */
+  const rows = [
     ['a = 1\n"😀" = ?', 2, 7],
     ["a = 'x", 1, 7],
     ["a = [\n1,\n", 3, 1],
     ["\r\n\r\na = \r\n", 3, 5],
-  ]) {
+  ];
+  for (const [text, line, column] of rows) {
     assert.throws(
       () => readToml(text),
       (fault) => fault instanceof TomlFault && fault.line === line && fault.column === column,

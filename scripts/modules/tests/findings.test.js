@@ -4,7 +4,7 @@ import assert from "node:assert/strict";
 import { test } from "node:test";
 import { findingsOf } from "../findings/findings.js";
 import { verdictOf } from "../statistics/verdict.js";
-import { RATE, Talk } from "./support/bus_talk.js";
+import { RATE, Talk } from "./support/bus_traffic.js";
 
 const WITH_WINDOW = [{ type: 0, name: "t0", length: 0, answered: true, window: 1536 }];
 const WITHOUT_WINDOW = [{ ...WITH_WINDOW[0], window: 0 }];
@@ -36,7 +36,11 @@ const times = (rounds, what) => Object.fromEntries(rounds.map((round) => [round,
 const exchanged = new Talk();
 exchanged.rounds(20, (at) => exchanged.frame(2, at, 1, 0));
 
-/** Of each case: the talk, how long the recording is in seconds, the dictionary; the findings, the level and the lacks. */
+/**
+ * Of each case: the talk, how long the recording is in seconds, the dictionary; the findings, the level and the lacks.
+ * @typedef {{ talk: Talk, end?: number|null, entries?: any[]|null, isDoubtful?: boolean }} Asked
+ * @type {(Asked & { name: string, found?: unknown[][], level: string, lacks?: string[] })[]}
+ */
 const CASES = [
   { name: "all is answered", talk: talk(20), level: "well" },
   { name: "no window in the dictionary", talk: talk(20), entries: WITHOUT_WINDOW, level: "unknown", lacks: ["windows"] },
@@ -167,6 +171,7 @@ const CASES = [
   { name: "damage alone", talk: new Talk().damaged(1, 5), found: [["damage", "doubt", 1, 0.005]], level: "doubt", lacks: ["frames"] },
 ];
 
+/** @param {Asked} asked */
 function judged({ talk: { counted }, end = null, entries = WITH_WINDOW, isDoubtful = false }) {
   const { listing, bus } = counted;
   const known = { end: end === null ? null : Math.round(end * RATE), entries };
@@ -198,7 +203,7 @@ test("each line of a sentence is one that it is about", () => {
   for (const { sort, kind, places, count } of found.findings) {
     assert.equal(places.length, count);
     for (const { row, first } of places) {
-      assert.equal(listing.text(row).split(" ").slice(3).join(" "), `${sort} station ${kind.station} type ${kind.type}`);
+      assert.equal(listing.text(row).split(" ").slice(3).join(" "), `${sort} station ${kind?.station} type ${kind?.type}`);
       assert.equal(listing.firsts[row], first);
     }
   }

@@ -11,6 +11,7 @@ const BEYOND = "is beyond the times that are read, which end at 9007199254740991
 
 const NINES = "9".repeat(400);
 
+/** @type {[string, import("../recording/forms.js").Form, string, string[], string][]} */
 const FAULTS = [
   ["a time of a dump", "vcd", `${DEFINITIONS}#9007199254740992 1!\n`, ["a", "b"], `#9007199254740992 ${BEYOND}`],
   ["a very long time of a dump", "vcd", `${DEFINITIONS}#${NINES}\n`, ["a", "b"], `#${NINES} ${BEYOND}`],
@@ -79,7 +80,7 @@ test("a source is closed where no more is wanted", async () => {
   const source = sourceOf(ROWS);
   const { pieces } = await recordingOf(source.pieces, { form: "csv", channels: ["a", "b"] });
   await pieces.next();
-  await pieces.return();
+  await pieces.return(undefined);
   assert.deepEqual([source.isClosed, source.given < 4], [true, true]);
 });
 

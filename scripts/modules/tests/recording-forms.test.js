@@ -3,6 +3,7 @@ import { readFileSync } from "node:fs";
 import { test } from "node:test";
 import { channelsOf, formOf, formOfRecording } from "../recording/forms.js";
 import { Fault } from "../fault.js";
+import { hertz } from "../recording/units.js";
 
 /** What the beginning of a recording tells: its form, and its channels. */
 
@@ -33,6 +34,7 @@ test("the form by the beginning", () => {
   assert.throws(() => formOfRecording(text), /^Error: this is text|this is text/);
 });
 
+/** @type {[string, import("../recording/forms.js").Form, string, string[]][]} */
 const HEADS = [
   ["names of a table of sigrok", "csv", "; Channels (2/2): clk, data in\nlogic,logic\n0,1\n", ["clk", "data in"]],
   ["columns after the times", "csv", 'Time [s],"a",b c\n0.1,0,1\n', ["a", "b c"]],
@@ -61,4 +63,14 @@ test("channels of the example of four wires", () => {
   const head = readFileSync(new URL("../../../examples/four-wires.csv", import.meta.url)).subarray(0, 4096);
   assert.equal(formOf(head), "csv");
   assert.deepEqual(channelsOf(head, "csv"), ["TXC", "TXD", "RXC", "RXD"]);
+});
+
+/** @type {[string, number][]} */
+const RATES = [
+  ["4000000", 4e6], ["4 MHz", 4e6], ["4M", 4e6], [" 24 MHz ", 24e6], ["1.5 kHz", 1500], ["1 GHz", 1e9], ["0.25G", 25e7],
+];
+
+test("rates in hertz", () => {
+  for (const [text, rate] of RATES) assert.equal(hertz(text), rate, text);
+  for (const text of ["", "fast", "-1 MHz", "4 mHz", "4 THz", "1e6"]) assert.throws(() => hertz(text), Fault, text);
 });

@@ -14,11 +14,14 @@ function example(name) {
   return readFileSync(new URL(`examples/${name}`, TOP));
 }
 
-/** Wherever a recording is cut into two pieces, and in pieces of an octet each, the outcome is the same. */
-for (const [name, form, channels, length] of [
+/** @type {[string, import("../recording/forms.js").Form, string[], number][]} */
+const CUT = [
   ["four-wires.csv", "csv", ["TXC", "TXD", "RXC", "RXD"], 3000],
   ["call-and-reply.vcd", "vcd", ["clk", "tx", "rx"], 1500],
-]) {
+];
+
+/** Wherever a recording is cut into two pieces, and in pieces of an octet each, the outcome is the same. */
+for (const [name, form, channels, length] of CUT) {
   test(`${name} in pieces`, async () => {
     const input = example(name).subarray(0, length);
     const wanted = await taken([input], { form, channels });
@@ -33,7 +36,8 @@ for (const [name, form, channels, length] of [
 const BITS = "01111110000010001100000100000000101111101101001110111111011";
 const SAMPLES = Array.from(BITS).flatMap((bit) => [2 * Number(bit), 1 + 2 * Number(bit)]);
 
-const OUTPUTS = { csv: ["csv", "csv:time=true:dedup=true", "csv:time=true"], vcd: ["vcd"] };
+/** @type {[import("../recording/forms.js").Form, string[]][]} */
+const OUTPUTS = [["csv", ["csv", "csv:time=true:dedup=true", "csv:time=true"]], ["vcd", ["vcd"]]];
 
 const hasSigrok = spawnSync("sigrok-cli", ["--version"]).status === 0;
 
@@ -43,7 +47,7 @@ test("what sigrok-cli writes", { skip: hasSigrok ? false : "no sigrok-cli" }, as
   const written = (words) => execFileSync("sigrok-cli", words);
   writeFileSync(samples, Uint8Array.from([...SAMPLES, 0]));
   written(["-i", samples, "-I", "binary:numchannels=4:samplerate=1000000", "-o", session]);
-  for (const [form, outputs] of Object.entries(OUTPUTS)) {
+  for (const [form, outputs] of OUTPUTS) {
     for (const output of outputs) {
       const octets = written(["-i", session, "-O", output]);
       const got = await taken([octets], { form, channels: ["0", "1"] });

@@ -1,13 +1,16 @@
-// The page's sampler against the proved program: bits and facts of random wires, as samples and as runs, in pieces.
+// The page's sampler: on examples/vectors/samples.json, and against the proved program by bits and facts of random
+// wires, as samples and as runs, in pieces.
 
 import assert from "node:assert/strict";
 import { spawnSync } from "node:child_process";
+import { readFileSync } from "node:fs";
 import { test } from "node:test";
 import { programNamed } from "../commands/program.js";
 import { factsIn } from "../recording/facts.js";
 import { Sampler } from "../recording/sampler.js";
 import { inPieces } from "./recording-helpers.js";
 import { randomOf } from "./support/random.js";
+import { TOP } from "./support/scripts.js";
 
 const TURNS = ["--invert-txc", "--invert-txd", "--invert-rxc", "--invert-rxd"];
 
@@ -21,7 +24,7 @@ function programOrNone() {
 
 const program = programOrNone();
 
-/** A recording of random levels, each of which stands for some samples. */
+/** A recording of random levels, each of which stands for some samples. @returns {any} */
 function recordingOf(random) {
   const hasRuns = random.once(2);
   const width = hasRuns ? 1 : random.between(1, 3);
@@ -47,6 +50,18 @@ function samplesOf(levels, width) {
   }));
 }
 
+test("the samples of examples/vectors", () => {
+  for (const row of JSON.parse(readFileSync(`${TOP}examples/vectors/samples.json`, "utf8"))) {
+    let bits = "";
+    const turned = row.turned.reduce((mask, wire) => mask | (1 << ["txc", "txd", "rxc", "rxd"].indexOf(wire)), 0);
+    const recording = /** @type {any} */ ({ hasRuns: false, width: 1, wires: row.wires });
+    const arrive = (line, bit) => (bits += ["01", "oi"][line][bit]);
+    const sampler = new Sampler(recording, { hold: row.hold, jump: 2 }, turned, arrive);
+    sampler.take(Uint8Array.from([...row.samples], (digit) => Number.parseInt(digit, 16)));
+    assert.equal(bits, row.bits, row.name);
+  }
+});
+
 test("bits and facts", { skip: program === null ? "no program port1-sample" : false }, () => {
   for (let seed = 1; seed <= 60; seed++) {
     const random = randomOf(seed);
@@ -60,7 +75,8 @@ test("bits and facts", { skip: program === null ? "no program port1-sample" : fa
     assert.equal(status, 0, stderr.toString());
     let bits = "";
     const turned = turns.reduce((mask, isTurned, at) => mask | (Number(isTurned) << at), 0);
-    const sampler = new Sampler(recording, { hold, jump }, turned, (line, bit) => (bits += ["01", "oi"][line][bit]));
+    const whole = /** @type {any} */ (recording);
+    const sampler = new Sampler(whole, { hold, jump }, turned, (line, bit) => (bits += ["01", "oi"][line][bit]));
     const size = recording.hasRuns ? 8 : recording.width;
     for (const piece of inPieces(octets, size * random.between(1, 40))) sampler.take(piece);
     assert.equal(bits, stdout.toString().replaceAll("\n", ""), `seed ${seed}: ${words.join(" ")}`);

@@ -61,6 +61,7 @@ async function readBy(file, channels) {
   return taken(samples.pieces(() => undefined), { form: "session", channels, samples });
 }
 
+/** @type {[string, string[]][]} */
 const SESSIONS = [
   ["plain.sr", WIRES],
   ["stored.sr", WIRES],
@@ -120,6 +121,7 @@ function longName() {
   return octets;
 }
 
+/** @type {[string, Uint8Array, RegExp][]} */
 const FAULTS = [
   ["cut off", whole.subarray(0, whole.length >> 1), /^the archive is cut off/],
   ["with damaged samples", spoilt(), /in the archive is damaged$/],
@@ -134,7 +136,7 @@ for (const [name, octets, wanted] of FAULTS) {
   test(`a session ${name}`, async () => {
     const told = async () => {
       const { fault } = await readBy(new Blob([octets]), WIRES);
-      throw new Fault(fault);
+      throw new Fault(fault ?? "");
     };
     await assert.rejects(told, (fault) => fault instanceof Fault && wanted.test(fault.message));
   });

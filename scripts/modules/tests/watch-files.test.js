@@ -22,11 +22,15 @@ async function within(body) {
   }
 }
 
-for (const [form, marks, counted] of [[PAIRS, "0123", "0123"], [ARRIVALS, "01oi", "01"]]) {
+/** @type {[typeof PAIRS, string, string][]} */
+const FORMS = [[PAIRS, "0123", "0123"], [ARRIVALS, "01oi", "01"]];
+
+for (const [form, marks, counted] of FORMS) {
   test(`octets and places of ${form.option}, in pieces of any size`, () => {
     const random = randomOf(3);
     const text = Array.from({ length: 4000 }, () => random.one([...marks, "\n"])).join("");
     const packer = new Packer(form);
+    /** @type {number[][]} */
     const parts = [];
     for (let at = 0; at < text.length; ) {
       const past = at + random.below(50);
@@ -37,7 +41,7 @@ for (const [form, marks, counted] of [[PAIRS, "0123", "0123"], [ARRIVALS, "01oi"
     }
     const whole = [...text].filter((c) => marks.includes(c));
     assert.equal(packer.places, whole.filter((c) => counted.includes(c)).length);
-    const octets = parts.flat();
+    const octets = Uint8Array.from(parts.flat());
     octets.forEach((octet, at) => {
       const own = whole.slice(4 * at, 4 * at + 4).map((c) => marks.indexOf(c));
       assert.equal(octet, own[0] + 4 * own[1] + 16 * own[2] + 64 * own[3]);
@@ -72,7 +76,7 @@ test("a line that a disk took half of is written again, and one that a kill cut 
     const path = join(folder, "log");
     writeFileSync(path, '{"event":"start"}\n{"event":"inci');
     const journal = new Journal(path, () => {}, () => {});
-    journal.log({ event: "incident", id: "1-1" });
+    journal.log(/** @type {any} */ ({ event: "incident", id: "1-1" }));
     appendFileSync(path, '{"event":');
     assert.deepEqual(new Journal(path, () => {}, () => {}).told("incident"), [{ event: "incident", id: "1-1" }]);
     assert.equal(readFileSync(path, "utf8"), '{"event":"start"}\n{"event":"incident","id":"1-1"}\n');
@@ -92,6 +96,7 @@ test("a line that is cut within a character, or of which the end of a long log h
   }));
 
 test("what the log has is told, what was open is cut, the rest is to be told", () => {
-  const kept = { run: 1, wall: 0, kinds: {}, open: { id: "1-3" }, waiting: [{ id: "1-1" }, { id: "1-2" }] };
+  const incidents = { open: { id: "1-3" }, waiting: [{ id: "1-1" }, { id: "1-2" }] };
+  const kept = /** @type {any} */ ({ run: 1, wall: 0, kinds: {}, ...incidents });
   assert.deepEqual(untold(kept, [{ id: "1-1" }]), [{ id: "1-2" }, { id: "1-3", cut: true }]);
 });

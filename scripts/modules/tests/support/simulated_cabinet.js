@@ -120,7 +120,7 @@ function flush() {
   try {
     for (let at = 0; at < held; ) at += writeSync(1, room, at, held - at);
   } catch (error) {
-    if (error.code !== "EPIPE") throw error;
+    if (/** @type {{ code?: string }} */ (error).code !== "EPIPE") throw error;
     console.error(`places ${from} ${written}`);
     process.exit(0);
   }

@@ -9,7 +9,8 @@ returns-in_err-consume_alike-clause-read g c =
     let form = ap (λ o. o.form) c.loop-at.invariant.options in
     rw (raised.1, raised.2) (λ start xs read.
     halts-alike start (g.W.Write.contents c.consume_alike.new.w) c.consume_alike.new.self
-    c.args.self.now.options.form xs c.args.octets.now c.loop-at.at c.alike-count.result _ c.in_err-consume_alike.field-0.0 c.requires.sound.size.0
+    c.args.self.now.options.form xs c.args.octets.now c.loop-at.at c.alike-count.result _
+    c.in_err-consume_alike.field-0.0 c.requires.sound.size.0
     c.loop-at-test.true (search rules) c.alike-count.ensures.same
     (rw form at (c.in_err-consume_alike.ensures.read start _ (c.loop-at.invariant.read start xs read))))
 
