@@ -167,8 +167,8 @@ run(async () => {
   const { before = 10, after = 10, longest = 120, ring = 4 * 2 ** 30, keep = 2 ** 30, floor = 2 ** 29 } = values;
   const watch = new Watch({
     ...{ folder, program, form: values.two ? PAIRS : ARRIVALS },
-    ...{ file: values.dictionary, dictionary: readDictionary() },
     ...{ limits: { before, after, longest, ring, keep, floor }, gaps: values.gap ?? new Map(), wall },
+    dictionary: readDictionary(),
     ...{ prometheus: values.prometheus, run: values.run, write: tell, warn },
   });
   await watch.begin();
