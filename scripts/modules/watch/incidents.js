@@ -107,10 +107,16 @@ export class Incidents {
 
   /**
    * Something is well again that an incident may be about.
-   * @param {number} place
+   * @param {import("./triggers.js").About} about
+   * @param {number} first
+   * @param {number} past
+   * @param {number|null} since when it began, in seconds since 1970, where that was in an earlier run
    */
-  wellAgain(place) {
-    if (this.open) this.open.past = Math.max(this.open.past, place);
+  wellAgain(about, first, past, since) {
+    if (this.open) this.open.past = Math.max(this.open.past, past);
+    const time = this.office.zero() + past / RATE;
+    const seconds = Number((since === null ? (past - first) / RATE : time - since).toFixed(3));
+    this.office.log({ event: "well again", wall: iso(time), run: this.run, place: past, ...about, seconds });
   }
 
   /** @param {number} place */

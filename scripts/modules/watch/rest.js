@@ -5,7 +5,6 @@ import { wordsOfList } from "./decoder.js";
 import { captureOf, octetsBefore } from "./forms.js";
 import { Incidents } from "./incidents.js";
 import { Triggers } from "./triggers.js";
-import { iso } from "./wall.js";
 
 /** @typedef {import("../listing/listing.js").Row} Row */
 /** @typedef {import("./journal.js").Entry} Entry */
@@ -72,18 +71,14 @@ export async function judgedRest({ run, zero, triggers: known, incidents: before
   const log = (/** @type {Entry} */ record) => (told.has(keyOf(record)) ? undefined : journal.log(record));
   const incidents = new Incidents(run, asked.limits, { zero: () => zero, keep() {}, save() {}, log });
   incidents.resume(before);
-  const timeOf = (/** @type {number} */ place) => zero + place / RATE;
   const triggers = new Triggers({
     trigger: (cause, first, past) => incidents.trigger(cause, first, past),
-    wellAgain: (about, first, past, since) => {
-      incidents.wellAgain(past);
-      const seconds = Number((since === null ? (past - first) / RATE : timeOf(past) - since).toFixed(3));
-      log({ event: "well again", wall: iso(timeOf(past)), run, place: past, ...about, seconds });
-    },
+    wellAgain: (about, first, past, since) => incidents.wellAgain(about, first, past, since),
   }, asked.gaps);
   triggers.resume(known);
   await judge(triggers, incidents, ring, asked);
-  return { kinds: triggers.kept(timeOf).kinds, incidents: incidents.kept(), tally: incidents.tally };
+  const { kinds } = triggers.kept((place) => zero + place / RATE);
+  return { kinds, incidents: incidents.kept(), tally: incidents.tally };
 }
 
 /**

@@ -48,7 +48,7 @@ export class Watch {
     this.incidents = new Incidents(this.number, asked.limits, this.office());
     this.triggers = new Triggers({
       trigger: (cause, first, past) => this.incidents.trigger(cause, first, past),
-      wellAgain: (about, first, past, since) => this.wellAgain(about, first, past, since),
+      wellAgain: (about, first, past, since) => this.incidents.wellAgain(about, first, past, since),
     }, asked.gaps);
   }
 
@@ -199,20 +199,6 @@ export class Watch {
     this.wall.restart();
     this.keep();
     this.log(event, more);
-  }
-
-  /**
-   * @param {import("./triggers.js").About} about
-   * @param {number} first
-   * @param {number} past
-   * @param {number|null} since
-   */
-  wellAgain(about, first, past, since) {
-    this.incidents.wellAgain(past);
-    const seconds = since === null ? (past - first) / RATE : this.timeOf(past) - since;
-    const wall = iso(this.timeOf(past));
-    const length = Number(seconds.toFixed(3));
-    this.journal.log({ event: "well again", wall, run: this.number, place: past, ...about, seconds: length });
   }
 
   /**
