@@ -90,7 +90,7 @@ ROWS = "[...document.querySelectorAll('#incident-list button')].map((b) => [...b
 
 LIST = [
     ["2026-11-27 03:00:00.311", "answers to type 0 missing", "station 2", "0.20 s"],
-    ["2026-11-26 01:02:03.450", "nothing on either line, and 2 more", "station 1, 2", "0.20 s"],
+    ["2026-11-26 01:02:03.450", "nothing on either line, and 2 more", "stations 1, 2", "0.20 s"],
 ]
 
 # What is shown of the last one: where, and how that begins or what it has.
@@ -104,7 +104,7 @@ SHOWN: List[Tuple[str, str]] = [
     ("#timeline .axis", "03:00:00.3"),
     ("#timeline .axis .about", "UTC"),
     ("#chosen", "03:00:00.311"),
-    ("#lines .line .second", "02:59:59.901"),
+    ("#lines .line.chosen .second", "03:00:00.311"),
     ("#table th:last-child", "from"),
     ("#incidents-head", "Incident 1 of 2"),
 ]
@@ -121,7 +121,7 @@ def problems_of_list(page: Path, name: str) -> List[str]:
         problems = [] if found == LIST else [f"the list is {found}"]
         session.press("Enter")
         session.wait_until(f"{RESULT} && /^03/.test(document.getElementById('chosen').textContent)", 20)
-        session.wait_until("document.querySelector('#lines .line .second')?.textContent", 20)
+        session.wait_until("document.querySelector('#lines .line.chosen .second')", 20)
         session.wait_until("document.querySelectorAll('#timeline .axis .tick').length > 2", 20)
         for selector, words in SHOWN:
             told = text_at(session, selector)

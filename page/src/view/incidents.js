@@ -90,7 +90,7 @@ export class Incidents {
   item(incident) {
     const { words, others, stations } = aboutOf(incident.causes);
     const [item, button] = [make("li"), make("button")];
-    const where = stations.length === 0 ? "" : `station ${stations.join(", ")}`;
+    const where = stations.length === 0 ? "" : `station${stations.length > 1 ? "s" : ""} ${stations.join(", ")}`;
     button.type = "button";
     button.append(
       make("span", incident.wall.slice(0, 23).replace("T", " "), "when"),

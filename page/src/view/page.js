@@ -309,8 +309,10 @@ class Page {
     await this.look();
     const first = incident.place - shown.first;
     const past = first + incident.seconds * RATE;
-    const { words } = aboutOf(incident.causes);
-    if (this.job?.file === shown.file) this.showChosen({ row: -1, first, past, upTo: past, reply: null, text: words, derived: "" });
+    if (this.job?.file !== shown.file) return; // it could not be read
+    const [row, { words }] = [await this.desk.rowFrom(Math.round(first)), aboutOf(incident.causes)];
+    this.showChosen({ row, first, past, upTo: past, reply: null, text: words, derived: "" });
+    if (row >= 0) await this.showLine(row);
   }
 
   /**
