@@ -3,13 +3,12 @@
 import json
 import os
 import random
-import signal
 import subprocess
 import tempfile
 import threading
 import time
 from pathlib import Path
-from typing import Dict, List, NamedTuple, Sequence, Tuple
+from typing import Dict, List, NamedTuple, Optional, Sequence, Tuple
 
 from needs import Skipped, needs
 from tests.case import SCRIPTS
@@ -125,14 +124,15 @@ def turns_from(plan: Plan, begin: int, past: int) -> List[Tuple[int, int]]:
 class Week:
     def __init__(self, folder: Path, plan: Plan, days: float) -> None:
         self.folder, self.plan, self.past = folder, plan, int(DAY * days) * RATE
+        self.until = time.monotonic() + float(os.environ.get("SECONDS_OF_WEEK", 10 * DAY))
         self.cabinet = Cabinet(folder, plan.faults)
         self.runs: List[Watched] = []
         self.most: Dict[str, int] = {}
         (folder / "plan").write_text("".join(f"{f.begin} {f.past} {f.kind} {f.number}\n" for f in plan.faults))
 
-    def run(self, begin: int, kill: float) -> int:
+    def run(self, begin: int, past: int, kill: Optional[float] = None) -> int:
         """Runs the watch from a place on, until it is killed or all has come; tells where the recorder was."""
-        turns = turns_from(self.plan, begin, self.past)
+        turns = turns_from(self.plan, begin, past)
         (self.folder / "turns").write_text("".join(f"{first} {past}\n" for first, past in turns))
         (self.folder / "turn").write_text("1\n")
         (self.folder / "told").write_text("")
@@ -144,7 +144,7 @@ class Week:
         gauge = Gauge(watch, self.folder / "watch")
         gauge.start()
         try:
-            watch.wait(kill or None)
+            watch.wait(kill)
         except subprocess.TimeoutExpired:
             watch.kill()
             watch.wait()
@@ -161,10 +161,12 @@ class Week:
 
     def go(self) -> None:
         begin = 0
-        for kill in [*self.plan.kills, 0]:
-            begin = self.run(begin, kill) + 30 * RATE
-            if begin >= self.past:
-                break
+        for kill in [*self.plan.kills, 10 * DAY]:
+            left = self.until - time.monotonic()
+            if left > 0 and begin < self.past:
+                begin = self.run(begin, self.past, min(kill, left)) + 30 * RATE
+        if begin < self.past:  # there was no time for more
+            self.past = self.run(begin, begin + 120 * RATE)
 
     def figures(self) -> str:
         log = self.cabinet.log
@@ -190,7 +192,7 @@ def problems_of_days(folder: Path, days: float, kills: Sequence[float], full: Tu
         filler.start()
         began = time.monotonic()
         week.go()
-        print(f"{days} days in {time.monotonic() - began:.0f} s: {week.figures()}", flush=True)
+        print(f"{week.past / RATE / DAY:.2f} days in {time.monotonic() - began:.0f} s: {week.figures()}", flush=True)
         print(f"ran {[(run.status, len(run.turns)) for run in week.runs]}; said {(disk / 'said').read_text()}", flush=True)
         problems = judged(week.cabinet, week.runs)
         # Old folders go; while the disk is full none can be saved.

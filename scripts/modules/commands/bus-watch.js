@@ -77,7 +77,7 @@ class Duty {
     this.watch = watch;
     this.isLive = watch.wall instanceof Wall;
     this.readDictionary = readDictionary;
-    this.source = command === undefined ? null : new Source(command);
+    this.source = command === undefined ? null : new Source(command, (text) => watch.log("doubt", { text }));
     onEndOfStream(() => this.stop());
     process.on("SIGHUP", () => (this.isToRead = true));
   }
