@@ -398,9 +398,9 @@ def text_of(session: browser.Session, selector: str) -> str:
     return found
 
 
-def summary_of(listing: str) -> str:
+def summary_of(listing: str, *words: str) -> str:
     """What the script writes."""
-    words = [str(TOP / "scripts" / "bus-summary")]
+    words = (str(TOP / "scripts" / "bus-summary"), *words)
     return subprocess.run(words, input=listing.encode(), capture_output=True, check=True).stdout.decode()
 
 
@@ -613,11 +613,15 @@ NOTES = "recording-to-bits: TXC has 9 edges\nrecording-to-bits: warning: the edg
 REPORTED = [
     ("#title", "^Cabinet <7> & more$"),
     ("#verdict-word", "^Fault$"),
-    ("#sentences", "until the recording ends at 65.104 s"),
+    ("#sentences", "until the recording ends at 03:01:05.104"),
+    ("#head", "It begins on 2026-11-27 03:00:00.000"),
+    ("#facts", "2026-11-27 03:00:00"),
+    ("#timeline .axis", "03:00:50.*time"),
+    ("#lines .second", "^03:00:00.0"),
     ("#facts", "^port1-failure.bits"),
     ("#recording", "SHA-256[0-9a-f]{64}$"),
     ("#notes", "TXC has 9 edges"),
-    ("#warnings", "The edges of TXC jump.*At 0.250 s"),
+    ("#warnings", "The edges of TXC jump.*At 03:00:00.250"),
     ("#dictionary-text", "name = .outputs."),
 ]
 
@@ -632,7 +636,8 @@ def problems_of_report(page: Path, name: str) -> List[str]:
         report, notes = Path(folder, "report.html"), Path(folder, "notes")
         notes.write_text(NOTES)
         words = [f"--page={page}", f"--dictionary={dictionary}", f"--recording={capture}", f"--notes={notes}"]
-        words.append("--bits=9999999")
+        begin = "--begin=2026-11-27T03:00:00-05:00"
+        words += ["--bits=9999999", begin]
         command = [str(TOP / "scripts" / "list-to-page"), *words, "Cabinet <7> & more"]
         report.write_bytes(subprocess.run(command, input=wanted.encode(), stdout=subprocess.PIPE, check=True).stdout)
         with opened(name, report.as_uri()) as session:
@@ -641,7 +646,7 @@ def problems_of_report(page: Path, name: str) -> List[str]:
             problems += [] if session.value("document.title") == "Cabinet <7> & more" else ["the title is another"]
             shown = ((selector, pattern, text_of(session, selector)) for selector, pattern in REPORTED)
             problems += [f"{selector} is {text!r}" for selector, pattern, text in shown if not re.search(pattern, text)]
-            problems += problems_of_table(session, summary_of(wanted))
+            problems += problems_of_table(session, summary_of(wanted, begin))
             problems += [] if len(session.printed()) > 10000 else ["nothing is printed"]
             return problems + [f"the console says {text}" for text in session.complaints()]
 

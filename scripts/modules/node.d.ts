@@ -112,6 +112,11 @@ declare module "node:path" {
   function join(...parts: string[]): string;
 }
 
+declare module "node:readline" {
+  import { Readable } from "node:stream";
+  function createInterface(options: { input: Readable }): { on(event: "line", listener: (line: string) => void): void };
+}
+
 declare module "node:stream" {
   class Readable implements AsyncIterable<Buffer> {
     static from(pieces: AsyncIterable<Uint8Array>): Readable;

@@ -98,11 +98,11 @@ def tells_what_it_is_given(folder: Path) -> List[str]:
     dictionary = folder / "dictionary.toml"
     dictionary.write_text(text)
     title = "</title><script>alert(2)</script> & more"
-    words = [title, f"--dictionary={dictionary}", "--rate=9600", "--command=port1 list < <tap>"]
+    words = [title, f"--dictionary={dictionary}", "--rate=9600", "--command=port1 list < <tap>", "--begin=2026-11-27T03:00Z"]
     report = report_of(words, b"0 15 idle\n")
     wanted = {
         **{"version": "1.2.3", "schema": {}, "title": title, "rate": 9600},
-        **{"dictionary": text, "command": "port1 list < <tap>"},
+        **{"dictionary": text, "command": "port1 list < <tap>", "begin": "2026-11-27T03:00Z"},
     }
     found = [] if json.loads(report.about) == wanted else [f"it tells {report.about}"]
     found += ["a < stands in its data"] * ("<" in report.about)
@@ -128,6 +128,14 @@ def tells_of_the_recording(folder: Path) -> List[str]:
     found = [] if about["recording"] == wanted else [f"of the recording it tells {about['recording']}"]
     found += [] if about["bits"] == 99 else [f"the bits are {about['bits']}"]
     return found + ([] if about["notes"] == lines else [f"the notes are {about['notes']}"])
+
+
+def refuses_another_time(_: Path) -> List[str]:
+    """A time that is none is refused before anything is written."""
+    got = ran([SCRIPT, f"--page={PAGE}", "--begin=yesterday", "A title"], b"0 15 idle\n")
+    told = 'error: --begin: "yesterday" is no time as 2026-11-27T03:00:00Z\n'
+    is_refused = got.returncode == 2 and got.stdout == b"" and got.stderr.decode().endswith(told)
+    return [] if is_refused else [f"{got.returncode}: {got.stderr!r}"]
 
 
 def refuses_other_lines(_: Path) -> List[str]:
@@ -182,5 +190,6 @@ def report_of_a_recording(folder: Path) -> List[str]:
 
 
 TESTS: List[Test] = [
-    *[holds_the_listing, tells_what_it_is_given, tells_of_the_recording, refuses_other_lines, report_of_a_recording],
+    *[holds_the_listing, tells_what_it_is_given, tells_of_the_recording, refuses_another_time, refuses_other_lines],
+    report_of_a_recording,
 ]

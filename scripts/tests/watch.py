@@ -139,7 +139,8 @@ def port1_is_killed(folder: Path) -> List[str]:
 def source_that_ends(folder: Path) -> List[str]:
     """A source is started again when it ends; what it said is told, and no seam is a fault of the cabinet."""
     needs("node")
-    command = f"echo bad luck >&2; node {SIMULATOR} 7 0 {8 * RATE} '' 0; exit 3"
+    doubt = "echo recording-to-bits: event: TXC stops >&2"
+    command = f"{doubt}; echo bad luck >&2; node {SIMULATOR} 7 0 {8 * RATE} '' 0; exit 3"
     words = [SCRIPTS / "bus-watch", folder / "watch", "--dictionary", DICTIONARY, "--floor", "0", "--two", "--source", command]
     watch = subprocess.Popen(words, stdin=subprocess.DEVNULL, stdout=subprocess.PIPE, stderr=subprocess.PIPE)
     time.sleep(5)
@@ -148,7 +149,9 @@ def source_that_ends(folder: Path) -> List[str]:
     records = [json.loads(line) for line in out.decode().splitlines()]
     ended = [(r["status"], r["said"].split("\n")[0], r["again"]) for r in records if r["event"] == "source ended"]
     others = {record["event"] for record in records} - {"source ended"}
-    is_well = ended[:2] == [(3, "bad luck", 1), (3, "bad luck", 2)] and others == {"start", "end"}
+    doubts = [record["text"] for record in records if record["event"] == "doubt"]
+    is_well = ended[:2] == [(3, "bad luck", 1), (3, "bad luck", 2)] and others == {"start", "doubt", "end"}
+    is_well = is_well and set(doubts) == {"TXC stops"} and len(doubts) >= 2
     return [] if is_well and watch.returncode == 0 and not err else [f"{records}, {watch.returncode}, {err!r}"]
 
 

@@ -5,7 +5,7 @@ import random
 import subprocess
 import time
 from pathlib import Path
-from typing import Any, Dict, Iterator, List, NamedTuple, Optional, Sequence
+from typing import Any, Dict, Iterator, List, NamedTuple, Optional, Sequence, Tuple
 
 from needs import needs
 from tests.case import SCRIPTS, SECONDS, TOP, Word
@@ -38,8 +38,8 @@ class Fault(NamedTuple):
 
     @property
     def is_small(self) -> bool:
-        """Whether it is below all thresholds: two commands."""
-        return self.past - self.begin < 0.1 * RATE
+        """Whether it is below all thresholds, two commands, or none of the cabinet."""
+        return self.past - self.begin < 0.1 * RATE or self.kind == "lose"
 
 
 def fault_of(generator: random.Random, second: float, longest: float) -> Fault:
@@ -65,13 +65,31 @@ def schedule(seed: int, seconds: int, count: int) -> List[Fault]:
 
 
 class Watched(NamedTuple):
-    """A run of the watch: its places, what it wrote, and its status."""
+    """A run of the watch: the places of each recorder that it had, what it wrote, and its status."""
 
-    begin: int
-    past: int
+    turns: Sequence[Tuple[int, int]]
     records: List[Record]
     stderr: str
     status: int
+
+    @property
+    def past(self) -> int:
+        return self.turns[-1][1]
+
+    def in_cabinet(self, place: int, faults: Sequence[Fault]) -> int:
+        """A place of the run as one of the cabinet: what was lost, and what came between recorders, has none."""
+        for begin, past in self.turns:
+            at = begin + place
+            for fault in faults:
+                if fault.kind == "lose" and begin <= fault.begin <= min(at, past):
+                    at += fault.past - fault.begin
+            if at < past:
+                return at
+            place -= past - begin - (at - begin - place)
+        return self.past
+
+    def watches(self, fault: Fault) -> bool:
+        return any(begin < fault.past - RATE and fault.begin < past - IN_PIPES for begin, past in self.turns)
 
 
 class Cabinet(NamedTuple):
@@ -114,7 +132,7 @@ class Cabinet(NamedTuple):
         rest, err = watch.communicate(timeout=LONG)
         _, told = source.communicate(timeout=SECONDS)
         records = [json.loads(line) for line in (out + rest).decode().splitlines() if line.endswith("}")]
-        return Watched(begin, int(told.split()[-1]), records, err.decode(), watch.returncode)
+        return Watched([(begin, int(told.split()[-1]))], records, err.decode(), watch.returncode)
 
     @property
     def log(self) -> List[Record]:
@@ -130,7 +148,7 @@ def problems_of_folder(folder: Path, record: Record) -> Iterator[str]:
     if not folder.is_dir():
         yield f"{folder.name} is not there"
         return
-    files = {"bits.ts2", "listing.txt", "summary.txt", "frames.pcapng"}
+    files = {"bits.ts2", "cabinet.toml", "frames.pcapng", "incident.json", "listing.txt", "summary.txt"}
     found = {path.name for path in folder.iterdir()} - {"report.html"}
     summary = (folder / "summary.txt").read_text() if "summary.txt" in found else ""
     if found != files:
@@ -145,17 +163,16 @@ def problems_of_folder(folder: Path, record: Record) -> Iterator[str]:
 
 def judged(cabinet: Cabinet, runs: Sequence[Watched]) -> List[str]:
     """What is wrong: each fault that was watched is found once, nothing else is told, and all of it was saved."""
-    begins = {number: run.begin for number, run in enumerate(runs, 1)}
     told = []
     for record in cabinet.incidents:
-        first = begins[record["run"]] + record["place"]
+        first = runs[record["run"] - 1].in_cabinet(record["place"], cabinet.faults)
         told.append((first, first + int(record["seconds"] * RATE), record))
     problems = []
     for fault in cabinet.faults:
         near = (fault.begin - 2 * RATE, fault.past + 2 * RATE)
         own = [record for first, past, record in told if near[0] < past and first < near[1]]
         fresh = [record for record in own if "continues" not in record]
-        is_watched = any(run.begin < fault.past - RATE and fault.begin < run.past - IN_PIPES for run in runs)
+        is_watched = any(run.watches(fault) for run in runs)
         wanted = 0 if fault.is_small or not is_watched else 1
         problems += [] if len(fresh) == wanted or len(own) > wanted == 0 and not is_watched else [f"{fault}: {fresh}"]
     for first, past, record in told:

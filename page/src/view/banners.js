@@ -23,13 +23,17 @@ export class Banners {
     this.mend = mend;
   }
 
-  /** @param {{ fault: string|null, warnings: Warning[], count: number }} summary @param {string} guess */
-  show({ fault, warnings, count }, guess) {
+  /**
+   * @param {{ fault: string|null, warnings: Warning[], count: number }} summary
+   * @param {string} guess
+   * @param {import("./clock.js").Clock} clock
+   */
+  show({ fault, warnings, count }, guess, clock) {
     element("fault").hidden = fault === null;
     element("fault").textContent = fault === null ? "" : faultWords(fault, count > 0);
     element("warnings").hidden = warnings.length === 0;
-    const firstEdge = warnings.findIndex((warning) => wordsOf(warning).act === "edge");
-    const items = warnings.map((warning, at) => this.item(warning, at === firstEdge));
+    const firstEdge = warnings.findIndex((warning) => wordsOf(warning, clock).act === "edge");
+    const items = warnings.map((warning, at) => this.item(warning, clock, at === firstEdge));
     element("warning-list").replaceChildren(...items);
     element("guess").hidden = guess === "";
     element("guess").replaceChildren(guess, ...(guess === "" ? [] : [this.button("wires")]));
@@ -38,10 +42,11 @@ export class Banners {
   /**
    * A warning, with what to do, in a report no more than to show it; the other edge is offered once.
    * @param {Warning} warning
+   * @param {import("./clock.js").Clock} clock
    * @param {boolean} isFirstEdge
    */
-  item(warning, isFirstEdge) {
-    const { text, cure, act } = wordsOf(warning);
+  item(warning, clock, isFirstEdge) {
+    const { text, cure, act } = wordsOf(warning, clock);
     const item = make("li", "");
     item.append(make("strong", text), ...(cure ? [` ${cure}`] : []));
     const isOffered = element("listing-data") ? act === "second" : act !== "edge" || isFirstEdge;

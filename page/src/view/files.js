@@ -1,24 +1,32 @@
 import { usualOf } from "../../../scripts/modules/recording/usual.js";
 import { element, make } from "./dom.js";
+import { chosenFiles, droppedFiles } from "./given.js";
+
+/** @typedef {import("./given.js").Given} Given */
 
 /** The choice of files, and of how each is read. */
 export class Files {
-  /** @param {(files: File[]) => void} take what to do with files that were dropped or chosen */
+  /** @param {(files: Given[]|Promise<Given[]>) => void} take what to do with files that were dropped or chosen */
   constructor(take) {
-    element("files").addEventListener("change", ({ target }) => {
-      const field = /** @type {HTMLInputElement & { files: FileList }} */ (target);
-      const files = [...field.files];
-      field.value = ""; // so that the same file can be chosen again, when it has changed
-      if (files.length > 0) take(files);
-    });
+    for (const id of /** @type {const} */ (["files", "folder"])) {
+      element(id).addEventListener("change", ({ target }) => {
+        const field = /** @type {HTMLInputElement & { files: FileList }} */ (target);
+        const files = chosenFiles(field.files);
+        field.value = ""; // so that the same file can be chosen again, when it has changed
+        if (files.length > 0) take(files);
+      });
+    }
     for (const name of ["dragenter", "dragover"]) document.addEventListener(name, (event) => dragged(event, true));
     for (const name of ["dragleave", "drop"]) document.addEventListener(name, (event) => dragged(event, false));
-    document.addEventListener("drop", (event) => take([.../** @type {DataTransfer} */ (event.dataTransfer).files]));
+    document.addEventListener("drop", (event) => take(droppedFiles(/** @type {DataTransfer} */ (event.dataTransfer))));
   }
 
-  /** Asks for files. */
-  choose() {
-    element("files").click();
+  /**
+   * Asks for files, or for a folder.
+   * @param {"files"|"folder"} id
+   */
+  choose(id = "files") {
+    element(id).click();
   }
 
   /**

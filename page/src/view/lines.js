@@ -1,3 +1,4 @@
+import { Clock } from "./clock.js";
 import { element, make } from "./dom.js";
 import { isOther } from "./keys.js";
 import { latest } from "./latest.js";
@@ -39,7 +40,7 @@ export class Lines {
     this.desk = desk;
     this.pick = pick;
     this.open = open;
-    this.rate = 1;
+    this.clock = new Clock(1);
     this.at = -1; // the place of the chosen line among those shown
     this.count = 0;
     this.top = 0; // the first line in view
@@ -62,6 +63,15 @@ export class Lines {
     this.box.addEventListener("keydown", (event) => this.pressed(event));
     this.view.addEventListener("click", (event) => this.clicked(event));
     new ResizeObserver(() => this.count > 0 && this.fit()).observe(this.box);
+  }
+
+  /**
+   * Tells times by a clock.
+   * @param {Clock} clock
+   */
+  setClock(clock) {
+    this.clock = clock;
+    this.box.classList.toggle("of-day", clock.dayTime !== null);
   }
 
   /** Fits the list to its box, which another size was given. */
@@ -173,7 +183,7 @@ export class Lines {
     node.setAttribute("aria-selected", String(isChosen));
     node.setAttribute("aria-setsize", String(this.count));
     node.setAttribute("aria-posinset", String(position + 1));
-    cellsOf(line, this.rate).forEach((text, at) => {
+    cellsOf(line, this.clock).forEach((text, at) => {
       const cell = /** @type {Text} */ (node.children[at].firstChild);
       if (cell.data !== text) cell.data = text;
     });
@@ -218,13 +228,12 @@ function emptyLine() {
 /**
  * The texts of the cells: the time, and then a line of `port1 list` as it is, with the time of a reply.
  * @param {Line} line
- * @param {number} rate
+ * @param {Clock} clock
  */
-function cellsOf({ text, first, reply, derived }, rate) {
+function cellsOf({ text, first, reply, derived }, clock) {
   const found = /^(?:([12]) )?(\d+ \d+) (\w+)(?: ([0-9a-f]{4,}))?(.*)$/.exec(text);
   const whole = /** @type {[null, string, string, string, string, string]} */ ([null, "", "", "", text, ""]);
   const [, on = "", places, kind, octets = "", about] = found ?? whole;
-  const after = reply === null ? about : `${about}, ${((1000 * reply) / rate).toFixed(2)} ms`;
-  const second = `${(first / rate).toFixed(6)} `;
-  return [second, on && `${on} `, `${places} `, kind, octets && ` ${octets}`, derived ? ` ${derived}` : after];
+  const after = reply === null ? about : `${about}, ${((1000 * reply) / clock.rate).toFixed(2)} ms`;
+  return [`${clock.time(first)} `, on && `${on} `, `${places} `, kind, octets && ` ${octets}`, derived ? ` ${derived}` : after];
 }

@@ -2,14 +2,17 @@ import { canRun } from "../engine/library.js";
 import { KINDS } from "../../../scripts/modules/listing/kinds.js";
 import { RATE } from "../../../scripts/modules/port1.js";
 import { counted } from "../../../scripts/modules/statistics/units.js";
+import { aboutOf, titleOf } from "../../../scripts/modules/watch/words.js";
 import { callerOf } from "../worker/rpc.js";
 import { Banners } from "./banners.js";
 import { Bar } from "./bar.js";
+import { Clock } from "./clock.js";
 import { commandOf } from "./command.js";
 import { DictionaryPane } from "./dictionary.js";
 import { element, fillList, make, save } from "./dom.js";
 import { octetsOf, unpacked } from "./embedded.js";
 import { Files } from "./files.js";
+import { Incidents, incidentsAmong, shownOf } from "./incidents.js";
 import { Help, isOther } from "./keys.js";
 import { Lines, LINES_KEYS } from "./lines.js";
 import { Replies } from "./replies.js";
@@ -17,7 +20,7 @@ import { showDamage, showTable } from "./report.js";
 import { Sentences } from "./sentences.js";
 import { Tabs } from "./tabs.js";
 import { Timeline, TIMELINE_KEYS } from "./timeline.js";
-import { duration, grouped, seconds } from "./units.js";
+import { duration, grouped } from "./units.js";
 import { Verdict } from "./verdict.js";
 import { whyNot } from "./words.js";
 
@@ -28,6 +31,8 @@ import { whyNot } from "./words.js";
 /** @typedef {import("../worker/desk.js").FarDesk} Desk */
 /** @typedef {import("../worker/desk.js").Found} Found */
 /** @typedef {import("../worker/desk.js").Summary} Summary */
+/** @typedef {import("./given.js").Given} Given */
+/** @typedef {import("./incidents.js").Incident} Incident */
 
 /**
  * What the worker is asked to read.
@@ -40,12 +45,13 @@ import { whyNot } from "./words.js";
  * @property {number} inverted which lines' data is: 1, 2, or 3 for both
  * @property {number} rate in bits a second
  * @property {string} dictionary its text, or nothing
+ * @property {import("../worker/desk.js").Begin|null} begin when place 0 was, where that is known
  * @property {Uint8Array|null} engine the decoder's module
  */
 
 /**
  * The same of the listing in a report, with the warnings that the report was told.
- * @typedef {Pick<Asked, "rate"|"dictionary"|"engine"> & { file: Blob, form: "listing", told: string[], end?: number }}
+ * @typedef {Pick<Asked, "rate"|"dictionary"|"begin"|"engine"> & { file: Blob, form: "listing", told: string[], end?: number }}
  *   Embedded
  */
 
@@ -58,6 +64,7 @@ import { whyNot } from "./words.js";
  * @property {Record<string, string>} [recording] what is known of its file
  * @property {string[]} [notes] on it
  * @property {number} [bits] that it has
+ * @property {string} [begin] when its place 0 was
  */
 
 /** @typedef {About & { title: string, rate: number, dictionary: string, command: string }} Report */
@@ -85,6 +92,9 @@ const NO_ENGINE =
 
 const WIRES = "TXC, TXD, RXC, RXD, in this order";
 const NOTHING_CHOSEN = "Nothing is chosen: choose a mark, a line, or a time of a sentence.";
+
+/** Of so many files it is told why they cannot be read. */
+const MOST_TOLD = 3;
 
 /** About a line that is no stretch, so many seconds are shown. */
 const ABOUT_SECONDS = 0.3;
@@ -125,12 +135,17 @@ class Page {
     /** @type {Found} */
     this.found = { form: "other", channels: [] }; // of the chosen file, once the worker has looked at it
     this.guess = "";
-    this.rate = RATE;
+    /** @type {import("../worker/desk.js").Begin|null} */
+    this.zero = null; // of the chosen file, where it is known
+    this.clock = new Clock(RATE);
     /** @type {Asked|Embedded|null} */
     this.asked = null;
     /** @type {Asked|Embedded|null} */
     this.job = null; // of what is shown
-    this.files = new Files((files) => this.take(files).catch((fault) => this.refuse(fault)));
+    /** @type {Incident|null} */
+    this.incident = null; // that is shown
+    this.files = new Files((given) => this.takeAll(given).catch((fault) => this.refuse(fault)));
+    this.incidents = new Incidents((incident) => this.open(incident).catch((fault) => this.refuse(fault)));
     this.lines = new Lines(desk, (row) => this.pickLine(row), (row) => this.openLine(row));
     this.timeline = new Timeline(desk, {
       pick: (row) => this.pickMark(row),
@@ -166,6 +181,7 @@ class Page {
     this.onClick("draft", () => this.begin());
     this.onClick("example", () => this.showExample());
     this.onClick("choose-files", () => this.files.choose());
+    this.onClick("choose-folder", () => this.files.choose("folder"));
     this.onClick("open-another", () => this.files.choose());
     this.onClick("show-settings", () => this.toggleSettings());
     this.onClick("save", async () => save("listing.txt", await this.desk.text()));
@@ -186,8 +202,8 @@ class Page {
   }
 
   /**
-   * How far the page is: empty, asking for wires, or with a result.
-   * @param {"empty"|"asking"|"result"} name
+   * How far the page is: empty, asking for wires, with a list of incidents, or with a result.
+   * @param {"empty"|"asking"|"list"|"result"} name
    */
   state(name) {
     document.body.dataset.state = name;
@@ -251,10 +267,60 @@ class Page {
   }
 
   /**
+   * Takes what was given: incidents, of which one is shown and of several a list; of a folder the files that can be
+   * read; or files.
+   * @param {Given[]|Promise<Given[]>} given
+   */
+  async takeAll(given) {
+    const all = await given;
+    const { incidents, broken } = await incidentsAmong(all);
+    if (broken.length > 0) throw new Error(`${broken.join(", ")} tells nothing of an incident.`);
+    if (incidents.length > 0) this.incidents.show(incidents);
+    if (incidents.length === 1) await this.open(incidents[0]);
+    else if (incidents.length > 1) this.list(incidents.length);
+    else await this.take(all.map(({ file }) => file), all.some(({ path }) => path.includes("/")));
+  }
+
+  /**
+   * Waits for one of several incidents to be chosen.
+   * @param {number} count
+   */
+  list(count) {
+    element("result").hidden = true;
+    this.state("list");
+    this.say(`${count} incidents.`);
+    element("incident-list").querySelector("button")?.focus();
+  }
+
+  /**
+   * Shows an incident, and where it is in its bits.
+   * @param {Incident} incident
+   */
+  async open(incident) {
+    const shown = shownOf(incident, this.engine !== null);
+    if (shown === null) throw new Error(`${incident.path} has neither bits.ts2 nor listing.txt.`);
+    const dictionary = incident.files.get("cabinet.toml");
+    if (dictionary) await this.dictionary.set(await dictionary.text(), dictionary.name);
+    this.chosen = [shown.file];
+    this.files.offer(this.chosen);
+    this.zero = shown.begin;
+    this.incident = incident;
+    this.incidents.choose(incident);
+    await this.look();
+    const first = incident.place - shown.first;
+    const past = first + incident.seconds * RATE;
+    if (this.job?.file !== shown.file) return; // it could not be read
+    const [row, { words }] = [await this.desk.rowFrom(Math.round(first)), aboutOf(incident.causes)];
+    this.showChosen({ row, first, past, upTo: past, reply: null, text: words, derived: "" });
+    if (row >= 0) await this.showLine(row);
+  }
+
+  /**
    * Takes files: dictionaries into their field, the rest to choose from.
    * @param {File[]} files
+   * @param {boolean} [isFolder] which may have others beside
    */
-  async take(files) {
+  async take(files, isFolder = false) {
     /** @type {[File[], string[]]} */
     const [rest, others] = [[], []];
     for (const file of files) {
@@ -264,7 +330,8 @@ class Page {
       else rest.push(file);
     }
     if (rest.length > 0) {
-      this.chosen = rest;
+      Object.assign(this, { chosen: rest, zero: null, incident: null });
+      this.incidents.show([]);
       this.files.offer(rest);
       await this.look();
     } else if (others.length === 0 && this.file) {
@@ -272,7 +339,8 @@ class Page {
     } else if (others.length === 0) {
       this.say("The dictionary is kept. Now drop a recording.");
     }
-    if (others.length > 0) this.say(others.join(" "), true);
+    const more = others.length > MOST_TOLD ? ` So are ${others.length - MOST_TOLD} other files.` : "";
+    if (others.length > 0 && !(isFolder && rest.length > 0)) this.say(others.slice(0, MOST_TOLD).join(" ") + more, true);
   }
 
   get file() {
@@ -308,6 +376,7 @@ class Page {
       ...{ rising: !element("falling").checked, inverted: this.files.inverted(), file },
       rate: Number(element("rate").value) || RATE,
       dictionary: this.dictionary.text,
+      begin: this.zero,
       engine: this.engine,
     };
   }
@@ -342,16 +411,16 @@ class Page {
     this.asked = job;
     const summary = await this.desk.load(job);
     if (this.asked !== job) return; // another file, or another way to read it, was chosen meanwhile
-    const isSame = this.job?.file === job.file && this.rate === job.rate;
-    Object.assign(this, { job, rate: job.rate });
+    const isSame = this.job?.file === job.file && this.clock.rate === job.rate;
+    Object.assign(this, { job, clock: new Clock(job.rate, job.begin, summary.first) });
     element("result").hidden = false;
     this.state("result");
     element("draft").disabled = false;
     this.showWords(summary, job, name);
-    this.timeline.reset(summary, job.rate, isSame);
+    this.timeline.reset(summary, this.clock, isSame);
     this.replies.reset(summary.replies, job.rate, summary.verdict.isLateJudged);
     if (!isSame) this.forget();
-    this.lines.rate = job.rate;
+    this.lines.setClock(this.clock);
     await this.search(isSame ? this.lines.top : 0);
     const lasted = ((performance.now() - began) / 1000).toFixed(1);
     this.say(`${name}: ${element("verdict-word").textContent}. ${grouped(summary.count)} lines in ${lasted} s.`);
@@ -376,17 +445,29 @@ class Page {
     const isReport = Boolean(element("listing-data"));
     fillList(element("notes"), [...summary.notes, ...(isReport ? this.about.notes ?? [] : [])]);
     this.verdict.show(summary);
-    this.banners.show(summary, isReport ? "" : this.guess);
+    this.banners.show(summary, isReport ? "" : this.guess, this.clock);
     const bits = summary.past - summary.first;
-    this.sentences.show(findings, verdict.well, [...verdict.lacks, ...verdict.notes], { rate: job.rate, length: bits });
-    const length = (bits / job.rate).toFixed(3);
-    const pieces = counted(summary.damaged, "damaged piece");
-    element("head").textContent = `${counted(summary.frames, "frame")} and ${pieces} in ${length} s.`;
+    this.sentences.show(findings, verdict.well, [...verdict.lacks, ...verdict.notes], this.clock, bits);
+    this.showHead(summary, bits);
     showTable(summary.table, findings);
     showDamage(summary.damage, summary.damaged);
     this.offerDraft(verdict, job);
     this.showFile(summary, job, name, isReport);
     element("warnings-head").hidden = warnings.length === 0;
+  }
+
+  /**
+   * How much there is, and when it was, as far as that is known.
+   * @param {Summary} summary
+   * @param {number} bits
+   */
+  showHead({ frames, damaged }, bits) {
+    const { rate, begin, dayTime } = this.clock;
+    const when = dayTime === null ? "" : ` It begins on ${begin}.`;
+    const pieces = counted(damaged, "damaged piece");
+    element("head").textContent = `${counted(frames, "frame")} and ${pieces} in ${(bits / rate).toFixed(3)} s.${when}`;
+    element("query-second-name").textContent = dayTime === null ? "Second" : "Time";
+    element("query-second").placeholder = dayTime === null ? "" : this.clock.at(this.clock.first, rate).slice(-12, -4);
   }
 
   /**
@@ -398,12 +479,13 @@ class Page {
    */
   showFile(summary, job, name, isReport) {
     const [asked, about] = [/** @type {Asked} */ (job), /** @type {Report} */ (this.about)]; // each where it is one
-    const date = isReport ? about.recording?.date ?? "" : dateOf(asked.file);
-    const shown = isReport ? about.recording?.name ?? name : name;
+    const date = this.incident ? "" : this.clock.begin || (isReport ? about.recording?.date ?? "" : dateOf(asked.file));
+    const own = this.incident === null ? name : titleOf(this.incident);
+    const shown = isReport ? about.recording?.name ?? name : own;
     this.bar.show(summary, job, { name: shown, date, hasDictionary: job.form !== "listing" });
     element("title").textContent = isReport ? about.title : "Port 1";
     if (!isReport) {
-      document.title = `${element("verdict-word").textContent}: ${name}, Port 1`;
+      document.title = `${element("verdict-word").textContent}: ${own}, Port 1`;
       /** @type {Record<string, string>} */
       const wires = asked.channels.length > 0 ? { wires: asked.channels.join(", ") } : {};
       this.showRecording({ name, date, size: grouped(asked.file.size), form: job.form, ...wires });
@@ -498,7 +580,7 @@ class Page {
     const text = /** @type {string} */ (place.short); // which a stretch has
     const stretch = { first: place.first, past: place.past, upTo: place.past, text, reply: null };
     const shown = place.isStretch ? { ...about, ...stretch } : about;
-    const length = place.isStretch ? place.past - place.first : (ABOUT_SECONDS / 2) * this.rate;
+    const length = place.isStretch ? place.past - place.first : (ABOUT_SECONDS / 2) * this.clock.rate;
     const middle = (shown.first + shown.past) / 2;
     if (this.timeline.station !== null) await this.narrow(null);
     this.timeline.chosen = { ...shown, past: shown.upTo };
@@ -525,14 +607,14 @@ class Page {
 
   /** @param {number} second */
   async goTo(second) {
-    const place = Math.round(second * this.rate);
+    const place = Math.round(second * this.clock.rate);
     const row = await this.desk.rowFrom(place);
     if (row >= 0) await this.go({ row, first: place, past: place + 1 });
   }
 
   async goToSecond() {
-    const { value } = element("query-second");
-    const row = value === "" ? -1 : await this.desk.rowFrom(Math.round(Number(value) * this.rate));
+    const place = this.clock.placeOf(element("query-second").value.trim());
+    const row = place === null ? -1 : await this.desk.rowFrom(place);
     if (row >= 0) await this.pickMark(row);
   }
 
@@ -556,10 +638,11 @@ class Page {
    */
   showChosen(place) {
     const { first, past, text, reply } = place;
-    const after = reply === null || reply === undefined ? "" : `, its answer after ${duration(reply, this.rate)}`;
-    const when = `${seconds(first, this.rate, this.rate / 1000)} s`;
+    const { rate } = this.clock;
+    const after = reply === null || reply === undefined ? "" : `, its answer after ${duration(reply, rate)}`;
+    const when = this.clock.moment(first);
     const what = text.replace(/^(?:[12] )?\d+ \d+ /, "");
-    const length = duration(past - first, this.rate);
+    const length = duration(past - first, rate);
     element("chosen").replaceChildren(make("strong", when), ` for ${length}${after}: ${what}`);
     this.timeline.choose(place);
   }
@@ -576,7 +659,7 @@ class Page {
   /** Shows the listing that a report has in it. */
   async showEmbedded() {
     if (!element("listing-data")) return;
-    const { title, rate, dictionary, recording, notes = [], bits: end } = /** @type {Report} */ (this.about);
+    const { title, rate, dictionary, recording, notes = [], bits: end, begin: text } = /** @type {Report} */ (this.about);
     document.title = title;
     for (const id of ["choice", "actions", "dictionary-box"]) element(id).hidden = true;
     /** @type {NodeListOf<HTMLElement & { dataset: { report: string } }>} */
@@ -587,7 +670,8 @@ class Page {
     this.showRecording(recording ?? {});
     const told = notes.filter((note) => note.startsWith(WARNING)).map((note) => note.slice(WARNING.length));
     const file = await unpacked("listing-data");
-    await this.load({ file, form: "listing", rate, engine: null, dictionary, told, end }, title);
+    const begin = text === undefined ? null : { text, late: 0 };
+    await this.load({ file, form: "listing", rate, engine: null, dictionary, begin, told, end }, title);
   }
 }
 

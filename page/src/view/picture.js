@@ -3,7 +3,6 @@ import { scaleLinear } from "d3-scale";
 import { lengthOf } from "../../../scripts/modules/statistics/causes.js";
 import { drawDigits, heightOfDigits } from "./digits.js";
 import { SIGNS } from "./signs.js";
-import { seconds } from "./units.js";
 
 /** @typedef {import("d3-scale").Scale} Scale */
 /** @typedef {import("d3-selection").Selection<SVGGElement>} Group */
@@ -30,7 +29,7 @@ import { seconds } from "./units.js";
  * @property {Lane[]} lanes
  * @property {import("./digits.js").Digits[]} digits
  * @property {Scale} scale
- * @property {number} rate
+ * @property {import("./clock.js").Clock} clock
  * @property {number} width
  * @property {Part|null} chosen
  */
@@ -53,7 +52,7 @@ export class Picture {
   scale = /** @type {Scale} */ (/** @type {unknown} */ (undefined));
   root = /** @type {Group} */ (/** @type {unknown} */ (undefined));
   drawn = /** @type {{ lane: Lane, top: number, height: number }[]} */ (/** @type {unknown} */ (undefined));
-  rate = NaN;
+  clock = /** @type {import("./clock.js").Clock} */ (/** @type {unknown} */ (undefined));
   width = NaN;
 
   /** @param {Svg} svg @param {(row: number) => void} pick what to do where a mark is chosen */
@@ -79,8 +78,8 @@ export class Picture {
   }
 
   /** @param {Told & { stretches: Finding[] }} told stretches are drawn through all lanes */
-  draw({ lanes, digits, scale, rate, width, chosen, stretches }) {
-    Object.assign(this, { scale, rate, width });
+  draw({ lanes, digits, scale, clock, width, chosen, stretches }) {
+    Object.assign(this, { scale, clock, width });
     const stations = lanes.filter(({ isStation }) => isStation).length;
     const room = Math.min(260, LANE.room * window.innerHeight);
     const own = Math.max(LANE.least, Math.min(LANE.most, Math.floor(room / Math.max(1, stations))));
@@ -104,17 +103,16 @@ export class Picture {
   }
 
   /**
-   * The seconds below the lanes, which may be scrolled; what is chosen, and where the recording is doubtful.
+   * The times below the lanes, which may be scrolled; what is chosen, and where the recording is doubtful.
    * @param {Svg} axis
    * @param {Told & { warnings: import("../../../scripts/modules/recording/doubts.js").Warning[] }} told
    */
-  drawAxis(axis, { scale, rate, width, chosen, warnings }) {
+  drawAxis(axis, { scale, clock, width, chosen, warnings }) {
     const [left, right] = scale.range();
-    const times = scaleLinear().domain(scale.domain().map((place) => place / rate)).range([left, right]);
     axis.attr("viewBox", `0 0 ${width} ${AXIS}`);
     axis.selectAll("*").remove();
-    axis.append("g").call(axisBottom(times).ticks(Math.max(3, Math.min(10, Math.floor((right - left) / 90)))));
-    axis.append("text").attr("x", 4).attr("y", 17).attr("class", "about").text("seconds");
+    axis.append("g").call(axisOf(scale, clock, Math.max(3, Math.min(10, Math.floor((right - left) / 90)))));
+    axis.append("text").attr("x", 4).attr("y", 17).attr("class", "about").text(clock.axisName);
     /** @param {number} place @param {string} className @param {string} title */
     const flag = (place, className, title) => {
       const x = scale(place);
@@ -122,7 +120,7 @@ export class Picture {
       const path = axis.append("path").attr("class", className).attr("d", `M${x - 5} 8h10l-5 -8z`);
       if (title) path.append("title").text(title);
     };
-    for (const { second, text } of warnings) if (second !== null) flag(second * rate, "sign warning", text);
+    for (const { second, text } of warnings) if (second !== null) flag(second * clock.rate, "sign warning", text);
     if (chosen) flag(chosen.first, "chosen-flag", "");
   }
 
@@ -256,7 +254,7 @@ export class Picture {
     const group = this.root.append("g");
     for (const { sort, places } of stretches) {
       for (const { first, past } of places) {
-        const length = lengthOf(past - first, this.rate);
+        const length = lengthOf(past - first, this.clock.rate);
         const gap = { first, past, text: `${sort === "rest" ? "nothing" : "no command"} for ${length}`, short: length };
         this.drawGap(group, gap, height);
         this.nameGap(group, gap, height);
@@ -281,7 +279,7 @@ export class Picture {
       .attr("height", height)
       .on("click", (...words) => this.pick(markOf(words).row))
       .append("title")
-      .text((mark) => `${seconds(mark.first, this.rate, this.rate / 1000)} s: ${mark.text}`);
+      .text((mark) => `${this.clock.moment(mark.first)}: ${mark.text}`);
   }
 
   /**
@@ -324,7 +322,7 @@ export class Picture {
       ? Array.from(track.counts, (count, bin) => ({ count, row: track.leaders[bin], x: placeOf(bin) }))
       : track.marks.map((mark) => ({ ...mark, count: 1, x: Math.max(left, this.scale(mark.past)) }));
     /** @param {Mark} mark */
-    const when = ({ first }) => `${seconds(first, this.rate, this.rate / 1000)} s`;
+    const when = ({ first }) => this.clock.moment(first);
     group
       .selectAll(`path.${track.id}`)
       .data(binned.filter(({ count, x }) => count > 0 && x >= left - 1 && x <= right + SIGN))
@@ -356,6 +354,22 @@ export class Picture {
       group.append("line").attr("class", "chosen-edge").attr("x1", x).attr("x2", x).attr("y1", 0).attr("y2", height);
     }
   }
+}
+
+/**
+ * An axis with about so many ticks: of seconds, or of times of day.
+ * @param {Scale} scale
+ * @param {import("./clock.js").Clock} clock
+ * @param {number} count
+ */
+function axisOf(scale, clock, count) {
+  const [first, past] = scale.domain();
+  if (clock.dayTime === null) {
+    const times = scaleLinear().domain([first / clock.rate, past / clock.rate]).range(scale.range());
+    return axisBottom(times).ticks(count);
+  }
+  const labels = clock.ticks(first, past, count);
+  return axisBottom(scale).tickValues([...labels.keys()]).tickFormat((place) => labels.get(place) ?? "");
 }
 
 /**

@@ -8,7 +8,7 @@ import { element, fillList, make } from "./dom.js";
 
 /** The columns that are bad where they are not 0, and those of a gap that is reported. */
 const BAD = new Set(["late", "missing", "spoilt"]);
-const OF_GAP = new Set(["longest", "from s"]);
+const OF_GAP = new Set(["longest", "from s", "from"]);
 
 /**
  * The table of stations and types.

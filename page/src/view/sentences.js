@@ -1,3 +1,4 @@
+import { Clock } from "./clock.js";
 import { element, make } from "./dom.js";
 import { signOf } from "./signs.js";
 
@@ -34,8 +35,8 @@ export class Sentences {
     this.more = more;
     /** @type {Stop[]} */
     this.stops = []; // the places of the sentences, in their order, with what marks them
-    this.rate = 1;
-    this.digits = 3;
+    this.clock = new Clock(1);
+    this.stretch = 1; // so many bits the digits of times suit
     this.at = -1;
   }
 
@@ -43,10 +44,11 @@ export class Sentences {
    * @param {Finding[]} findings
    * @param {string[]} well what is said where there are none
    * @param {import("../../../scripts/modules/statistics/verdict.js").Said[]} lacks what was not judged, and notes
-   * @param {{ rate: number, length: number }} file its rate, and how many bits it has
+   * @param {Clock} clock
+   * @param {number} length of the file, in bits
    */
-  show(findings, well, lacks, { rate, length }) {
-    Object.assign(this, { rate, digits: length < SHORT * rate ? 6 : 3 });
+  show(findings, well, lacks, clock, length) {
+    Object.assign(this, { clock, stretch: length < SHORT * clock.rate ? clock.rate / 1000 : clock.rate });
     this.stops = [];
     this.at = -1;
     const isWell = findings.length === 0;
@@ -81,8 +83,8 @@ export class Sentences {
   times({ places, isStretch, count, short }, item) {
     const box = make("div", "", "times");
     places.forEach((place, at) => {
-      const second = `${(place.first / this.rate).toFixed(this.digits)} s`;
-      const button = at < MOST_TIMES ? this.button(second, this.stops.length) : null;
+      const when = this.clock.moment(place.first, this.stretch);
+      const button = at < MOST_TIMES ? this.button(when, this.stops.length) : null;
       if (button) box.append(button);
       this.stops.push({ ...place, isStretch, short, item, button });
     });

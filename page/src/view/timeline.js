@@ -1,12 +1,13 @@
 import { scaleLinear } from "d3-scale";
 import { select } from "d3-selection";
 import { zoom, zoomIdentity } from "d3-zoom";
+import { Clock } from "./clock.js";
 import { element, make } from "./dom.js";
 import { isOther } from "./keys.js";
 import { latest } from "./latest.js";
 import { Overview } from "./overview.js";
 import { NARROW, Picture } from "./picture.js";
-import { duration, grouped, seconds } from "./units.js";
+import { duration, grouped } from "./units.js";
 
 /** @typedef {import("d3-scale").Scale} Scale */
 /** @typedef {import("./digits.js").Digits} Digits */
@@ -61,7 +62,7 @@ export class Timeline {
   summary = /** @type {Summary} */ (/** @type {unknown} */ (undefined));
   whole = /** @type {Scale} */ (/** @type {unknown} */ (undefined));
   zoom = /** @type {import("d3-zoom").Zoom} */ (/** @type {unknown} */ (undefined));
-  rate = NaN;
+  clock = new Clock(1);
   width = NaN;
 
   /**
@@ -145,12 +146,12 @@ export class Timeline {
   /**
    * Shows a file; where it is the one that was shown, what is in view stays.
    * @param {Summary} summary
-   * @param {number} rate
+   * @param {Clock} clock
    * @param {boolean} isSame
    */
-  reset(summary, rate, isSame) {
+  reset(summary, clock, isSame) {
     const kept = isSame && /** @type {Scale|null} */ (this.whole) ? this.scale.domain() : null;
-    Object.assign(this, { summary, rate, whole: null });
+    Object.assign(this, { summary, clock, whole: null });
     if (!isSame) Object.assign(this, { chosen: null, station: null });
     this.stations.replaceChildren(...[null, ...summary.stations].map(optionOf));
     this.stations.value = String(this.station ?? "");
@@ -322,10 +323,10 @@ export class Timeline {
   draw({ lanes, digits, first, past }) {
     const scale = scaleLinear().domain([first, past]).range(this.whole.range());
     const { findings, warnings } = this.summary;
-    const told = { lanes, digits, scale, rate: this.rate, width: this.width, chosen: this.chosen };
+    const told = { lanes, digits, scale, clock: this.clock, width: this.width, chosen: this.chosen };
     this.picture.draw({ ...told, stretches: findings.filter(({ sort }) => sort === "rest" || sort === "quiet") });
     this.picture.drawAxis(this.axis, { ...told, warnings });
-    this.overview.draw(this.whole, this.width, { findings, warnings, rate: this.rate }, [first, past]);
+    this.overview.draw(this.whole, this.width, { findings, warnings, rate: this.clock.rate }, [first, past]);
     this.describe(lanes, first, past);
     if (this.svg.node().__zoom.k === 1) this.keepForPrint();
   }
@@ -356,9 +357,9 @@ export class Timeline {
    */
   describe(lanes, first, past) {
     const stretch = past - first;
-    const [from, to] = [first, past].map((place) => seconds(place, this.rate, stretch));
+    const [from, to] = [first, past].map((place) => this.clock.at(place, stretch));
     const places = `places ${grouped(Math.floor(first))} to ${grouped(Math.ceil(past))}`;
-    this.where.textContent = `${from} to ${to} s (${duration(stretch, this.rate)})`;
+    this.where.textContent = `${from} to ${to}${this.clock.unit} (${duration(stretch, this.clock.rate)})`;
     this.where.title = places;
     const counts = lanes.map(({ name, isStation, tracks }) => {
       const told = tracks.map(({ id, count }) => `${count} ${id}`).join(", ");

@@ -4,10 +4,14 @@
  * @param {number} rate
  * @param {number} stretch
  */
-export function seconds(place, rate, stretch) {
-  const digits = Math.min(9, Math.max(3, Math.ceil(3 - Math.log10(stretch / rate))));
-  return (place / rate).toFixed(digits);
-}
+export const seconds = (place, rate, stretch) => (place / rate).toFixed(digitsOf(stretch, rate));
+
+/**
+ * How many digits of a second a stretch of so many bits needs.
+ * @param {number} stretch
+ * @param {number} rate
+ */
+export const digitsOf = (stretch, rate) => Math.min(9, Math.max(3, Math.ceil(3 - Math.log10(stretch / rate))));
 
 /**
  * A length in bits as a time, in a unit that suits it.

@@ -26,11 +26,15 @@ const WARNINGS = {
   lost: (name) => [`The edges of ${name} jump: samples may have been lost.`, SLOWER, "second"],
 };
 
-/** @param {import("../../../scripts/modules/recording/doubts.js").Warning} warning @returns {Words} */
-export function wordsOf({ sort, name, count, second, text }) {
+/**
+ * @param {import("../../../scripts/modules/recording/doubts.js").Warning} warning
+ * @param {import("./clock.js").Clock} clock
+ * @returns {Words}
+ */
+export function wordsOf({ sort, name, count, second, text }, clock) {
   const [said, cure = "", act = ""] = WARNINGS[sort]?.(name) ?? [text];
   const times = count > 1 ? `${count} times, first at ` : "At ";
-  const when = second === null ? (count > 1 ? ` ${count} times.` : "") : ` ${times}${second.toFixed(3)} s.`;
+  const when = second === null ? (count > 1 ? ` ${count} times.` : "") : ` ${times}${clock.moment(second * clock.rate, clock.rate)}.`;
   return { text: said + when, cure, act: act === "second" && second === null ? "" : act };
 }
 

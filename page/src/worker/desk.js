@@ -12,6 +12,7 @@ import { sessionOf } from "../../../scripts/modules/recording/session.js";
 import { isWholeHead } from "../../../scripts/modules/recording/signals.js";
 import { Bus } from "../../../scripts/modules/statistics/bus.js";
 import { damageOf } from "../../../scripts/modules/statistics/damage.js";
+import { DayTime } from "../../../scripts/modules/statistics/day-time.js";
 import { report } from "../../../scripts/modules/statistics/report.js";
 import { repliesOf } from "../../../scripts/modules/statistics/replies.js";
 import { tableOf } from "../../../scripts/modules/statistics/table.js";
@@ -37,8 +38,9 @@ import { structureOf } from "./structure.js";
 
 /**
  * What the page asks to be read: what is read and how, the rate in bits a second, the text of the dictionary or
- * nothing, and where a report has the listing, the warnings of its recording.
- * @typedef {import("./source.js").Source & { rate: number, dictionary: string, told?: string[] }} Job
+ * nothing, where a report has the listing, the warnings of its recording, and when it was, where that is known.
+ * @typedef {import("./source.js").Source & Asked} Job
+ * @typedef {{ rate: number, dictionary: string, told?: string[], begin: Begin|null }} Asked
  */
 
 /**
@@ -96,6 +98,11 @@ import { structureOf } from "./structure.js";
 /**
  * The desk, as the page has it: each answer is a promise.
  * @typedef {{ [Name in Task]: (...words: Parameters<Desk[Name]>) => Promise<Awaited<ReturnType<Desk[Name]>>> }} FarDesk
+ */
+
+/**
+ * When place 0 was: some seconds after a time as ISO 8601 has it.
+ * @typedef {{ text: string, late: number }} Begin
  */
 
 /** How many lines of text are made at once. */
@@ -160,7 +167,7 @@ export class Desk {
       this.tell({ progress: size === 0 ? 1 : done / size }),
     );
     Object.assign(this, { listing, bits, rows: null, rate: job.rate, end: bits ? bits.length : job.end ?? null });
-    this.bus = new Bus(job.rate);
+    this.bus = new Bus(job.rate, job.begin && new DayTime(job.begin.text, job.begin.late));
     this.bus.takeAll(listing.rows());
     const told = (job.told ?? []).map(warningOf);
     const ofLevels = isRecording(job)

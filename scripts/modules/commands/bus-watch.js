@@ -77,7 +77,7 @@ class Duty {
     this.watch = watch;
     this.isLive = watch.wall instanceof Wall;
     this.readDictionary = readDictionary;
-    this.source = command === undefined ? null : new Source(command);
+    this.source = command === undefined ? null : new Source(command, (text) => watch.log("doubt", { text }));
     onEndOfStream(() => this.stop());
     process.on("SIGHUP", () => (this.isToRead = true));
   }
@@ -167,8 +167,8 @@ run(async () => {
   const { before = 10, after = 10, longest = 120, ring = 4 * 2 ** 30, keep = 2 ** 30, floor = 2 ** 29 } = values;
   const watch = new Watch({
     ...{ folder, program, form: values.two ? PAIRS : ARRIVALS },
-    ...{ file: values.dictionary, dictionary: readDictionary() },
     ...{ limits: { before, after, longest, ring, keep, floor }, gaps: values.gap ?? new Map(), wall },
+    dictionary: readDictionary(),
     ...{ prometheus: values.prometheus, run: values.run, write: tell, warn },
   });
   await watch.begin();

@@ -6,6 +6,7 @@ import { Fault } from "../fault.js";
 import { asHtml } from "../limits/forms.js";
 import { ListingReader } from "../listing/read.js";
 import { RATE } from "../port1.js";
+import { DayTime } from "../statistics/day-time.js";
 import { positive, run, wordsOf, writeText } from "./command.js";
 import { dateOf, sha256Of } from "./facts.js";
 import { standardInput } from "./input.js";
@@ -85,17 +86,26 @@ function packed(pieces) {
   return source.pipe(gzip);
 }
 
-const OPTIONS = { rate: positive, dictionary: String, command: String, recording: String, notes: String };
+/**
+ * A time that can be read.
+ * @param {string} text
+ */
+const timeOf = (text) => new DayTime(text) && text;
+
+const OPTIONS = {
+  ...{ rate: positive, begin: timeOf, dictionary: String, command: String, recording: String, notes: String },
+};
 
 run(async () => {
   const { values, words: [title] } = wordsOf({ ...OPTIONS, bits: positive, page: String }, ["TITLE"]);
-  const { rate = RATE, command = "", recording, notes, bits } = values;
+  const { rate = RATE, begin, command = "", recording, notes, bits } = values;
   const dictionary = values.dictionary ? readFileSync(values.dictionary, "utf8") : "";
   const page = pageOf(values.page ?? builtPage() ?? PAGES[0]);
   const [before, after] = partsOf(page, {
     ...{ title, rate, dictionary, command },
     ...(recording && { recording: factsOf(recording) }),
     ...(bits && { bits }),
+    ...(begin && { begin }),
     ...(notes && { notes: notesOf(notes) }),
   });
   writeText(before);

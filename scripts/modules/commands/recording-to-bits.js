@@ -1,9 +1,11 @@
 import { fstatSync } from "node:fs";
 import { Fault } from "../fault.js";
 import { doubtsOf, edgesOf } from "../recording/doubts.js";
+import { Events } from "../recording/events.js";
 import { formOfRecording } from "../recording/forms.js";
 import { Moments } from "../recording/moments.js";
 import { recordingOf } from "../recording/recording.js";
+import { Sampler } from "../recording/sampler.js";
 import { samplingOf } from "../recording/sampling.js";
 import { sessionOf } from "../recording/session.js";
 import { PIECE } from "../recording/source.js";
@@ -72,15 +74,41 @@ function optionsOf({ falling, hold, invert = "" }, names, sampling) {
   return [`--hold=${hold ?? sampling.hold}`, `--jump=${sampling.jump}`, ...turned];
 }
 
+/**
+ * The pieces of a recording, of which is told what becomes doubtful while they come.
+ * @param {import("../recording/recording.js").Recording} recording
+ * @param {{ falling?: boolean, hold?: number, invert?: string }} values
+ */
+async function* observed(recording, { falling = false, hold, invert = "" }) {
+  const { names, ticks, pieces, begin } = recording;
+  const inverted = invert.split(",");
+  const exchanged = names.reduce((sum, name, at) => sum | (inverted.includes(name) ? 1 << at : 0), 0);
+  const sampling = samplingOf(recording);
+  const turned = exchanged ^ (falling ? CLOCKS : 0);
+  const sampler = new Sampler(recording, { ...sampling, hold: hold ?? sampling.hold }, turned, () => undefined);
+  const events = new Events(names, !falling);
+  for await (const piece of pieces) {
+    sampler.take(piece);
+    for (const text of events.look(sampler.facts, new Moments(ticks, begin()))) warn(`event: ${text}`);
+    yield piece;
+  }
+}
+
+/** The wires of clocks, as the sampler has them. */
+const CLOCKS = 0b0101;
+
 const NUMBERS = { octets: positive, samplerate: hertz, hold: whole };
 
-const OPTIONS = { ...NUMBERS, falling: /** @type {true} */ (true), format: formNamed, invert: String };
+const FLAGS = { falling: /** @type {true} */ (true), events: /** @type {true} */ (true) };
+
+const OPTIONS = { ...NUMBERS, ...FLAGS, format: formNamed, invert: String };
 
 run(async () => {
   const { values, words: channels } = wordsOf(OPTIONS, ["CHANNEL", "second CHANNEL"], 4);
   const recording = await opened(values, channels);
   const { names, ticks } = recording;
-  const arrivals = sampled(recording, optionsOf(values, names, samplingOf(recording)));
+  const pieces = values.events ? observed(recording, values) : recording.pieces;
+  const arrivals = sampled({ ...recording, pieces }, optionsOf(values, names, samplingOf(recording)));
   let next = await arrivals.next();
   for (; !next.done; next = await arrivals.next()) write(next.value);
   const { facts, fault } = next.value;

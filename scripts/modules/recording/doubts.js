@@ -49,7 +49,7 @@ const TEXTS = {
 const EDGES = ["rising", "falling"];
 
 /** The first clock runs all the time, and data changes: so many bits without are no jitter, and no chance. */
-const LONG = 16;
+export const LONG = 16;
 
 /** Data has changed so often that where it does so says something. */
 const ENOUGH = 8;
@@ -101,7 +101,7 @@ export function edgesOf({ lines }, names) {
  * @param {Facts} facts
  * @param {number|null} ticks in a second
  */
-function samplesOfBit({ lines }, ticks) {
+export function samplesOfBit({ lines }, ticks) {
   if (ticks) return ticks / RATE;
   const [{ bits }] = lines;
   return bits.count > 1 ? (bits.last - bits.first) / (bits.count - 1) : 0;

@@ -6,6 +6,7 @@ import { Counts, Kinds } from "./kinds.js";
 import { Tally } from "./pieces.js";
 import { Rests } from "./rests.js";
 import { Slots } from "./slots.js";
+import { unitsOf } from "./units.js";
 
 /** @typedef {import("../listing/listing.js").Row} Row */
 
@@ -40,6 +41,10 @@ export class Bus {
     this.misfits = { length: new Counts(), unknown: new Counts() }; // frames without an entry that fits
     /** @type {Row|null} */
     this.before = null; // the line that settles a verdict: the last one that is no stray
+  }
+
+  get units() {
+    return unitsOf(this.rate, this.dayTime, this.first);
   }
 
   /** How many damaged pieces there are. */

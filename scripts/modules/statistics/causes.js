@@ -44,7 +44,7 @@ export function deadEnd(bus, end) {
   const usual = bus.commands.sorted().map(([, commands]) => usualGap(commands)).filter((gap) => gap > 0);
   const least = usual.length > 0 ? GAP_TIMES * Math.min(...usual) : LONG_SECONDS * bus.rate;
   if (last < 0 || rest < least || rest < REST_TIMES * longest || rest < REST_SECONDS * bus.rate) return [];
-  const units = unitsOf(bus.rate, bus.dayTime);
+  const units = bus.units;
   const lines = bus.lines === 1 ? "the line" : "either line";
   const text =
     `Nothing came on ${lines} from ${units.moment(reached)} until the recording ends at ${units.moment(end)}, ` +
@@ -71,7 +71,7 @@ export function quietBus(bus, sentences) {
   const places = found.filter((rest) => 2 * (rest.past - rest.first) >= length);
   const others = counted(places.length - 1, "other time");
   const more = places.length > 1 ? ` It was as quiet for half as long or longer ${others}.` : "";
-  const begin = unitsOf(bus.rate, bus.dayTime).moment(longest.first);
+  const begin = bus.units.moment(longest.first);
   const text =
     `No command was sent to any station for ${lengthOf(length, bus.rate)} from ${begin} on, ` +
     `of ${counted(own.length, "type")} that otherwise come regularly.${more}`;
@@ -94,7 +94,7 @@ export function noAnswers(bus, sentences) {
   if (isOneSided) return [neverAnswered(bus)];
   const kinds = missing.kinds.sorted();
   if (missing.begin === null || missing.total < FEWEST_UNANSWERED || kinds.length < 2) return [];
-  const when = answers === 0 ? "" : ` from ${unitsOf(bus.rate, bus.dayTime).moment(missing.begin.first)} on`;
+  const when = answers === 0 ? "" : ` from ${bus.units.moment(missing.begin.first)} on`;
   const stations = counted(new Set(kinds.map(([{ station }]) => station)).size, "station");
   const text = `No station answered${when}: ${counted(missing.total, "command")} in a row, to ${stations}.`;
   /** @param {Sentence} sentence */

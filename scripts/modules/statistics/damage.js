@@ -86,10 +86,11 @@ function stretches(bus) {
  * @param {{ begin: number, length: number, pieces: number }} stretch
  * @param {import("./bus.js").Bus} bus
  */
-function toldStretch({ begin, length, pieces }, { dayTime, damaged }) {
+function toldStretch({ begin, length, pieces }, { dayTime, damaged, first, rate }) {
   const past = begin + length;
   const inSeconds = `${(begin / 1000).toFixed(3)} to ${(past / 1000).toFixed(3)} s`;
-  const text = dayTime === null ? inSeconds : `${dayTime.of(begin / 1000)} to ${dayTime.of(past / 1000)}`;
+  const timesOf = (/** @type {import("./day-time.js").DayTime} */ day) => [begin, past].map((time) => day.of(time / 1000, first / rate));
+  const text = dayTime === null ? inSeconds : timesOf(dayTime).join(" to ");
   return { begin, past, text, pieces, share: (100 * pieces) / damaged };
 }
 

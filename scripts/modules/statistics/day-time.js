@@ -18,18 +18,25 @@ function shiftOf(zone, time) {
 
 /** The time of day at which place 0 of a listing was, and so that of each place. */
 export class DayTime {
-  /** @param {string} text as ISO 8601 has it: with Z or an offset, or else a time of this computer */
-  constructor(text) {
+  /**
+   * @param {string} text as ISO 8601 has it: with Z or an offset, or else a time of this computer
+   * @param {number} [late] how many seconds after it place 0 was
+   */
+  constructor(text, late = 0) {
     const found = FORM.exec(text);
-    this.begin = found === null ? NaN : Date.parse(text); // milliseconds since 1970
+    this.begin = found === null ? NaN : Date.parse(text) + 1000 * late; // milliseconds since 1970
     if (Number.isNaN(this.begin)) throw new Fault(`${JSON.stringify(text)} is no time as 2026-11-27T03:00:00Z`);
     this.zone = found?.[1];
   }
 
-  /** @param {number} seconds */
-  iso(seconds) {
-    const time = this.begin + Math.floor(1000 * seconds);
-    return new Date(time + shiftOf(this.zone, time)).toISOString().slice(0, -1);
+  /** @param {number} seconds @param {number} [digits] of a second, at most 6 */
+  iso(seconds, digits = 3) {
+    const begin = Math.floor(this.begin);
+    const passed = 1000 * seconds + (this.begin - begin);
+    const time = begin + Math.floor(passed);
+    const text = new Date(time + shiftOf(this.zone, time)).toISOString().slice(0, -1);
+    const beyond = String(Math.floor(1000 * (passed - Math.floor(passed)))).padStart(3, "0");
+    return `${text}${beyond}`.slice(0, digits === 0 ? -7 : digits - 6 || undefined);
   }
 
   /**
@@ -41,11 +48,13 @@ export class DayTime {
   }
 
   /**
-   * The time of day, on another day with its date.
+   * The time of day, on another day than after some seconds with its date.
    * @param {number} seconds
+   * @param {number} [known] the seconds after which the day is known
+   * @param {number} [digits] of a second, at most 6
    */
-  of(seconds) {
-    const [date, time] = this.iso(seconds).split("T");
-    return this.iso(0).startsWith(date) ? time : `${date} ${time}`;
+  of(seconds, known = 0, digits = 3) {
+    const [date, time] = this.iso(seconds, digits).split("T");
+    return this.iso(known).startsWith(date) ? time : `${date} ${time}`;
   }
 }

@@ -1,6 +1,6 @@
 import { isUnfit } from "../listing/kinds.js";
 import { piecesNamed, sumOf } from "./pieces.js";
-import { counted, spanOf, unitsOf } from "./units.js";
+import { counted, spanOf } from "./units.js";
 
 // How many kinds are named in a sentence on frames.
 const MOST_NAMED = 6;
@@ -271,7 +271,7 @@ function sentencesOfLines(bus) {
  * @returns {Sentence[][]}
  */
 export function sentencesBySort(bus, gaps, slow) {
-  const units = unitsOf(bus.rate, bus.dayTime);
+  const units = bus.units;
   return [
     sentencesOfLines(bus),
     gaps.map((hole) => sentenceOfHole(hole, bus, units)),
@@ -293,7 +293,7 @@ export function headLine(bus) {
   const what = bus.lines === 1 ? "one line" : "two lines";
   const begin = bus.dayTime === null ? "" : ` It begins on ${bus.dayTime.full(bus.first / bus.rate)}.`;
   return (
-    `${unitsOf(bus.rate).seconds(bus.past - bus.first)} s of ${what} at ${bus.rate} bits a second:` +
+    `${bus.units.seconds(bus.past - bus.first)} s of ${what} at ${bus.rate} bits a second:` +
     ` ${counted(bus.frames, "frame")}, ${counted(bus.damaged, "damaged piece")}.${begin}`
   );
 }

@@ -1,5 +1,5 @@
 import { typeNamed } from "./sentences.js";
-import { counted, unitsOf } from "./units.js";
+import { counted } from "./units.js";
 
 /** @typedef {import("./bus.js").Bus} Bus */
 /** @typedef {import("./sentences.js").Sentence} Sentence */
@@ -39,7 +39,7 @@ export function slowOf(bus, entries) {
  * @returns {Sentence}
  */
 function sentenceOf(kind, commands, { usual, limit, count, isKnown }, bus) {
-  const { duration } = unitsOf(bus.rate);
+  const { duration } = bus.units;
   const far = commands.inTime.pairs().filter(([bits]) => bits > limit);
   const [least, most] = [duration(far[0][0]), duration(commands.inTime.most)];
   const times = least === most ? least : `${least.slice(0, -" ms".length)} to ${most}`;

@@ -1,5 +1,4 @@
 import { usualGap } from "./gaps.js";
-import { unitsOf } from "./units.js";
 
 /** @typedef {import("./commands.js").Commands} Commands */
 /** @typedef {import("./units.js").Units} Units */
@@ -83,6 +82,6 @@ function rowOf(kind, commands, units) {
  * @returns {{heads: readonly Head[], rows: TableRow[]}}
  */
 export function tableOf(bus) {
-  const units = unitsOf(bus.rate, bus.dayTime);
+  const units = bus.units;
   return { heads: headsOf(bus), rows: bus.commands.sorted().map(([kind, commands]) => rowOf(kind, commands, units)) };
 }

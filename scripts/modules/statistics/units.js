@@ -2,14 +2,15 @@
  * Places and bits as times.
  * @param {number} rate bits a second
  * @param {import("./day-time.js").DayTime|null} [dayTime] when place 0 was, so that times of day are told
+ * @param {number} [first] the place where the listing begins
  */
-export function unitsOf(rate, dayTime = null) {
+export function unitsOf(rate, dayTime = null, first = 0) {
   /** @param {number} bits */
   const inMilliseconds = (bits) => (bits * 1000) / rate;
   /** @param {number} place */
   const seconds = (place) => (place / rate).toFixed(3);
   /** @param {number} place */
-  const clock = (place) => (dayTime === null ? seconds(place) : dayTime.of(place / rate));
+  const clock = (place) => (dayTime === null ? seconds(place) : dayTime.of(place / rate, first / rate));
   const unit = dayTime === null ? " s" : "";
   return {
     seconds,

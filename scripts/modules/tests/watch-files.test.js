@@ -78,7 +78,8 @@ test("a line that a disk took half of is written again, and one that a kill cut 
     const journal = new Journal(path, () => {}, () => {});
     journal.log(/** @type {any} */ ({ event: "incident", id: "1-1" }));
     appendFileSync(path, '{"event":');
-    assert.deepEqual(new Journal(path, () => {}, () => {}).told("incident"), [{ event: "incident", id: "1-1" }]);
+    const told = [{ event: "start" }, { event: "incident", id: "1-1" }];
+    assert.deepEqual(new Journal(path, () => {}, () => {}).told(), told);
     assert.equal(readFileSync(path, "utf8"), '{"event":"start"}\n{"event":"incident","id":"1-1"}\n');
   }));
 
@@ -91,7 +92,7 @@ test("a line that is cut within a character, or of which the end of a long log h
       writeFileSync(path, Buffer.concat([Buffer.from(line), Buffer.from("{\"€").subarray(0, 2 + cut)]));
       const journal = new Journal(path, () => {}, () => {});
       assert.equal(readFileSync(path, "utf8"), line);
-      assert.deepEqual(journal.told("incident"), [{ event: "incident", id: "1-2" }]);
+      assert.deepEqual(journal.told(), [{ event: "incident", id: "1-2" }]);
     }
   }));
 

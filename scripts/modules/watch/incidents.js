@@ -52,6 +52,20 @@ export class Incidents {
     this.office = office;
   }
 
+  /** What outlives the watch. */
+  kept() {
+    const { open, waiting, long, before, count } = this;
+    return { open, waiting, long: [...long], before, count };
+  }
+
+  /**
+   * Goes on where another one of the same run was.
+   * @param {ReturnType<Incidents["kept"]>} kept
+   */
+  resume({ open, waiting, long, before, count }) {
+    Object.assign(this, { open, waiting, long: new Map(long), before, count });
+  }
+
   /**
    * Takes over what the run before did not tell.
    * @param {Incident[]} incidents
@@ -93,10 +107,16 @@ export class Incidents {
 
   /**
    * Something is well again that an incident may be about.
-   * @param {number} place
+   * @param {import("./triggers.js").About} about
+   * @param {number} first
+   * @param {number} past
+   * @param {number|null} since when it began, in seconds since 1970, where that was in an earlier run
    */
-  wellAgain(place) {
-    if (this.open) this.open.past = Math.max(this.open.past, place);
+  wellAgain(about, first, past, since) {
+    if (this.open) this.open.past = Math.max(this.open.past, past);
+    const time = this.office.zero() + past / RATE;
+    const seconds = Number((since === null ? (past - first) / RATE : time - since).toFixed(3));
+    this.office.log({ event: "well again", wall: iso(time), run: this.run, place: past, ...about, seconds });
   }
 
   /** @param {number} place */
@@ -147,17 +167,24 @@ export class Incidents {
   }
 
   /**
+   * What is told of an incident.
+   * @param {Incident} incident
+   */
+  recordOf(incident) {
+    const { id, run, first, past, causes, zero, cut, continues } = incident;
+    const [wall, until] = [first, past].map((place) => iso(zero + place / RATE));
+    const seam = this.isAtSeam(incident);
+    const marks = { ...(cut && { cut }), ...(continues && { continues }), ...(seam && { seam }) };
+    return { wall, past: until, run, place: first, seconds: (past - first) / RATE, id, causes, ...marks };
+  }
+
+  /**
    * Tells an incident.
    * @param {Incident} incident
    * @param {string|null} saved the name of its folder, if it has one
    */
   told(incident, saved) {
-    const { id, run, first, past, causes, zero, cut, continues } = incident;
-    const [wall, until] = [first, past].map((place) => iso(zero + place / RATE));
-    const seam = this.isAtSeam(incident);
-    const marks = { ...(cut && { cut }), ...(continues && { continues }), ...(seam && { seam }) };
-    const seconds = (past - first) / RATE;
-    this.office.log({ event: "incident", wall, past: until, run, place: first, seconds, id, causes, saved, ...marks });
+    this.office.log({ event: "incident", ...this.recordOf(incident), saved });
     this.waiting = this.waiting.filter((other) => other !== incident);
     this.office.keep();
   }

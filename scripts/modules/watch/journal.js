@@ -53,13 +53,12 @@ export class Journal {
   }
 
   /**
-   * What the log has of events of a sort.
-   * @param {"incident"} event
-   * @returns {{ event: string, id: string }[]}
+   * The last events that the log has.
+   * @returns {(Entry & { id: string })[]} of which those that are about an incident have its id
    */
-  told(event) {
+  told() {
     const lines = this.end().toString().split("\n").filter((line) => line.startsWith("{") && line.endsWith("}"));
-    return lines.map((line) => JSON.parse(line)).filter((record) => record.event === event);
+    return lines.map((line) => JSON.parse(line));
   }
 
   /** @param {Entry} record */

@@ -57,12 +57,13 @@ export class Kind {
   }
 
   /**
-   * What is kept of it when the watch ends.
+   * What outlives the watch.
    * @param {(place: number) => number} timeOf a place
    */
   kept(timeOf) {
     const from = this.isGone ? this.last : this.isBad ? this.badFrom : null;
     const since = this.since ?? (from === null ? null : timeOf(from));
-    return { usual: this.usual, isBad: this.isBad, isGone: this.isGone, since };
+    const { usual, last, bad, badFrom, isBad, isGone } = this;
+    return { usual, last, bad, badFrom, isBad, isGone, since };
   }
 }

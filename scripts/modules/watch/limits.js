@@ -35,8 +35,7 @@ export function onceAMinute(say) {
  * @property {string} folder
  * @property {string} program
  * @property {import("./forms.js").Form} form
- * @property {string} file of the dictionary
- * @property {string} dictionary
+ * @property {string} dictionary its text
  * @property {{ before: number, after: number, longest: number, ring: number, keep: number, floor: number }} limits
  * @property {Map<string, number>} gaps
  * @property {string} [prometheus]

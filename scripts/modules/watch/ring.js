@@ -60,7 +60,8 @@ export class Ring {
     mkdirSync(folder, { recursive: true });
     const names = readdirSync(folder).sort();
     names.filter((name) => name.endsWith(".new")).forEach((name) => rmSync(join(folder, name), { force: true }));
-    const kept = names.filter((name) => !name.endsWith(".new"));
+    names.filter((name) => names.includes(`${name}.gz`)).forEach((name) => rmSync(join(folder, name), { force: true }));
+    const kept = names.filter((name) => !name.endsWith(".new") && !names.includes(`${name}.gz`));
     this.segments = kept.map((name) => ({ name, size: statSync(join(folder, name)).size }));
   }
 
@@ -138,6 +139,16 @@ export class Ring {
     } catch {
       rmSync(fresh, { force: true });
     }
+  }
+
+  /**
+   * Where the last segments of a run begin.
+   * @param {number} run
+   * @param {number} most how many of them
+   */
+  beginOf(run, most) {
+    const own = this.segments.map(({ name }) => segmentOf(name)).filter((segment) => segment.run === run);
+    return own.slice(-most)[0]?.place ?? 0;
   }
 
   /**

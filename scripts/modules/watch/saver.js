@@ -14,8 +14,10 @@ import { wordsOfList } from "./decoder.js";
 import { captureOf, octetsBefore } from "./forms.js";
 import { roomIn } from "./ring.js";
 import { iso } from "./wall.js";
+import { titleOf } from "./words.js";
 
 /** @typedef {import("./incidents.js").Incident} Incident */
+/** @typedef {ReturnType<import("./incidents.js").Incidents["recordOf"]>} Told what is told of one */
 
 /** What a folder of an incident takes beside its bits, as a multiple of these and in octets. */
 const [BESIDE, PAGE] = [2, 3 << 20];
@@ -88,7 +90,7 @@ export class Saver {
   /**
    * @param {string} folder
    * @param {import("./ring.js").Ring} ring
-   * @param {{ program: string, form: import("./forms.js").Form, dictionary: () => string, file: string,
+   * @param {{ program: string, form: import("./forms.js").Form, dictionary: () => string,
    *   limits: { before: number, after: number, longest: number, keep: number, floor: number } }} decoding
    */
   constructor(folder, ring, decoding) {
@@ -110,9 +112,10 @@ export class Saver {
   /**
    * Saves an incident.
    * @param {Incident} incident
+   * @param {Told} record
    * @returns {Promise<string|null>} the name of its folder, if there is room and the bits are still there
    */
-  async save(incident) {
+  async save(incident, record) {
     const { before, after, longest, floor } = this.limits;
     const { run, first } = incident;
     const past = Math.min(incident.past, first + longest * RATE) + after * RATE;
@@ -124,7 +127,7 @@ export class Saver {
     try {
       rmSync(fresh, { recursive: true, force: true });
       mkdirSync(fresh);
-      await this.fill(fresh, incident, found);
+      await this.fill(fresh, incident, found, record);
       rmSync(join(this.folder, name), { recursive: true, force: true });
       renameSync(fresh, join(this.folder, name));
       return name;
@@ -139,26 +142,28 @@ export class Saver {
    * @param {string} fresh
    * @param {Incident} incident
    * @param {import("./ring.js").Bits} found
+   * @param {Told} record
    */
-  async fill(fresh, { first, zero, causes }, { octets, place }) {
+  async fill(fresh, { first, zero }, { octets, place }, record) {
     const { form } = this.decoding;
-    const listing = join(fresh, "listing.txt");
+    const path = (/** @type {string} */ name) => join(fresh, name);
+    const [listing, dictionary, begin] = [path("listing.txt"), this.decoding.dictionary(), iso(zero)];
     await this.list(fresh, octets, place);
     const head = Math.min((await firstCommand(listing)) ?? place, first);
     const { at, passed } = octetsBefore(form, octets, Math.max(0, head - BEFORE_COMMAND - place));
     if (at > 0) await this.list(fresh, octets.subarray(at), place + passed);
-    const begin = iso(zero);
+    const about = { ...record, begin, origin: at > 0 ? place + passed : place };
+    writeFileSync(path("incident.json"), `${JSON.stringify(about)}\n`);
+    writeFileSync(path("cabinet.toml"), `${dictionary}\n`);
     const bus = new Bus(RATE, new DayTime(begin));
     for await (const rows of rowsOfInput(piecesOf(listing, 1 << 16))) bus.takeSome(rows);
     bus.end();
-    const entries = readDictionary(this.decoding.dictionary());
-    writeFileSync(join(fresh, "summary.txt"), report(bus, { end: null, entries }));
-    const packets = [script("list-to-pcap"), "--begin", begin, String(RATE), join(fresh, "frames.pcapng")];
+    writeFileSync(path("summary.txt"), report(bus, { end: null, entries: readDictionary(dictionary) }));
+    const packets = [script("list-to-pcap"), "--begin", begin, String(RATE), path("frames.pcapng")];
     await runOn(process.execPath, packets, listing, null);
     if (page() === null) return;
-    const title = `${Object.keys(causes).join(", ")}, ${iso(zero + first / RATE)}`;
-    const words = [script("list-to-page"), "--dictionary", this.decoding.file, title];
-    await runOn(process.execPath, words, listing, join(fresh, "report.html"));
+    const words = ["--begin", begin, "--dictionary", path("cabinet.toml"), titleOf(about)];
+    await runOn(process.execPath, [script("list-to-page"), ...words], listing, path("report.html"));
   }
 
   /**

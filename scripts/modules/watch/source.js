@@ -1,4 +1,5 @@
 import { spawn } from "node:child_process";
+import { createInterface } from "node:readline";
 
 /** @typedef {import("node:child_process").Child} Child */
 
@@ -7,6 +8,9 @@ const [SMALL, GATHER] = [8192, 100];
 
 /** The longest wait before a command is started again, in seconds; and how long a run has to last to be a good one. */
 const [LONGEST_WAIT, GOOD_RUN] = [60, 60];
+
+/** What `recording-to-bits --events` tells. */
+const EVENT = /^recording-to-bits: event: (.*)$/;
 
 /** How long a command may take to end, in milliseconds. */
 const PATIENCE = 5000;
@@ -54,9 +58,10 @@ export class Source {
   /** @type {Promise<number|string>} */
   status = Promise.resolve(0);
 
-  /** @param {string} command of the shell */
-  constructor(command) {
+  /** @param {string} command of the shell @param {(text: string) => void} [doubt] hears what it says is doubtful */
+  constructor(command, doubt = () => undefined) {
     this.command = command;
+    this.doubt = doubt;
   }
 
   /** Starts it, and gives what it writes. Its standard input stays open: some recorders end where there is none. */
@@ -66,13 +71,23 @@ export class Source {
     this.begun = performance.now();
     this.said = "";
     this.child.stdin.on("error", () => {});
-    this.child.stderr.on("data", (text) => (this.said = `${this.said}${text}`.slice(-400)));
+    createInterface({ input: this.child.stderr }).on("line", (line) => this.hear(line));
     this.status = new Promise((done) => {
       const child = /** @type {Child} */ (this.child);
       child.on("error", (fault) => done(fault.message));
       child.on("close", (status, signal) => done(status ?? signal));
     });
     return this.child.stdout;
+  }
+
+  /**
+   * Hears a line of standard error: an event of recording-to-bits, or what may be its last words.
+   * @param {string} line
+   */
+  hear(line) {
+    const [, event] = EVENT.exec(line) ?? [];
+    if (event === undefined) this.said = `${this.said}${line}\n`.slice(-400);
+    else this.doubt(event);
   }
 
   /** How it ended, and how many seconds to wait before it is started again. */

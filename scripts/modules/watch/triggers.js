@@ -13,6 +13,8 @@ import { Kind } from "./kind.js";
  * @property {(about: About, first: number, past: number, since: number|null) => void} wellAgain
  */
 
+/** @typedef {Pick<Row, "kind"|"line"|"past">} Mark what tells a line from the others */
+
 /** Numbers of a trigger: answers in a row, damaged pieces in a second, and a rest of both lines in places. */
 export const USUAL = { row: 5, burst: 5, rest: RATE };
 
@@ -28,6 +30,8 @@ export class Triggers {
   /** @type {number|null} */
   lastHeard = null; // the end of the last frame or piece
   isAtRest = false;
+  /** @type {Mark|null} */
+  judged = null; // the last line that was
 
   /** @param {Ears} ears @param {Map<string, number>} gaps by kind, in places @param {typeof USUAL} [numbers] */
   constructor(ears, gaps, numbers = USUAL) {
@@ -43,6 +47,25 @@ export class Triggers {
     const fresh = new Kind(this.given.get(name));
     this.kinds.set(name, fresh);
     return fresh;
+  }
+
+  /**
+   * What outlives the watch.
+   * @param {(place: number) => number} timeOf a place
+   */
+  kept(timeOf) {
+    const { pieces, lastHeard, isAtRest, judged } = this;
+    const kinds = Object.fromEntries([...this.kinds].map(([name, kind]) => [name, kind.kept(timeOf)]));
+    return { kinds, pieces, lastHeard, isAtRest, judged };
+  }
+
+  /**
+   * Goes on where another one of the same run was.
+   * @param {ReturnType<Triggers["kept"]>} kept
+   */
+  resume({ kinds, pieces, lastHeard, isAtRest, judged }) {
+    for (const [name, kind] of Object.entries(kinds)) Object.assign(this.kind(name), kind);
+    Object.assign(this, { pieces, lastHeard, isAtRest, judged });
   }
 
   /**
@@ -76,6 +99,8 @@ export class Triggers {
       else if (DAMAGE.includes(row.kind)) this.piece(row);
       else if (row.kind === "answered") this.answered(row);
       else if (row.kind === "late" || row.kind === "missing" || row.kind === "spoilt") this.badAnswer(row);
+      else continue;
+      this.judged = { kind: row.kind, line: row.line, past: row.past };
     }
   }
 
@@ -97,14 +122,14 @@ export class Triggers {
   command(name, first) {
     const kind = this.kind(name);
     kind.sent += 1;
-    const gap = kind.last === null ? null : first - kind.last;
-    if (kind.isGone) {
-      this.ears.wellAgain({ kind: name }, /** @type {number} */ (kind.last), first, kind.since);
+    const last = kind.last ?? first;
+    const isLong = first - last > kind.limit;
+    if (isLong && !kind.isGone) this.ears.trigger(`gap ${name}`, last, first);
+    if (isLong || kind.isGone) {
+      this.ears.wellAgain({ kind: name }, last, first, kind.since);
       if (!kind.isBad) kind.since = null;
-    } else if (gap !== null && gap > kind.limit) {
-      this.ears.trigger(`gap ${name}`, /** @type {number} */ (kind.last), first);
-    } else if (gap !== null) {
-      kind.learn(gap);
+    } else if (kind.last !== null) {
+      kind.learn(first - last);
     }
     kind.last = first;
     kind.isGone = false;

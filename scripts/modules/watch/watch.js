@@ -9,13 +9,14 @@ import { Journal, put } from "./journal.js";
 import { onceAMinute } from "./limits.js";
 import { keep, read, untold } from "./memory.js";
 import { metricsOf } from "./metrics.js";
+import { judgedRest } from "./rest.js";
 import { Ring } from "./ring.js";
 import { Saver } from "./saver.js";
 import { Triggers } from "./triggers.js";
 import { iso } from "./wall.js";
 
-/** How often what is known is written down, in seconds; the most incidents that wait to be saved. */
-const [KEEP, MOST_WAITING] = [10, 4];
+/** How often what is known is written down, in seconds, and of bits that come faster; incidents that wait, at most. */
+const [KEEP, KEEP_BITS, MOST_WAITING] = [10, 60 * RATE, 4];
 
 /** @typedef {import("./limits.js").Asked} Asked */
 /** @typedef {import("../listing/listing.js").Row} Row */
@@ -25,7 +26,7 @@ export class Watch {
   lost = 0;
   unsaved = 0;
   saving = Promise.resolve();
-  kept = 0; // when what is known was written down, in seconds
+  kept = { time: 0, place: 0 }; // when what is known was written down, in seconds, and where
 
   decoder = /** @type {Decoder} */ (/** @type {unknown} */ (null)); // until it begins
 
@@ -47,7 +48,7 @@ export class Watch {
     this.incidents = new Incidents(this.number, asked.limits, this.office());
     this.triggers = new Triggers({
       trigger: (cause, first, past) => this.incidents.trigger(cause, first, past),
-      wellAgain: (about, first, past, since) => this.wellAgain(about, first, past, since),
+      wellAgain: (about, first, past, since) => this.incidents.wellAgain(about, first, past, since),
     }, asked.gaps);
   }
 
@@ -85,11 +86,27 @@ export class Watch {
   async begin() {
     const since = this.old.wall === null ? {} : { since: iso(this.old.wall) };
     this.log("start", since);
-    this.triggers.restore(this.old.kinds, 0);
+    const { kinds, incidents, tally } = await this.rest();
+    this.triggers.restore(kinds, 0);
     this.incidents.seam(0);
-    this.incidents.takeOver(untold(this.old, this.journal.told("incident")));
+    this.incidents.tally = tally;
+    const told = this.journal.told().filter(({ event }) => event === "incident");
+    this.incidents.takeOver(untold(incidents, told));
     this.keep();
     await this.decode(0);
+  }
+
+  /** What the run before knew, with what it had not judged when it was killed. */
+  async rest() {
+    const { old } = this;
+    const known = { kinds: old.triggers.kinds, incidents: old.incidents, tally: new Map() };
+    if (old.isOver) return known;
+    try {
+      return await judgedRest(old, this.ring, this.asked, this.journal);
+    } catch (fault) {
+      this.complain(`the bits before the kill: ${/** @type {Error} */ (fault).message}`);
+      return known;
+    }
   }
 
   /**
@@ -103,12 +120,10 @@ export class Watch {
   }
 
   /** Writes down what outlives the watch. */
-  keep() {
-    const { number, triggers, incidents } = this;
-    const timeOf = (/** @type {number} */ place) => this.timeOf(place);
-    const kinds = Object.fromEntries([...triggers.kinds].map(([name, kind]) => [name, kind.kept(timeOf)]));
-    const { open, waiting } = incidents;
-    this.tried("state", () => keep(this.state, { run: number, wall: this.wall.now(), kinds, open, waiting }));
+  keep(isOver = false) {
+    const triggers = this.triggers.kept((place) => this.timeOf(place));
+    const [wall, zero, incidents] = [this.wall.now(), this.wall.zero, this.incidents.kept()];
+    this.tried("state", () => keep(this.state, { run: this.number, isOver, wall, zero, triggers, incidents }));
   }
 
   /**
@@ -144,9 +159,9 @@ export class Watch {
     const { mark } = this.decoder;
     this.triggers.tick(mark);
     this.incidents.tick(mark);
-    const now = performance.now() / 1000;
-    if (now - this.kept < KEEP) return;
-    this.kept = now;
+    const [time, place] = [performance.now() / 1000, mark];
+    if (time - this.kept.time < KEEP && place - this.kept.place < KEEP_BITS) return;
+    this.kept = { time, place };
     this.keep();
     this.measure();
   }
@@ -182,21 +197,8 @@ export class Watch {
     this.incidents.seam(this.packer.places);
     this.triggers.seam(this.packer.places);
     this.wall.restart();
+    this.keep();
     this.log(event, more);
-  }
-
-  /**
-   * @param {import("./triggers.js").About} about
-   * @param {number} first
-   * @param {number} past
-   * @param {number|null} since
-   */
-  wellAgain(about, first, past, since) {
-    this.incidents.wellAgain(past);
-    const seconds = since === null ? (past - first) / RATE : this.timeOf(past) - since;
-    const wall = iso(this.timeOf(past));
-    const length = Number(seconds.toFixed(3));
-    this.journal.log({ event: "well again", wall, run: this.number, place: past, ...about, seconds: length });
   }
 
   /**
@@ -206,7 +208,7 @@ export class Watch {
   async save(incident) {
     let saved = null;
     try {
-      saved = await this.saver.save(incident);
+      saved = await this.saver.save(incident, this.incidents.recordOf(incident));
     } catch (fault) {
       this.complain(`an incident: ${/** @type {Error} */ (fault).message}`);
     }
@@ -243,7 +245,7 @@ export class Watch {
     await this.saving;
     this.ring.close();
     await this.ring.packing;
-    this.keep();
+    this.keep(isWell);
     this.measure();
     this.log("end");
   }

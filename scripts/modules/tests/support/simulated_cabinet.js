@@ -138,7 +138,7 @@ for (let place = from; place < until; ) {
     if (!isQuiet && faultAt(place, "lose")) continue;
     if (form === "pairs") room[held++] = 48 + first[at] + 2 * second[at];
     else room[held++] = 48 + first[at];
-    if (form !== "pairs" && clock[at]) room[held++] = second[at] ? 105 : 111;
+    if (form !== "pairs" && clock[at] && (isQuiet || !faultAt(place, "still"))) room[held++] = second[at] ? 105 : 111;
   }
   written = place;
   while (faults.length > 0 && faults[0].past < place - 60 * RATE) faults.shift();

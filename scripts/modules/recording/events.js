@@ -1,0 +1,79 @@
+import { RATE } from "../port1.js";
+import { LONG, doubtsOf, samplesOfBit } from "./doubts.js";
+
+/** @typedef {import("./doubts.js").Facts} Facts */
+/** @typedef {import("./moments.js").Moments} Moments */
+
+/** A wire that does not change for so many bits is told, and so long a recording is before it is judged as a whole. */
+const QUIET = 10 * RATE;
+
+/** Doubts that a whole recording has or has not. */
+const STEADY = new Set(["still", "flat", "rising", "falling", "own", "inverted"]);
+
+const WIRES = /** @type {const} */ (["txc", "txd", "rxc", "rxd"]);
+
+/** What becomes doubtful while a recording comes: each event once, with its place. */
+export class Events {
+  isJudged = false; // as a whole
+  stopped = -1; // where the first clock stood still when that was told
+  jumps = 0; // that were told
+  /** @type {Map<string, number>} */
+  quiet = new Map(); // wires that were told, and where they last changed
+
+  /** @param {string[]} names of the wires @param {boolean} rising whether bits are taken at rising edges */
+  constructor(names, rising) {
+    this.names = names;
+    this.rising = rising;
+  }
+
+  /**
+   * The events since the last look.
+   * @param {Facts} facts whose longest distance of the first clock is taken off, so that the next one is known
+   * @param {Moments} when
+   * @returns {string[]}
+   */
+  look(facts, when) {
+    const bit = samplesOfBit(facts, when.ticks);
+    if (bit === 0) return [];
+    const events = [this.ofWhole(facts, bit, when), this.ofClock(facts, bit, when), this.ofWires(facts, bit, when)].flat();
+    Object.assign(facts.lines[0].gap, { length: 0, place: 0 });
+    return events;
+  }
+
+  /** @param {Facts} facts @param {number} bit @param {Moments} when */
+  ofWhole(facts, bit, when) {
+    if (this.isJudged || facts.samples < QUIET * bit) return [];
+    this.isJudged = true;
+    const doubts = doubtsOf(facts, this.names, { rising: this.rising, when });
+    return doubts.filter(({ sort }) => STEADY.has(sort)).map(({ text }) => text);
+  }
+
+  /** @param {Facts} facts @param {number} bit @param {Moments} when */
+  ofClock({ lines: [{ bits, gap }], jumps, samples }, bit, when) {
+    const [[name], told] = [this.names, this.jumps];
+    this.jumps = jumps.count;
+    if (bits.count > 0 && samples - bits.last > LONG * bit && bits.last !== this.stopped) {
+      this.stopped = bits.last;
+      return [`${name} stops (at ${when.of(bits.last)})`];
+    }
+    if (gap.length > LONG * bit) {
+      const length = when.length(gap.length);
+      if (gap.place === this.stopped) return [`${name} goes on (after ${length}, at ${when.of(gap.place + gap.length)})`];
+      return [`${name} stops (for ${length} from ${when.of(gap.place)} on)`];
+    }
+    const count = jumps.count - told;
+    const times = count === 1 ? "" : `${count} times, last `;
+    return count > 0 ? [`the edges of ${name} jump: samples may have been lost (${times}at ${when.of(jumps.last)})`] : [];
+  }
+
+  /** @param {Facts} facts @param {number} bit @param {Moments} when */
+  ofWires({ samples, wires }, bit, when) {
+    return this.names.flatMap((name, at) => {
+      const { count, last } = wires[WIRES[at]].changes;
+      const isTold = name === this.names[0] || this.quiet.get(name) === last;
+      if (count === 0 || isTold || samples - last < QUIET * bit) return [];
+      this.quiet.set(name, last);
+      return [`${name} has not changed since ${when.of(last)}`];
+    });
+  }
+}

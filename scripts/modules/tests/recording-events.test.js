@@ -1,0 +1,82 @@
+// What becomes doubtful while a recording comes: once each, with the places at which it was made so.
+
+import assert from "node:assert/strict";
+import { test } from "node:test";
+import { Events } from "../recording/events.js";
+import { Moments } from "../recording/moments.js";
+import { Sampler } from "../recording/sampler.js";
+import { RATE } from "../port1.js";
+
+const NAMES = ["TXC", "TXD", "RXC", "RXD"];
+const [HALF, TICKS] = [4, 8 * RATE];
+
+/** Runs of both lines, whose bits are eight samples, for as long as clock and data are asked for. */
+class Wires {
+  data = 0b1010;
+  records = [];
+  bit = 0;
+
+  run(levels, count) {
+    this.records.push(levels + 256 * count, 0);
+  }
+
+  /** Bits for some seconds; the data of a wire that is at rest stands. */
+  go(seconds, resting = 0) {
+    for (let count = Math.round(seconds * RATE); count > 0; count--, this.bit++) {
+      if (this.bit % 3 === 0) this.data ^= 0b1010 & ~resting;
+      this.run(this.data, HALF);
+      this.run(this.data | 0b0101, HALF);
+    }
+  }
+
+  take() {
+    const octets = Buffer.from(Uint32Array.from(this.records).buffer);
+    this.records = [];
+    return octets;
+  }
+}
+
+/** What is told of parts, a quarter of a second or less at a time, each with the second after which it is. */
+function eventsOf(parts, rising = true) {
+  const [wires, events, told] = [new Wires(), new Events(NAMES, rising), []];
+  const sampler = new Sampler({ hasRuns: true, width: 8, wires: [0, 1, 2, 3] }, { hold: 0, jump: 3 }, rising ? 0 : 5, () => {});
+  const look = () => {
+    sampler.take(wires.take());
+    const texts = events.look(sampler.facts, new Moments(TICKS));
+    told.push(...texts.map((text) => `${(sampler.samples / TICKS).toFixed(2)}: ${text}`));
+  };
+  for (const { seconds, stop = 0, resting = 0 } of parts) {
+    if (stop > 0) wires.run(wires.data, Math.round(stop * TICKS));
+    if (stop > 0.25) look();
+    for (let left = seconds; left > 0; left -= 0.25) {
+      wires.go(Math.min(left, 0.25), resting);
+      look();
+    }
+  }
+  return told;
+}
+
+// The clock rises half a bit, 0.000003 s, after each bit begins. Of 153600 bits the data changes last with bit 153597.
+const CASES = [
+  ["a good recording", [{ seconds: 12 }], []],
+  ["a clock that stops, and goes on", [{ seconds: 2 }, { stop: 0.5, seconds: 3 }], [
+    "2.50: TXC stops (at 1.999997 s)",
+    "2.75: TXC goes on (after 0.500007 s, at 2.500003 s)",
+  ]],
+  ["a stop between two looks", [{ seconds: 1 }, { stop: 0.0125, seconds: 1 }], [
+    "1.26: TXC stops (for 0.012507 s from 0.999997 s on)",
+  ]],
+  ["samples lost", [{ seconds: 1 }, { stop: 0.00001, seconds: 1 }], [
+    "1.25: the edges of TXC jump: samples may have been lost (2 times, last at 1.000020 s)",
+  ]],
+  ["data that rests for ten seconds", [{ seconds: 1 }, { seconds: 11, resting: 0b1000 }, { seconds: 11 }], [
+    "11.00: RXD has not changed since 0.999980 s",
+  ]],
+];
+
+for (const [name, parts, wanted] of CASES) test(name, () => assert.deepEqual(eventsOf(parts), wanted));
+
+test("the wrong edge is told once, when ten seconds have come", () => {
+  const edge = (wire) => `10.00: the data changes at the edge of ${wire} that is taken: try it without --falling`;
+  assert.deepEqual(eventsOf([{ seconds: 21 }], false), [edge("TXC"), edge("RXC")]);
+});

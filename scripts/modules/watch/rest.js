@@ -1,0 +1,107 @@
+import { spawn } from "node:child_process";
+import { rowsOfInput } from "../commands/input.js";
+import { RATE } from "../port1.js";
+import { wordsOfList } from "./decoder.js";
+import { captureOf, octetsBefore } from "./forms.js";
+import { Incidents } from "./incidents.js";
+import { Triggers } from "./triggers.js";
+
+/** @typedef {import("../listing/listing.js").Row} Row */
+/** @typedef {import("./journal.js").Entry} Entry */
+
+/**
+ * How far before the last line that was judged bits are read again, so that it is found; and how far before a line all
+ * is judged: any answer takes less.
+ */
+const [BEFORE, SLACK] = [2 * RATE, RATE];
+
+/** How often it is judged what time alone decides, in places. */
+const STEP = RATE / 4;
+
+/** The most segments of a ring that are read again. */
+const MOST = 8;
+
+/**
+ * What tells an event from the others of a log.
+ * @param {Entry} record
+ */
+const keyOf = ({ event, run, place, id, kind, line, cause }) => JSON.stringify([event, run, place, id, kind, line, cause]);
+
+/**
+ * The lines of a packed capture.
+ * @param {string} program
+ * @param {string[]} words
+ * @param {Buffer} capture
+ */
+async function* linesOf(program, words, capture) {
+  const child = spawn(program, words, { stdio: ["pipe", "pipe", "ignore"], detached: true });
+  child.on("error", () => undefined); // it writes nothing then
+  child.stdin.on("error", () => undefined);
+  child.stdin.end(capture);
+  for await (const rows of rowsOfInput(child.stdout)) yield* rows;
+}
+
+/**
+ * Leaves out the lines up to one.
+ * @param {AsyncIterable<Row>} rows
+ * @param {import("./triggers.js").Mark|null} last
+ */
+async function* linesAfter(rows, last) {
+  let isAfter = last === null;
+  for await (const row of rows) {
+    if (isAfter) yield row;
+    else isAfter = isLast(row, /** @type {import("./triggers.js").Mark} */ (last));
+  }
+}
+
+/** @param {Row} row @param {import("./triggers.js").Mark} last */
+const isLast = (row, last) =>
+  row.first > last.past + SLACK ||
+  (row.past === last.past && row.line === last.line && row.kind === last.kind);
+
+/**
+ * Judges what a run had taken, and not judged when it was killed: from the bits that the ring has of it.
+ * @param {import("./memory.js").Kept} old
+ * @param {import("./ring.js").Ring} ring
+ * @param {import("./limits.js").Asked} asked
+ * @param {import("./journal.js").Journal} journal
+ */
+export async function judgedRest({ run, zero, triggers: known, incidents: before }, ring, asked, journal) {
+  const told = new Set(journal.told().map(keyOf));
+  const log = (/** @type {Entry} */ record) => (told.has(keyOf(record)) ? undefined : journal.log(record));
+  const incidents = new Incidents(run, asked.limits, { zero: () => zero, keep() {}, save() {}, log });
+  incidents.resume(before);
+  const triggers = new Triggers({
+    trigger: (cause, first, past) => incidents.trigger(cause, first, past),
+    wellAgain: (about, first, past, since) => incidents.wellAgain(about, first, past, since),
+  }, asked.gaps);
+  triggers.resume(known);
+  await judge(triggers, incidents, ring, asked);
+  const { kinds } = triggers.kept((place) => zero + place / RATE);
+  return { kinds, incidents: incidents.kept(), tally: incidents.tally };
+}
+
+/**
+ * @param {Triggers} triggers
+ * @param {Incidents} incidents
+ * @param {import("./ring.js").Ring} ring
+ * @param {import("./limits.js").Asked} asked
+ */
+async function judge(triggers, incidents, ring, { form, program, dictionary }) {
+  const { judged } = triggers;
+  const from = Math.max((judged?.past ?? 0) - BEFORE, ring.beginOf(incidents.run, MOST));
+  const { octets, place } = ring.read(form, incidents.run, from, Infinity);
+  if (octets.length === 0) return;
+  let mark = 0;
+  const tick = (/** @type {number} */ to) => {
+    mark = to;
+    triggers.tick(mark);
+    incidents.tick(mark);
+  };
+  const rows = linesOf(program, wordsOfList(form, dictionary, place), captureOf(form, octets));
+  for await (const row of linesAfter(rows, judged)) {
+    if (row.first - SLACK > mark + STEP) tick(row.first - SLACK);
+    triggers.hear([row]);
+  }
+  tick(place + octetsBefore(form, octets, Infinity).passed);
+}

@@ -1,0 +1,215 @@
+"""A simulated week of bus-watch: faults of every kind, lost input, clocks that stop, recorders that die, kills, a full disk."""
+
+import json
+import os
+import random
+import subprocess
+import tempfile
+import threading
+import time
+from pathlib import Path
+from typing import Dict, List, NamedTuple, Optional, Sequence, Tuple
+
+from needs import Skipped, needs
+from tests.case import SCRIPTS
+from tests.watched import BEGIN, DICTIONARY, RATE, SIMULATOR, Cabinet, Fault, Watched, judged, schedule
+
+RUNS: List[object] = []
+
+DAY = 86400
+
+# A recorder's turn: it writes the places of the next line of `turns`, and after the last one the watch is ended.
+SOURCE = """read turn < turn; echo $((turn + 1)) > turn
+set -- $(sed -n ${{turn}}p turns)
+[ $# -eq 2 ] || {{ kill -TERM $PPID; exit; }}
+node {simulator} 7 $1 $2 plan 0 arrivals 2>> told; exit 3
+"""
+
+
+class Plan(NamedTuple):
+    """What happens in so many days."""
+
+    faults: List[Fault]
+    deaths: List[int]  # places where a recorder dies
+    kills: List[float]  # seconds after which runs of the watch are killed
+    full: Tuple[float, float]  # when the disk is full, in seconds after the beginning, and for how long
+
+
+def more_faults(generator: random.Random, days: float, faults: Sequence[Fault]) -> List[Fault]:
+    """Lost input and clocks that stand still, where no other fault is near."""
+    found: List[Fault] = []
+    while len(found) < 12 * days:
+        begin = int(generator.uniform(100, DAY * days - 100) * RATE)
+        kind = generator.choice(["lose", "still"])
+        longest = 12 if kind == "lose" else 60
+        fault = Fault(begin, begin + int(generator.uniform(0.4, longest) * RATE), kind, 0)
+        if all(f.past + 60 * RATE < fault.begin or fault.past + 60 * RATE < f.begin for f in [*faults, *found]):
+            found.append(fault)
+    return found
+
+
+def plan_of(seed: int, days: float, kills: Sequence[float], full: Tuple[float, float]) -> Plan:
+    generator = random.Random(seed)
+    faults = schedule(seed, int(DAY * days), int(150 * days))
+    faults = sorted([*faults, *more_faults(generator, days, faults)])
+    deaths = sorted(int(generator.uniform(0, DAY * days) * RATE) for _ in range(int(2 * days)))
+    return Plan(faults, deaths, list(kills), full)
+
+
+class Gauge(threading.Thread):
+    """The most memory of a watch and of its `port1`, in KiB, and the most octets of its folder."""
+
+    def __init__(self, watch: "subprocess.Popen[bytes]", folder: Path) -> None:
+        super().__init__(daemon=True)
+        self.watch, self.folder = watch, folder
+        self.most: Dict[str, int] = {}
+
+    def note(self, name: str, count: int) -> None:
+        self.most[name] = max(self.most.get(name, 0), count)
+
+    def run(self) -> None:
+        while self.watch.poll() is None:
+            for name in (str(self.watch.pid), *children(self.watch.pid)):
+                status = read(Path(f"/proc/{name}/status"))
+                if "VmHWM:" in status:
+                    what = status.split()[1]
+                    self.note(what, int(status.split("VmHWM:")[1].split()[0]))
+            self.note("disk", sum(size_of(path) for path in self.folder.rglob("*")))
+            time.sleep(1)
+
+
+def read(path: Path) -> str:
+    try:
+        return path.read_text()
+    except OSError:
+        return ""
+
+
+def size_of(path: Path) -> int:
+    try:
+        return path.stat().st_blocks * 512
+    except OSError:
+        return 0
+
+
+def children(pid: int) -> List[str]:
+    return read(Path(f"/proc/{pid}/task/{pid}/children")).split()
+
+
+def fill(disk: Path, plan: Plan) -> None:
+    """Keeps a disk full for a while."""
+    begin, length = plan.full
+    time.sleep(begin)
+    filler = disk / "filler"
+    until = time.monotonic() + length
+    with filler.open("wb", buffering=0) as file:
+        while time.monotonic() < until:
+            try:
+                file.write(bytes(1 << 20))
+            except OSError:
+                time.sleep(0.02)
+    filler.unlink()
+
+
+def turns_from(plan: Plan, begin: int, past: int) -> List[Tuple[int, int]]:
+    """The places of the recorders from one on: each begins 20 seconds after the one before it died."""
+    turns = []
+    for death in [*plan.deaths, past]:
+        if death > begin + 5 * RATE:
+            turns.append((begin, death))
+            begin = death + 20 * RATE
+    return turns
+
+
+class Week:
+    def __init__(self, folder: Path, plan: Plan, days: float) -> None:
+        self.folder, self.plan, self.past = folder, plan, int(DAY * days) * RATE
+        self.until = time.monotonic() + float(os.environ.get("SECONDS_OF_WEEK", 10 * DAY))
+        self.cabinet = Cabinet(folder, plan.faults)
+        self.runs: List[Watched] = []
+        self.most: Dict[str, int] = {}
+        (folder / "plan").write_text("".join(f"{f.begin} {f.past} {f.kind} {f.number}\n" for f in plan.faults))
+
+    def run(self, begin: int, past: int, kill: Optional[float] = None) -> int:
+        """Runs the watch from a place on, until it is killed or all has come; tells where the recorder was."""
+        turns = turns_from(self.plan, begin, past)
+        (self.folder / "turns").write_text("".join(f"{first} {past}\n" for first, past in turns))
+        (self.folder / "turn").write_text("1\n")
+        (self.folder / "told").write_text("")
+        date = time.strftime("%Y-%m-%dT%H:%M:%SZ", time.gmtime(BEGIN + begin / RATE))
+        words = [SCRIPTS / "bus-watch", "watch", "--dictionary", DICTIONARY, "--begin", date, "--ring", "256M"]
+        words += ["--keep", "200M", "--floor", "16M", "--source", SOURCE.format(simulator=SIMULATOR)]
+        with (self.folder / "said").open("ab") as said:
+            watch = subprocess.Popen(words, cwd=self.folder, stdin=subprocess.DEVNULL, stdout=subprocess.DEVNULL, stderr=said)
+        gauge = Gauge(watch, self.folder / "watch")
+        gauge.start()
+        try:
+            watch.wait(kill)
+        except subprocess.TimeoutExpired:
+            watch.kill()
+            watch.wait()
+        gauge.join()
+        self.most = {name: max(self.most.get(name, 0), count) for name, count in {**self.most, **gauge.most}.items()}
+        for _ in range(100):  # the recorder ends when it finds that nobody reads
+            told = [line.split() for line in (self.folder / "told").read_text().splitlines() if line.startswith("places")]
+            if len(told) >= min(int((self.folder / "turn").read_text()) - 1, len(turns)):
+                break
+            time.sleep(0.1)
+        done = [(int(first), int(past)) for _, first, past in told]
+        self.runs.append(Watched(done, [], "", watch.returncode))
+        return done[-1][1] if done else begin
+
+    def go(self) -> None:
+        begin = 0
+        for kill in [*self.plan.kills, 10 * DAY]:
+            left = self.until - time.monotonic()
+            if left > 0 and begin < self.past:
+                begin = self.run(begin, self.past, min(kill, left)) + 30 * RATE
+        if begin < self.past:  # there was no time for more
+            self.past = self.run(begin, begin + 120 * RATE)
+
+    def figures(self) -> str:
+        log = self.cabinet.log
+        counts: Dict[str, int] = {}
+        for record in log:
+            counts[record["event"]] = counts.get(record["event"], 0) + 1
+        unsaved = sum(record["saved"] is None for record in self.cabinet.incidents)
+        cut = sum("cut" in record for record in self.cabinet.incidents)
+        known = [f for f in self.plan.faults if not f.is_small and any(run.watches(f) for run in self.runs)]
+        return f"{len(known)} faults to be found; {counts}; {unsaved} not saved, {cut} cut; most {self.most}"
+
+
+def problems_of_days(folder: Path, days: float, kills: Sequence[float], full: Tuple[float, float]) -> List[str]:
+    needs("node")
+    disk = folder / "disk"
+    disk.mkdir()
+    mounted = subprocess.run(["mount", "-t", "tmpfs", "-o", "size=600m", "none", disk], capture_output=True)
+    if mounted.returncode != 0:
+        raise Skipped("no disk of 600 MB: it takes root to mount one")
+    try:
+        week = Week(disk, plan_of(41, days, kills, full), days)
+        filler = threading.Thread(target=fill, args=(disk, week.plan), daemon=True)
+        filler.start()
+        began = time.monotonic()
+        week.go()
+        print(f"{week.past / RATE / DAY:.2f} days in {time.monotonic() - began:.0f} s: {week.figures()}", flush=True)
+        print(f"ran {[(run.status, len(run.turns)) for run in week.runs]}; said {(disk / 'said').read_text()}", flush=True)
+        problems = judged(week.cabinet, week.runs)
+        # Old folders go; while the disk is full none can be saved.
+        return [problem for problem in problems if not problem.endswith("is not there") and not problem.startswith("not saved")]
+    finally:
+        subprocess.run(["umount", disk], check=True)
+
+
+def a_week(folder: Path) -> List[str]:
+    """A simulated week with a thousand faults and ten kill -9."""
+    generator = random.Random(6)
+    return problems_of_days(folder, 7, [generator.uniform(60, 240) for _ in range(10)], (400, 20))
+
+
+def an_hour_of_all(folder: Path) -> List[str]:
+    """A simulated hour with each of it."""
+    return problems_of_days(folder, 1 / 24, [3, 4], (5, 2))
+
+
+TESTS = [an_hour_of_all, a_week]
