@@ -27,6 +27,8 @@ BASH_COMPLETION = "/usr/share/bash-completion/bash_completion"
 # Where Debian has modules for Node.
 NODE_MODULES = "/usr/share/nodejs"
 
+SPECS_OF_NEWLIB = "/usr/lib/arm-none-eabi/newlib/nosys.specs"
+
 LOADER_OF_ARM = "/usr/aarch64-linux-gnu/lib/ld-linux-aarch64.so.1"
 
 GATE = [
@@ -64,6 +66,7 @@ GATE = [
 BESIDE = [
     Package("gcc-aarch64-linux-gnu", ["aarch64-linux-gnu-gcc"]),
     Package("libc6-arm64-cross", files=[LOADER_OF_ARM]),
+    Package("libnewlib-arm-none-eabi", files=[SPECS_OF_NEWLIB]),
     Package("lintian", ["lintian"]),
     Package("munge", ["munged"]),
     Package("openssh-server", ["sshd"]),

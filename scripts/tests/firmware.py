@@ -4,6 +4,7 @@ import fcntl
 import os
 import random
 import re
+import select
 import shutil
 import signal
 import socket
@@ -14,7 +15,7 @@ from contextlib import contextmanager
 from pathlib import Path
 from typing import IO, Iterator, List, NamedTuple, Sequence, Tuple
 
-from needs import needs, needs_module
+from needs import SPECS_OF_NEWLIB, needs, needs_file, needs_module
 from tests.case import CALL, REPLY, SECONDS, TOP, Run, Test, Word, listed, packed, plain, random_bits, written_by
 from tests.targets import BUILD
 
@@ -51,6 +52,7 @@ def firmware_lists(folder: Path) -> List[str]:
     """The listing of one line is that of `port1 list`, the names aside."""
     target = "thumbv7m-none-eabi"
     needs("arm-none-eabi-gcc", "qemu-system-arm")
+    needs_file(SPECS_OF_NEWLIB)
     subprocess.run([BUILD, folder, target], check=True, stdout=subprocess.DEVNULL, stderr=subprocess.DEVNULL)
     words = made(folder, "listing.elf", f"LIBRARY={folder / target / 'libport1_c.a'}")
     problems = []
@@ -69,6 +71,9 @@ def firmware_lists(folder: Path) -> List[str]:
 
 # ---- the tap of two lines, which writes their bits in the order of arrival
 
+# How long it may write nothing, in seconds.
+LULL = 20
+
 
 class Tap(NamedTuple):
     """The emulated board: where the clocks' edges go in, and where the text comes out."""
@@ -84,9 +89,9 @@ class Tap(NamedTuple):
         """So many letters, which stand 64 in a line."""
         text = ""
         while len(text) < count:
-            octets = self.written.read(1)
+            octets = self.written.read(1) if select.select([self.written], [], [], LULL)[0] else b""
             if not octets:
-                raise OSError(f"the emulator ended after {len(text)} letters")
+                raise OSError(f"no letter came after {len(text)}")
             text += octets.decode().strip("\n")
         return text
 
@@ -113,7 +118,7 @@ def running(folder: Path) -> Iterator[Tap]:
     settings = [f"{path.name.upper()}=unix:{path},server" for path in sockets]
     words = [*made(folder, "arrivals.elf"), "run-arrivals", *settings]
     pipes = {"stdin": subprocess.PIPE, "stdout": subprocess.PIPE, "stderr": subprocess.DEVNULL}
-    with subprocess.Popen(words, start_new_session=True, **pipes) as run:
+    with subprocess.Popen(words, start_new_session=True, bufsize=0, **pipes) as run:
         timer = threading.Timer(SECONDS, os.killpg, [run.pid, signal.SIGKILL])
         timer.start()
         lines = [connected(path) for path in sockets]
@@ -164,9 +169,8 @@ def firmware_taps_both_at_once(folder: Path) -> List[str]:
         got = tap.read(sum(map(len, sent)))
         for thread in threads:
             thread.join()
-    lines = ["".join(letter for letter in got if letter in "01"), re.sub("[^oi]", "", got)]
-    lines[1] = lines[1].translate(str.maketrans("oi", "01"))
-    return [f"line {number + 1} has other bits" for number, (wanted, line) in enumerate(zip(sent, lines)) if wanted != line]
+    lines = [re.sub("[^01]", "", got), re.sub("[^oi]", "", got).translate(str.maketrans("oi", "01"))]
+    return [f"line {number} has other bits" for number in (1, 2) if lines[number - 1] != sent[number - 1]]
 
 
 def firmware_marks_what_is_lost(folder: Path) -> List[str]:
