@@ -92,6 +92,7 @@ check: $(PROGRAM) $(SAMPLER)
 	tests/run
 
 page:
+	packages/build port1_c lib
 	page/build
 
 version:
