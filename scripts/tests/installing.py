@@ -122,6 +122,18 @@ MADE = {
 }
 
 
+def c_examples() -> Iterator[Path]:
+    """The examples in C, and the firmware."""
+    for path in (TOP / "c" / "examples").rglob("*"):
+        if path.name == "Makefile" or path.suffix in (".c", ".h", ".ld"):
+            yield path
+
+
+def place_of_example(path: Path) -> str:
+    """Where the documents of a package have it."""
+    return f"examples/c/{path.relative_to(TOP / 'c' / 'examples')}"
+
+
 def sources_by_place() -> Iterator[Tuple[str, Path]]:
     """Where each file is installed that is one of this repository."""
     yield from ((place, TOP / source) for place, source in SAME_FILES.items())
@@ -132,8 +144,8 @@ def sources_by_place() -> Iterator[Tuple[str, Path]]:
     for path in (TOP / "examples").rglob("*.*"):
         if path.is_file() and not path.name.startswith(".") and not {"__pycache__", ".pytest_cache"} & set(path.parts):
             yield f"share/doc/port1/{path.relative_to(TOP)}", path
-    for path in [TOP / "c" / "examples" / "Makefile", *(TOP / "c" / "examples").glob("*.c")]:
-        yield f"share/doc/port1/examples/c/{path.name}", path
+    for path in c_examples():
+        yield f"share/doc/port1/{place_of_example(path)}", path
 
 
 def problems_of_all(prefix: Path) -> List[str]:

@@ -106,13 +106,13 @@ def problems_of_decoder(made: Path, examples: Path) -> List[str]:
 
 def problems_of_installed(it: Installed, folder: Path) -> List[str]:
     """Copies of the examples in C and of the decoder for sigrok are made without `rt`; they and the module work."""
-    needs("make", "cc", "c++", "pkg-config", "sigrok-cli")
+    needs("make", "cc", "c++", "pkg-config", "sigrok-cli", "arm-none-eabi-gcc")
     shutil.copytree(it.examples, folder / "c")
     shutil.copytree(it.share / "contrib", folder / "contrib", symlinks=True)
     settings = {"PKG_CONFIG_PATH": str(it.libraries / "pkgconfig"), "PATH": "/usr/bin:/bin"}
     problems = []
-    for place in ["c", "contrib/sigrok"]:
-        problems += unlike(f"make -C {place}", "", told(["make", "-s", "-C", folder / place], b"", **settings))
+    for place, target in [("c", "all"), ("c/mcu", "arrivals.elf"), ("contrib/sigrok", "all")]:
+        problems += unlike(f"make -C {place}", "", told(["make", "-s", "-C", folder / place, target], b"", **settings))
     for name, given, stdin, wanted in used_examples():
         for program in (name, f"{name}-cxx"):
             ran = subprocess.run([folder / "c" / program, *given.split()], input=stdin, capture_output=True)

@@ -58,8 +58,7 @@ LIBRARY_FILES = {
     "usr/lib/{}/cmake/port1/port1ConfigVersion.cmake",
     "usr/lib/{}/libport1_c.a",
     "usr/lib/{}/pkgconfig/port1.pc",
-    "usr/share/doc/libport1-dev/examples/c/Makefile",
-    *(f"usr/share/doc/libport1-dev/examples/c/{path.name}" for path in (TOP / "c" / "examples").glob("*.c")),
+    *(f"usr/share/doc/libport1-dev/{place}" for place in map(installing.place_of_example, installing.c_examples())),
     "usr/share/doc/libport1-dev/PROVED-BY",
     "usr/share/doc/libport1-dev/changelog.gz",
 }
