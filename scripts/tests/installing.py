@@ -279,12 +279,15 @@ def what_is_of_others(folder: Path) -> List[str]:
 
 
 def make_check(folder: Path) -> List[str]:
-    """What `make check` runs."""
+    """What `make check` runs, and `make page`, which is to report the proofs before it builds."""
     needs("make")
-    words = ["make", "-n", "-C", TOP, "check", f"PROGRAM={os.environ['PORT1']}"]
-    ran = subprocess.run(words, capture_output=True, text=True, timeout=SECONDS)
-    found = [line for line in ran.stdout.splitlines() if not line.startswith("make")]
-    return [] if found == ["tests/run"] else [f"it runs {found}: {ran.stderr}"]
+    problems = []
+    for target, wanted in {"check": ["tests/run"], "page": ["packages/build port1_c lib", "page/build"]}.items():
+        words = ["make", "-n", "-C", TOP, target, f"PROGRAM={os.environ['PORT1']}"]
+        ran = subprocess.run(words, capture_output=True, text=True, timeout=SECONDS)
+        found = [line for line in ran.stdout.splitlines() if not line.startswith("make")]
+        problems += [] if found == wanted else [f"make {target} runs {found}: {ran.stderr}"]
+    return problems
 
 
 def made_by_documents() -> Set[str]:
