@@ -49,6 +49,7 @@ LIBRARY = crates/port1_c/out/$(if $(TARGET),$(TARGET)/)libport1_c.a
 SONAME = libport1.so.2
 SHARED = $(if $(TARGET),,$(dir $(LIBRARY))$(SONAME))
 C_EXAMPLES = c/examples/Makefile $(wildcard c/examples/*.c)
+FIRMWARE = $(addprefix c/examples/mcu/,Makefile board.ld) $(wildcard c/examples/mcu/*.[ch])
 VERSION = $(shell sed -n 's/.*\.version("\(.*\)").*/\1/p' crates/bus_tool/src/arguments.rt)
 
 # What finds the examples but for those in C, the commands among the scripts, and the definitions, which one of the
@@ -92,6 +93,7 @@ check: $(PROGRAM) $(SAMPLER)
 	tests/run
 
 page:
+	packages/build port1_c lib
 	page/build
 
 version:
@@ -144,13 +146,14 @@ fill-in = sed -e "s|@PREFIX@|$(call from-there,$(PREFIX),$(2))|; s|@LIBDIR@|$(ca
 
 install-library: $(LIBRARY) $(SHARED)
 	install -d "$(DESTDIR)$(LIBDIR)" "$(DESTDIR)$(INCLUDEDIR)" "$(DESTDIR)$(PKGCONFIGDIR)" "$(DESTDIR)$(CMAKEDIR)" \
-		"$(DESTDIR)$(EXAMPLEDIR)/c"
+		"$(DESTDIR)$(EXAMPLEDIR)/c/mcu"
 	install -m 644 $(LIBRARY) "$(DESTDIR)$(LIBDIR)/libport1_c.a"
 	install -m 644 c/include/port1.h "$(DESTDIR)$(INCLUDEDIR)/port1.h"
 	$(call fill-in,port1.pc,$(PKGCONFIGDIR))
 	$(call fill-in,port1Config.cmake,$(CMAKEDIR))
 	$(call fill-in,port1ConfigVersion.cmake,$(CMAKEDIR))
 	install -m 644 $(C_EXAMPLES) "$(DESTDIR)$(EXAMPLEDIR)/c"
+	install -m 644 $(FIRMWARE) "$(DESTDIR)$(EXAMPLEDIR)/c/mcu"
 ifneq ($(SHARED),)
 	install -m 644 $(SHARED) "$(DESTDIR)$(LIBDIR)/$(SONAME)"
 	ln -sf $(SONAME) "$(DESTDIR)$(LIBDIR)/libport1.so"

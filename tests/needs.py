@@ -27,6 +27,8 @@ BASH_COMPLETION = "/usr/share/bash-completion/bash_completion"
 # Where Debian has modules for Node.
 NODE_MODULES = "/usr/share/nodejs"
 
+SPECS_OF_NEWLIB = "/usr/lib/arm-none-eabi/newlib/nosys.specs"
+
 LOADER_OF_ARM = "/usr/aarch64-linux-gnu/lib/ld-linux-aarch64.so.1"
 
 GATE = [
@@ -41,6 +43,7 @@ GATE = [
     Package("fish", ["fish"]),
     Package("g++", ["c++"]),
     Package("gcc", ["cc", "gcc"]),
+    Package("gcc-arm-none-eabi", ["arm-none-eabi-gcc"]),
     Package("git", ["git"]),
     Package("make", ["make"]),
     Package("node-d3", files=[f"{NODE_MODULES}/d3"]),
@@ -51,6 +54,7 @@ GATE = [
     Package("python3-numpy", modules=["numpy"]),
     Package("python3-pytest", modules=["pytest"]),
     Package("python3-websocket", modules=["websocket"]),
+    Package("qemu-system-arm", ["qemu-system-arm"]),
     Package("sigrok-cli", ["sigrok-cli"]),
     Package("systemd", ["systemd-analyze"]),
     Package("tshark", ["tshark"]),
@@ -61,12 +65,11 @@ GATE = [
 # Those of tests beside the gate, some of which run servers.
 BESIDE = [
     Package("gcc-aarch64-linux-gnu", ["aarch64-linux-gnu-gcc"]),
-    Package("gcc-arm-none-eabi", ["arm-none-eabi-gcc"]),
     Package("libc6-arm64-cross", files=[LOADER_OF_ARM]),
+    Package("libnewlib-arm-none-eabi", files=[SPECS_OF_NEWLIB]),
     Package("lintian", ["lintian"]),
     Package("munge", ["munged"]),
     Package("openssh-server", ["sshd"]),
-    Package("qemu-system-arm", ["qemu-system-arm"]),
     Package("qemu-user", ["qemu-aarch64"]),
     Package("rsync", ["rsync"]),
     Package("slurm-client", ["sbatch", "scancel", "sinfo", "squeue"]),

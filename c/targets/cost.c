@@ -1,26 +1,95 @@
-/* Feeds `capture` of capture.h so many times, OCTETS octets a call, and prints how many reports of each kind came. The
- * instructions of two such programs, of which one has TURNS more, tell what an octet costs. */
+/* Calls of the library, each from a function that is named after what is measured: measured.py reads from the log of an
+ * emulator how many instructions a call took. Of capture.h `polling` and `frames` are usual traffic, `hardest` has
+ * everything that takes long. */
+#include "../bench/reversed.h"
 #include "capture.h"
 #include "port1.h"
-#include <inttypes.h>
-#include <stdio.h>
+
+#define MEASURED static void __attribute__((noinline, noclone))
 
 static struct port1_line line;
-static uint32_t reports[6];
+static struct port1_report report;
+static struct port1_entry entries[256];
+static struct port1_pair pair;
+static struct port1_seen seen;
+static struct port1_sender sender;
+static uint8_t sent[320], ones[256], has_begun;
+static uint64_t at, bits, first;
 
-static void feed(const uint8_t *octets, uint32_t count) {
-    static struct port1_report report;
-    uint64_t at = 0;
-    while (at < 8 * count && port1_line_feed(&line, octets, count, &at, 8 * count, &report) == PORT1_OK)
-        reports[report.kind]++;
+/* What a call returned last: it keeps a call from being the last thing that a function does. */
+static volatile uint32_t status;
+
+static inline __attribute__((always_inline)) void feed(const uint8_t *octets, uint32_t size, uint32_t chunk) {
+    for (uint32_t k = 0; k < size; k += chunk) {
+        const uint32_t count = size - k < chunk ? size - k : chunk;
+        for (at = 0; at < 8 * count;)
+            status = port1_line_feed(&line, octets + k, count, &at, 8 * count, &report);
+    }
+}
+
+MEASURED polling_1(void) { feed(polling, sizeof polling, 1); }
+MEASURED polling_8(void) { feed(polling, sizeof polling, 8); }
+MEASURED polling_32(void) { feed(polling, sizeof polling, 32); }
+MEASURED hardest_1(void) { feed(hardest, sizeof hardest, 1); }
+MEASURED hardest_8(void) { feed(hardest, sizeof hardest, 8); }
+MEASURED hardest_32(void) { feed(hardest, sizeof hardest, 32); }
+
+MEASURED high_first(void) {
+    for (uint32_t k = 0; k < sizeof hardest; k++)
+        for (at = 0; at < 8;)
+            status = port1_line_feed_high_first(&line, reversed(hardest[k]), &at, &report);
+}
+
+MEASURED pushed(void) {
+    for (uint32_t k = 0; k < 8 * sizeof polling; k++)
+        status = port1_line_push(&line, polling[k / 8] >> k % 8 & 1, &report);
+}
+
+static inline uint64_t count_of(const struct port1_report *from) { return from->kind == PORT1_FRAME ? line.count : 0; }
+
+MEASURED paired(void) {
+    for (uint32_t k = 0; k < sizeof hardest; k++)
+        for (at = 0; at < 8;) {
+            status = port1_line_feed(&line, hardest + k, 1, &at, 8, &report);
+            if (report.kind != PORT1_NONE)
+                status = port1_pair_take(&pair, entries, 256, 0, &report, line.octets, count_of(&report), &seen);
+        }
+}
+
+MEASURED sent_again(void) {
+    for (uint32_t k = 0; k < sizeof frames / sizeof *frames; k++) {
+        at = 0;
+        status = port1_send_frame(&sender, frames[k].octets, frames[k].length, sent, sizeof sent, &at, &bits);
+    }
+}
+
+MEASURED longest_sent(void) {
+    for (uint32_t k = 0; k < sizeof ones; k++)
+        ones[k] = 0xff;
+    at = 1;
+    status = port1_send_frame(&sender, ones, sizeof ones, sent, sizeof sent, &at, &bits);
+}
+
+MEASURED others(void) {
+    status = port1_line_open(&line, &has_begun, &first);
+    at = 7;
+    status = port1_send_flag(&sender, sent, sizeof sent, &at, &bits);
+    status = port1_send_idle(&sender, sent, sizeof sent, &at, &bits);
+    at = 7;
+    status = port1_send_align(&sender, sent, sizeof sent, &at, &bits);
+    status = port1_line_init(&line, 256, 0);
+    status = port1_sender_init(&sender);
+    status = port1_pair_init(&pair);
 }
 
 int main(void) {
-    port1_line_init(&line, 256, 0);
-    for (uint32_t turn = 0; turn < TURNS; turn++)
-        for (uint32_t k = 0; k < sizeof capture; k += OCTETS)
-            feed(capture + k, sizeof capture - k < OCTETS ? sizeof capture - k : OCTETS);
-    for (uint32_t kind = 0; kind < 6; kind++)
-        printf("%" PRIu32 "\n", reports[kind]);
+    status = port1_line_init(&line, 256, 0);
+    for (uint32_t k = 0; k < 256; k++)
+        entries[k] = (struct port1_entry){.known = 1, .length = 4, .answered = k < 128, .window = 1536};
+    polling_1(), polling_8(), polling_32();
+    hardest_1(), hardest_8(), hardest_32();
+    high_first(), pushed(), paired();
+    sent_again(), longest_sent();
+    others();
     return 0;
 }

@@ -1,6 +1,6 @@
 /* How many octets of stack each call of the C library takes, with what it calls: runs it on a stack of known content,
  * and counts the octets from the deepest that was changed. A call of the library has a row in the table below. What
- * is fed is `capture` of capture.h, bit by bit where push takes it, and its octets reversed where the highest bit is to
+ * is fed is `hardest` of capture.h, bit by bit where push takes it, and its octets reversed where the highest bit is to
  * be the first. */
 #include "../bench/reversed.h"
 #include "capture.h"
@@ -50,17 +50,17 @@ static struct port1_seen seen;
 static void nothing(void) {}
 static void init(void) { port1_line_init(&line, 256, 0); }
 static void feed(void) {
-    for (at = 0; at < 8 * sizeof capture;)
-        port1_line_feed(&line, capture, sizeof capture, &at, 8 * sizeof capture, &report);
+    for (at = 0; at < 8 * sizeof hardest;)
+        port1_line_feed(&line, hardest, sizeof hardest, &at, 8 * sizeof hardest, &report);
 }
 static void feed_high_first(void) {
-    for (uint32_t i = 0; i < sizeof capture; i++)
+    for (uint32_t i = 0; i < sizeof hardest; i++)
         for (at = 0; at < 8;)
-            port1_line_feed_high_first(&line, reversed(capture[i]), &at, &report);
+            port1_line_feed_high_first(&line, reversed(hardest[i]), &at, &report);
 }
 static void push(void) {
-    for (uint32_t i = 0; i < 8 * sizeof capture; i++)
-        port1_line_push(&line, capture[i / 8] >> i % 8 & 1, &report);
+    for (uint32_t i = 0; i < 8 * sizeof hardest; i++)
+        port1_line_push(&line, hardest[i / 8] >> i % 8 & 1, &report);
 }
 static void open_piece(void) { port1_line_open(&line, &has_begun, &first); }
 static void make_sender(void) { port1_sender_init(&sender); }

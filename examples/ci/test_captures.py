@@ -3,8 +3,8 @@
     pytest --junitxml=bus.xml --captures=FOLDER --dictionary=FILE test_captures.py
 
 A capture fails where it has no frame, where it has a fault, and where anything in it is one of the kinds of `WRONG`
-below; the message has the fault, and these lines of `port1 list` with their seconds and names. The counts of `port1
-check` are properties of the test. A folder without captures fails, too. For captures of two lines say `--two` or
+below; the message has the fault, and these lines of `port1 list` with seconds, names and the times of late answers. The
+counts of `port1 check` are properties of the test. A folder without captures fails, too. For captures of two lines say `--two` or
 `--arrivals`. The program is `port1`, or what the variable PORT1 says. The options and the variables that stand for
 them are in conftest.py; this folder may be copied and changed.
 """
@@ -60,12 +60,14 @@ def kind_of(line: str) -> str:
     return next(word for word in line.split() if not word.isdigit())
 
 
-def told(line: str, names: Dict[str, str], is_of_two: bool) -> str:
-    """A line with the second at which it begins, and with the name of its frame type, which the dictionary has."""
+def told(line: str, names: Dict[str, str], is_of_two: bool, answer: int) -> str:
+    """A line with the second at which it begins, the name of its frame type, which the dictionary has, and how long a
+    late answer, which began at a place, took."""
     words = line.split()
-    seconds = int(words[1 if is_of_two else 0]) / RATE
+    first, past = map(int, words[is_of_two:][:2])
     name = names.get(words[-1]) if words[-2:-1] == ["type"] else None
-    return f"{seconds:.6f} s: {line.rstrip()}{f' ({name})' if name else ''}"
+    took = f", after {(answer - past) / RATE * 1000:.3f} ms" if kind_of(line) == "late" else ""
+    return f"{first / RATE:.6f} s: {line.rstrip()}{f' ({name})' if name else ''}{took}"
 
 
 def finding_of(capture: Path, options: List[str]) -> Finding:
@@ -73,13 +75,17 @@ def finding_of(capture: Path, options: List[str]) -> Finding:
     words = words_of("list", capture, options)
     count, lines, is_of_two = 0, [], "--two" in options or "--arrivals" in options
     names: Dict[str, str] = {}
+    answer = 0  # where the last frame began, which is the late answer right before its verdict
     pipes = {"stdout": subprocess.PIPE, "stderr": subprocess.PIPE, "text": True}
     with capture.open("rb") as file, subprocess.Popen(words, stdin=file, **pipes) as listing:
         for line in listing.stdout:
             if kind_of(line) in WRONG:
                 count += 1
-                lines += [told(line, names, is_of_two)] if count <= MOST_LINES else []
-            elif line.count(" type ") == 1:
+                lines += [told(line, names, is_of_two, answer)] if count <= MOST_LINES else []
+                continue
+            if kind_of(line) == "frame":
+                answer = int(line.split()[is_of_two])
+            if line.count(" type ") == 1:
                 frame_type, *name = line.split(" type ")[1].split()
                 names.update({frame_type: name[0]} if name and name[0] not in ("unknown", "length") else {})
         fault = listing.stderr.read().strip()

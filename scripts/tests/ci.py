@@ -63,7 +63,7 @@ CASES = [
         "late.bits",
         example("in-time-late-missing.bits"),
         wrong(
-            "0.000690 s: 106 147 late station 16 type 0 (call)",
+            "0.000690 s: 106 147 late station 16 type 0 (call), after 0.156 ms",
             "0.001432 s: 220 261 missing station 16 type 0 (call)",
         ),
     ),
@@ -83,7 +83,7 @@ CASES = [
         "late on two lines.bits",
         example("two-lines.bits"),
         wrong(
-            "0.000794 s: 1 122 163 late station 16 type 0 (call)",
+            "0.000794 s: 1 122 163 late station 16 type 0 (call), after 0.260 ms",
             "0.001693 s: 1 260 301 missing station 16 type 0 (call)",
         ),
         "two",

@@ -122,6 +122,18 @@ MADE = {
 }
 
 
+def c_examples() -> Iterator[Path]:
+    """The examples in C, and the firmware."""
+    for path in (TOP / "c" / "examples").rglob("*"):
+        if path.name == "Makefile" or path.suffix in (".c", ".h", ".ld"):
+            yield path
+
+
+def place_of_example(path: Path) -> str:
+    """Where the documents of a package have it."""
+    return f"examples/c/{path.relative_to(TOP / 'c' / 'examples')}"
+
+
 def sources_by_place() -> Iterator[Tuple[str, Path]]:
     """Where each file is installed that is one of this repository."""
     yield from ((place, TOP / source) for place, source in SAME_FILES.items())
@@ -132,8 +144,8 @@ def sources_by_place() -> Iterator[Tuple[str, Path]]:
     for path in (TOP / "examples").rglob("*.*"):
         if path.is_file() and not path.name.startswith(".") and not {"__pycache__", ".pytest_cache"} & set(path.parts):
             yield f"share/doc/port1/{path.relative_to(TOP)}", path
-    for path in [TOP / "c" / "examples" / "Makefile", *(TOP / "c" / "examples").glob("*.c")]:
-        yield f"share/doc/port1/examples/c/{path.name}", path
+    for path in c_examples():
+        yield f"share/doc/port1/{place_of_example(path)}", path
 
 
 def problems_of_all(prefix: Path) -> List[str]:
@@ -267,12 +279,15 @@ def what_is_of_others(folder: Path) -> List[str]:
 
 
 def make_check(folder: Path) -> List[str]:
-    """What `make check` runs."""
+    """What `make check` runs, and `make page`, which is to report the proofs before it builds."""
     needs("make")
-    words = ["make", "-n", "-C", TOP, "check", f"PROGRAM={os.environ['PORT1']}"]
-    ran = subprocess.run(words, capture_output=True, text=True, timeout=SECONDS)
-    found = [line for line in ran.stdout.splitlines() if not line.startswith("make")]
-    return [] if found == ["tests/run"] else [f"it runs {found}: {ran.stderr}"]
+    problems = []
+    for target, wanted in {"check": ["tests/run"], "page": ["packages/build port1_c lib", "page/build"]}.items():
+        words = ["make", "-n", "-C", TOP, target, f"PROGRAM={os.environ['PORT1']}"]
+        ran = subprocess.run(words, capture_output=True, text=True, timeout=SECONDS)
+        found = [line for line in ran.stdout.splitlines() if not line.startswith("make")]
+        problems += [] if found == wanted else [f"make {target} runs {found}: {ran.stderr}"]
+    return problems
 
 
 def made_by_documents() -> Set[str]:

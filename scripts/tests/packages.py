@@ -8,7 +8,7 @@ import shutil
 import subprocess
 import sys
 from pathlib import Path
-from typing import Dict, List, Optional, Sequence, Tuple
+from typing import Dict, Iterator, List, NamedTuple, Optional, Sequence, Tuple
 
 from needs import Skipped, needs
 from table.vectors import VECTORS
@@ -71,23 +71,70 @@ def told(words: Sequence[Word], stdin: bytes = b"", **settings: str) -> str:
     return ran.stdout.decode(errors="replace")
 
 
+class Installed(NamedTuple):
+    """Where the examples in C are, the folder share/port1, and the libraries."""
+
+    examples: Path
+    share: Path
+    libraries: Path
+
+
+def used_examples() -> Iterator[Tuple[str, str, bytes, bytes]]:
+    """The name of each example, its words, and what it reads and writes."""
+    watched = (TOP / "examples" / "in-time-late-missing.bits").read_bytes()
+    verdicts = "8 49 answered, 106 147 late, 220 261 missing".split(", ")
+    yield "list", "", ONE_CALL, ONE_FRAME.encode()
+    yield "live", "", ONE_CALL[16:], b"49: 10 83 00 fd e5\n"
+    yield "send", "", b"frame 108300\n", ONE_CALL[16:]
+    yield "watch", "0,0,16 128,0 9,0", watched, "".join(f"{each} station 16 type 0\n" for each in verdicts).encode()
+
+
+# What sigrok-cli shows of examples/call-and-reply.vcd.
+DECODED = """4-116 nema_port1-1: idle
+68-396 nema_port1-1: frame 108300fde5 station 16 type 0 call
+460-572 nema_port1-1: idle
+524-852 nema_port1-1: frame 108380f561 station 16 type 128 reply
+396-524 nema_port1-1: 0.128 ms, 16 bits
+"""
+
+
+def problems_of_decoder(made: Path, examples: Path) -> List[str]:
+    """What is wrong with the decoder of a folder in sigrok-cli, where that is there."""
+    options = f"nema_port1:txc=clk:txd=tx:rxd=rx:dictionary={examples / 'call-and-reply.toml'}"
+    words: List[Word] = ["sigrok-cli", "-i", examples / "call-and-reply.vcd", "-I", "vcd", "-A", "nema_port1"]
+    words += ["--protocol-decoder-samplenum", "-P", options]
+    return unlike("sigrok-cli", DECODED, told(words, b"", SIGROKDECODE_DIR=str(made), PYTHONDONTWRITEBYTECODE="1"))
+
+
+def problems_of_installed(it: Installed, folder: Path) -> List[str]:
+    """Copies of the examples in C and of the decoder for sigrok are made without `rt`; they and the module work."""
+    needs("make", "cc", "c++", "pkg-config", "sigrok-cli", "arm-none-eabi-gcc")
+    shutil.copytree(it.examples, folder / "c")
+    shutil.copytree(it.share / "contrib", folder / "contrib", symlinks=True)
+    settings = {"PKG_CONFIG_PATH": str(it.libraries / "pkgconfig"), "PATH": "/usr/bin:/bin"}
+    problems = []
+    for place, target in [("c", "all"), ("c/mcu", "arrivals.elf"), ("contrib/sigrok", "all")]:
+        problems += unlike(f"make -C {place}", "", told(["make", "-s", "-C", folder / place, target], b"", **settings))
+    for name, given, stdin, wanted in used_examples():
+        for program in (name, f"{name}-cxx"):
+            ran = subprocess.run([folder / "c" / program, *given.split()], input=stdin, capture_output=True)
+            problems += unlike(program, (wanted, b"", 0), (ran.stdout, ran.stderr, ran.returncode))
+    problems += problems_of_decoder(folder / "contrib" / "sigrok" / "out", it.share / "examples")
+    module = "import sys; from port1 import LineDecoder; print(*LineDecoder().feed(sys.stdin.buffer.read()[16:], 57))"
+    paths = {"PYTHONPATH": str(it.share / "contrib" / "python"), "LD_LIBRARY_PATH": str(it.libraries)}
+    got = told(["python3", "-B", "-c", module], ONE_CALL, **paths, PATH="/usr/bin:/bin")
+    return problems + unlike("the Python module", ONE_FRAME, got)
+
+
 def made_without_a_toolchain(folder: Path) -> List[str]:
-    """With the library installed, copies of the examples in C and of the decoder for sigrok are made without `rt`."""
-    needs("make", "cc", "c++", "pkg-config")
+    """With all installed in a folder."""
+    needs("make")
     if not ARCHIVE.exists():
         raise Skipped(f"no {ARCHIVE.relative_to(TOP)}; `make` builds it")
     prefix = folder / "prefix"
     make("install", [f"PREFIX={prefix}", f"PROGRAM={os.environ['PORT1']}"])
-    shutil.copytree(prefix / "share" / "doc" / "port1" / "examples" / "c", folder / "c")
-    shutil.copytree(prefix / "share" / "port1" / "contrib", folder / "contrib", symlinks=True)
-    settings = {"PKG_CONFIG_PATH": str(prefix / "lib" / "pkgconfig"), "PATH": "/usr/bin:/bin"}
-    problems = []
-    for place in ["c", "contrib/sigrok"]:
-        said = told(["make", "-s", "-C", folder / place], b"", **settings)
-        problems += unlike(f"make -C {place}", "", said)
-    problems += unlike("list", ONE_FRAME, told([folder / "c" / "list"], ONE_CALL))
-    decoder = folder / "contrib" / "sigrok" / "out" / "nema_port1" / "libport1.so"
-    return problems + ([] if decoder.is_file() else [f"there is no {decoder}"])
+    there = Installed(prefix / "share/doc/port1/examples/c", prefix / "share/port1", prefix / "lib")
+    return problems_of_installed(there, folder)
 
 
 def shared_library(folder: Path) -> List[str]:

@@ -14,10 +14,10 @@ from multiprocessing.util import Finalize
 from pathlib import Path
 from typing import Callable, Dict, List, NamedTuple, Set, Tuple
 
-from needs import needs
+from needs import Skipped, needs
 from tests import installing
 from tests.case import SECONDS, TOP, Run, Test, Word
-from tests.packages import told, unlike
+from tests.packages import ARCHIVE, Installed, problems_of_installed, told, unlike
 
 RUNS: List[Run] = []
 
@@ -58,8 +58,7 @@ LIBRARY_FILES = {
     "usr/lib/{}/cmake/port1/port1ConfigVersion.cmake",
     "usr/lib/{}/libport1_c.a",
     "usr/lib/{}/pkgconfig/port1.pc",
-    "usr/share/doc/libport1-dev/examples/c/Makefile",
-    *(f"usr/share/doc/libport1-dev/examples/c/{path.name}" for path in (TOP / "c" / "examples").glob("*.c")),
+    *(f"usr/share/doc/libport1-dev/{place}" for place in map(installing.place_of_example, installing.c_examples())),
     "usr/share/doc/libport1-dev/PROVED-BY",
     "usr/share/doc/libport1-dev/changelog.gz",
 }
@@ -263,6 +262,19 @@ def contents_for_boards(_: Path) -> List[str]:
         problems += [] if got[name] == (top / "crates/port1_c/out" / name).read_bytes() else [f"{name} is another"]
     page = (top / "dist" / f"port1-{version()}.html").read_bytes() == (top / PAGE).read_bytes()
     return problems + ([] if page else ["the page is another"])
+
+
+def used_without_a_toolchain(folder: Path) -> List[str]:
+    """With the packages for Debian unpacked in a folder."""
+    if not ARCHIVE.exists():
+        raise Skipped(f"no {ARCHIVE.relative_to(TOP)}; `make` builds it")
+    made = packages()
+    for name in ("port1_amd64.deb", "libport1-dev_amd64.deb"):
+        told(["dpkg-deb", "-x", made[name], folder / "root"])
+    system = folder / "root" / "usr"
+    libraries = system / "lib" / "x86_64-linux-gnu"
+    examples = system / "share/doc/libport1-dev/examples/c"
+    return problems_of_installed(Installed(examples, system / "share/port1", libraries), folder)
 
 
 def contents_of_tarball(folder: Path) -> List[str]:
@@ -527,6 +539,7 @@ TESTS: List[Test] = [
     without_arm,
     contents_of_tarball,
     contents_for_boards,
+    used_without_a_toolchain,
     contents_of_program,
     contents_of_libraries,
     modes_and_owners,

@@ -4,27 +4,13 @@ What it builds, c/targets/run tests.
 """
 
 import os
-import random
-import re
 import shutil
 import subprocess
 from pathlib import Path
-from typing import Iterator, List, Tuple
+from typing import List
 
 from needs import needs
-from tests.case import (
-    CALL,
-    REPLY,
-    SECONDS,
-    TOP,
-    Run,
-    Test,
-    listed,
-    packed,
-    plain,
-    random_bits,
-    written_by,
-)
+from tests.case import SECONDS, TOP, Run, Test
 
 BUILD = TOP / "c" / "targets" / "build"
 
@@ -112,42 +98,4 @@ def apart_from_this_machine(folder: Path) -> List[str]:
     return problems
 
 
-FIRMWARE = TOP / "c" / "examples" / "mcu"
-
-DICTIONARY_OF_FIRMWARE = (TOP / "examples" / "call-within-window.toml").read_text(encoding="ascii")
-
-
-def captures_for_firmware() -> Iterator[Tuple[str, bytes]]:
-    """The examples of one line, and random bits between good frames, packed."""
-    examples = TOP / "examples"
-    for name in ("missing-and-spoilt", "damage-abort-idle", "in-time-late-missing", "one-call"):
-        yield name, packed(plain((examples / f"{name}.bits").read_text(encoding="ascii")))
-    generator = random.Random(5)
-    pieces = [plain(CALL), plain(REPLY), plain(CALL), "1" * 20, random_bits(generator, 60)]
-    yield "random", packed("".join(generator.choice(pieces) for _ in range(300)))
-
-
-def firmware_lists(folder: Path) -> List[str]:
-    """The tap of c/examples/mcu, on an emulated Cortex-M3, writes what `port1 list` does, the names aside."""
-    needs("arm-none-eabi-gcc", "qemu-system-arm")
-    target = "thumbv7m-none-eabi"
-    subprocess.run([BUILD, folder, target], check=True, stdout=subprocess.DEVNULL, stderr=subprocess.DEVNULL)
-    shutil.copytree(FIRMWARE, folder / "mcu")
-    words = ["make", "-s", "-C", folder / "mcu", f"LIBRARY={folder / target / 'libport1_c.a'}"]
-    words.append(f"INCLUDE={TOP / 'c' / 'include'}")
-    written_by([*words, "listing.elf"])
-    problems = []
-    for name, capture in captures_for_firmware():
-        lines = listed(capture, ["--dict", DICTIONARY_OF_FIRMWARE]).stdout.decode()
-        wanted = re.sub(r" (call|reply|notice)$", "", lines, flags=re.MULTILINE)
-        # The emulator ends with its input, also while the firmware still has some.
-        with subprocess.Popen([*words, "run"], stdin=subprocess.PIPE, stdout=subprocess.PIPE) as run:
-            assert run.stdin is not None and run.stdout is not None
-            run.stdin.write(capture)
-            run.stdin.flush()
-            got = run.stdout.read().decode()
-        problems += [] if got == wanted else [f"{name}: wanted {wanted[-200:]!r}, got {got[-200:]!r}"]
-    return problems
-
-
-TESTS: List[Test] = [help_is_told, installed_alone, without_a_toolchain, apart_from_this_machine, firmware_lists]
+TESTS: List[Test] = [help_is_told, installed_alone, without_a_toolchain, apart_from_this_machine]

@@ -4,47 +4,46 @@ struct uart {
     volatile uint32_t data, state, control, interrupt, divider;
 };
 
-#define UART0 ((struct uart *)0x40004000u)
+#define UART(number) ((struct uart *)(0x40004000u + 4096u * (number)))
 #define INTERRUPTS_ON (*(volatile uint32_t *)0xE000E100u)
 
 enum { SEND_FULL = 1, RECEIVE_FULL = 2, SEND_ON = 1, RECEIVE_ON = 2, RECEIVE_INTERRUPT = 8, RECEIVED = 2 };
 
-/* What the interrupt writes and the main loop reads. Each index has one writer, so no interrupt need be off. */
-#define ROOM 8192u
-static volatile uint8_t ring[ROOM];
-static volatile uint32_t written, read, lost;
-
-void uart0_receives(void) {
-    while (UART0->state & RECEIVE_FULL) {
-        uint8_t octet = (uint8_t)UART0->data;
-        UART0->interrupt = RECEIVED;
-        if (written - read == ROOM)
-            lost++;
-        else
-            ring[written++ % ROOM] = octet;
+static void receive(unsigned number) {
+    struct uart *const uart = UART(number);
+    while (uart->state & RECEIVE_FULL) {
+        const uint8_t octet = (uint8_t)uart->data;
+        uart->interrupt = RECEIVED;
+        received(1u << number, octet);
     }
 }
 
-void board_begin(void) {
-    UART0->divider = 16;
-    UART0->control = SEND_ON | RECEIVE_ON | RECEIVE_INTERRUPT;
-    INTERRUPTS_ON = 1u; /* interrupt 0: UART0 receives */
+static void uart0_receives(void) { receive(0); }
+static void uart1_receives(void) { receive(1); }
+static void uart2_receives(void) { receive(2); }
+
+void board_begin(unsigned uarts) {
+    for (unsigned number = 0; number < 3; number++) {
+        struct uart *const uart = UART(number);
+        const uint32_t receives = uarts >> number & 1;
+        uart->divider = 16;
+        uart->control = SEND_ON | (receives ? RECEIVE_ON | RECEIVE_INTERRUPT : 0);
+        INTERRUPTS_ON = receives << 2 * number; /* a UART receives by interrupt 0, 2 or 4 */
+    }
 }
 
-uint8_t board_octet(void) {
-    while (written == read)
-        __asm volatile("wfi");
-    uint8_t octet = ring[read % ROOM];
-    read++;
-    return octet;
+/* While interrupts are off, one that is due still ends wfi: none comes unseen between the look and the wait. */
+void board_wait(const volatile uint32_t *written, uint32_t taken) {
+    __asm volatile("cpsid i" ::: "memory");
+    while (*written == taken)
+        __asm volatile("wfi\n cpsie i\n isb\n cpsid i" ::: "memory");
+    __asm volatile("cpsie i" ::: "memory");
 }
-
-uint32_t board_lost(void) { return lost; }
 
 void put_letter(char letter) {
-    while (UART0->state & SEND_FULL) {
+    while (UART(0)->state & SEND_FULL) {
     }
-    UART0->data = (uint8_t)letter;
+    UART(0)->data = (uint8_t)letter;
 }
 
 void put_text(const char *text) {
@@ -92,5 +91,6 @@ static void stop(void) {
 typedef void (*handler)(void);
 
 __attribute__((section(".vectors"), used)) static const handler vectors[48] = {
-    stack_top, board_reset, stop, stop, stop, stop, stop, 0, 0, 0, 0, stop, stop, 0, stop, stop, uart0_receives,
+    stack_top, board_reset, stop, stop, stop, stop, stop, 0, 0, 0, 0, stop, stop, 0, stop, stop,
+    [16] = uart0_receives, [18] = uart1_receives, [20] = uart2_receives,
 };

@@ -1,18 +1,20 @@
-/* A board with a Cortex-M3, as qemu-system-arm emulates it (mps2-an385): octets come in and text goes out by UART0. On
- * another board, this and board.c are what is to be written anew: SPI or a GPIO port with DMA fills the same ring. */
+/* A board with a Cortex-M3, as qemu-system-arm emulates it (mps2-an385): octets come in by UARTs and text goes out by
+ * UART0. On another board, this and board.c are what is to be written anew. */
 #ifndef BOARD_H
 #define BOARD_H
 
 #include <stdint.h>
 
-/* Turns the UART and its interrupt on. */
-void board_begin(void);
+enum { UART0 = 1, UART1 = 2, UART2 = 4 };
 
-/* The next octet that came in, in the order received; waits for it. */
-uint8_t board_octet(void);
+/* Turns UART0 on, and the receive interrupts of these UARTs, of which none interrupts another. */
+void board_begin(unsigned uarts);
 
-/* How many octets came while the ring was full, and were dropped. */
-uint32_t board_lost(void);
+/* What the firmware does with an octet that one of them received; its interrupt calls it. */
+void received(unsigned uart, uint8_t octet);
+
+/* Waits until there is an interrupt after `*written` was found to equal `taken`. */
+void board_wait(const volatile uint32_t *written, uint32_t taken);
 
 /* Text, and a number in decimal digits. */
 void put_letter(char letter);

@@ -2,6 +2,7 @@
  * each decided report is a line. It reads a packed capture (TS2BITS1), whose head says where the line ends. */
 #include "board.h"
 #include "port1.h"
+#include "ring.h"
 
 static struct port1_line line;
 static struct port1_pair pair;
@@ -95,22 +96,33 @@ static void put_ending(void) {
     }
 }
 
+/* How many octets came while the ring was full, and were dropped. */
+static volatile uint32_t lost;
+
+void received(unsigned uart, uint8_t octet) {
+    (void)uart;
+    if (ring_room())
+        ring_put(octet);
+    else
+        lost++;
+}
+
 /* The number of bits in the head of a packed capture. */
 static uint64_t bits_in_head(void) {
     uint64_t bits = 0;
     for (int at = 0; at < 8; at++)
-        (void)board_octet();
+        (void)ring_take();
     for (int at = 0; at < 8; at++)
-        bits |= (uint64_t)board_octet() << 8 * at;
+        bits |= (uint64_t)ring_take() << 8 * at;
     return bits;
 }
 
 int main(void) {
-    board_begin();
+    board_begin(UART0);
     if (port1_line_init(&line, LONGEST, 0) != PORT1_OK)
         return 1;
     for (uint64_t bits = bits_in_head(); bits;) {
-        const uint8_t octet = board_octet();
+        const uint8_t octet = ring_take();
         const uint64_t end = bits < 8 ? bits : 8;
         struct port1_report report = {0};
         uint64_t at = 0;
@@ -120,9 +132,9 @@ int main(void) {
         bits -= end;
     }
     put_ending();
-    if (board_lost()) {
+    if (lost) {
         put_text("lost ");
-        put_number(board_lost());
+        put_number(lost);
         put_letter('\n');
     }
     return 0;
