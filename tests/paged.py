@@ -115,7 +115,7 @@ def problems_of_modules(file: Path, is_long: bool) -> List[str]:
 
 PLACE = re.compile(r"^PORT1_(?:PLACE\((\w+), (\w+)|SIZE\((\w+)), (\d+)\);$", re.MULTILINE)
 
-LAYOUT = re.compile(r"^export const ([A-Z]+) = \{(.*?)\};$", re.MULTILINE | re.DOTALL)
+LAYOUT = re.compile(r"^export const ([A-Z_]+) = \{(.*?)\};$", re.MULTILINE | re.DOTALL)
 
 FIELD = re.compile(r"(\w+): (\d+)")
 

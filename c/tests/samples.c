@@ -84,6 +84,76 @@ static void tap_refusals(void) {
     }
 }
 
+/* Whether the numbers are within the bounds of a tap: AreTapWords in crates/bus_tap/specs/Words.antt. */
+static int is_within(const struct port1_line_facts *facts, uint64_t samples) {
+    return facts->clock_changes.count <= samples && facts->data_changes.count <= samples
+        && facts->data_changes_high.count <= samples && facts->bits.count <= samples && facts->bits.last <= samples
+        && facts->jumps.count <= samples;
+}
+
+static int is_tap(void) {
+    return tap.samples <= LIMIT && is_within(&tap.first, tap.samples) && is_within(&tap.second, tap.samples)
+        && tap.first_clock.others <= tap.hold && tap.first_data.others <= tap.hold
+        && tap.second_clock.others <= tap.hold && tap.second_data.others <= tap.hold;
+}
+
+static uint64_t draw(void) {
+    static uint64_t state = 88172645463325252u;
+    state ^= state << 13;
+    state ^= state >> 7;
+    state ^= state << 17;
+    return state;
+}
+
+/* Any octets, in three of four with numbers that a tap may have, but for one of them in one of these. */
+static void fill_tap(void) {
+    uint64_t way = draw() % 4;
+    for (size_t k = 0; k < sizeof tap; k++)
+        ((uint8_t *)&tap)[k] = (uint8_t)draw();
+    if (way == 3)
+        return;
+    tap.samples = draw() % 3 ? LIMIT - draw() % 20 : LIMIT;
+    for (size_t k = 0; k < 18; k++) {
+        ((uint64_t *)&tap.first)[k] %= LIMIT - 30;
+        ((uint64_t *)&tap.second)[k] %= LIMIT - 30;
+    }
+    for (size_t k = 0; k < 4; k++)
+        (&tap.first_clock)[k].others %= tap.hold;
+    if (way == 2)
+        ((uint64_t *)&tap)[draw() % 43] = draw();
+}
+
+/* Just the states within the bounds are taken, and stay within them; else nothing changes. */
+static void any_state(void) {
+    unsigned long taken = 0, limited = 0, refused = 0;
+    for (unsigned k = 0; k < 20000; k++) {
+        uint64_t at = 0, arrived = 9;
+        struct port1_tap before;
+        fill_tap();
+        before = tap;
+        switch (port1_tap_feed(&tap, octets, sizeof octets, 1, &at, arrivals, 4, &arrived)) {
+        case PORT1_OK:
+            taken++;
+            WANT(is_tap() && tap.samples == before.samples + at && arrived <= 4 && (at == 9 || arrived > 2));
+            for (uint64_t i = 0; i < arrived; i++)
+                WANT((arrivals[i].line == 1 || arrivals[i].line == 2) && arrivals[i].bit <= 1);
+            continue;
+        case PORT1_PLACE_LIMIT:
+            limited++;
+            WANT(is_tap() && tap.samples > LIMIT - 9);
+            break;
+        case PORT1_BAD_STATE:
+            refused++;
+            WANT(!is_tap());
+            break;
+        default:
+            WANT(0);
+        }
+        WANT(memcmp(&tap, &before, sizeof tap) == 0 && at == 0 && arrived == 9);
+    }
+    WANT(taken > 1000 && limited > 1000 && refused > 1000);
+}
+
 /* The second line comes to rest once, with the third bit of the first line after its own. */
 static void rest_of_a_line(void) {
     static const struct {
@@ -113,6 +183,7 @@ int main(void) {
     tap_facts();
     tap_runs();
     tap_refusals();
+    any_state();
     rest_of_a_line();
     return wrong;
 }

@@ -16,6 +16,31 @@ export const SEEN = {
   commandType: 32,
 };
 
+export const WIRE = { size: 4, used: 0, number: 1, inverted: 2 };
+export const WIRES = { size: 16, firstClock: 0, firstData: 4, secondClock: 8, secondData: 12 };
+export const ARRIVAL = { size: 2, line: 0, bit: 1 };
+export const OCCURRENCES = { size: 24, count: 0, first: 8, last: 16 };
+export const GAP = { size: 16, length: 0, from: 8 };
+export const LINE_FACTS = {
+  size: 144,
+  clockChanges: 0,
+  dataChanges: 24,
+  dataChangesHigh: 48,
+  bits: 72,
+  gap: 96,
+  jumps: 120,
+};
+export const TAP = {
+  size: 360,
+  samples: 0,
+  first: 16,
+  second: 160,
+  firstClock: 304,
+  firstData: 312,
+  secondClock: 320,
+  secondData: 328,
+};
+
 /** How many types there are. */
 export const TYPES = 256;
 

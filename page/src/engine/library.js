@@ -13,6 +13,11 @@ const PAGE = 65536;
  * @property {(pair: bigint) => number} port1_pair_init
  * @property {(pair: bigint, entries: bigint, entryCount: bigint, line: number, report: bigint, octets: bigint,
  *   count: bigint, seen: bigint) => number} port1_pair_take
+ * @property {(tap: bigint, wires: bigint, hold: number, jump: bigint) => number} port1_tap_init
+ * @property {(tap: bigint, sample: bigint, count: bigint, arrivals: bigint, room: bigint,
+ *   arrived: bigint) => number} port1_tap_push
+ * @property {(tap: bigint, octets: bigint, count: bigint, width: number, at: bigint, arrivals: bigint, room: bigint,
+ *   arrived: bigint) => number} port1_tap_feed
  */
 
 /** The C library, compiled for WebAssembly with 64-bit memory. Pointers and numbers of octets are BigInts. */

@@ -3,12 +3,12 @@ import { KeptBits } from "../engine/bits.js";
 import { PackedReader, Packer, TextReader } from "../engine/capture.js";
 import { ClockedDecoder, Decoder } from "../engine/decoder.js";
 import { libraryOf } from "../engine/library.js";
+import { Sampler } from "../engine/sampler.js";
 import { Fault } from "../../../scripts/modules/fault.js";
 import { ListingReader } from "../../../scripts/modules/listing/read.js";
 import { doubtsOf, edgesOf } from "../../../scripts/modules/recording/doubts.js";
 import { Moments } from "../../../scripts/modules/recording/moments.js";
 import { recordingOf } from "../../../scripts/modules/recording/recording.js";
-import { Sampler } from "../../../scripts/modules/recording/sampler.js";
 import { samplingOf } from "../../../scripts/modules/recording/sampling.js";
 import { sessionOf } from "../../../scripts/modules/recording/session.js";
 import { inWholeLines, piecesOf } from "./pieces.js";
@@ -119,10 +119,11 @@ async function readOnce(job, heard) {
   if (job.form === "listing") return readListing(job, heard);
   if (!job.engine) throw new Fault("this browser cannot decode captures: it lacks 64-bit memory for WebAssembly");
   const kind = kindOf(job);
-  const { bits, decoder, sink } = roadOf(kind, await libraryOf(job.engine), job.entries);
+  const library = await libraryOf(job.engine);
+  const { bits, decoder, sink } = roadOf(kind, library, job.entries);
   const told = { notes: /** @type {string[]} */ ([]), warnings: /** @type {Warning[]} */ ([]) };
   try {
-    if (isRecording(job)) await takeRecording(/** @type {RecordingSource} */ (job), sink, told, heard);
+    if (isRecording(job)) await takeRecording(/** @type {RecordingSource} */ (job), library, sink, told, heard);
     else await takeCapture(job, kind, sink, heard);
   } catch (fault) {
     if (!(fault instanceof Fault)) throw fault;
@@ -168,11 +169,13 @@ const [CLOCKS, FIRST, SECOND] = [0b0101, 0b0010, 0b1000];
 /**
  * Takes the bits of a recording; those before a fault are taken, too.
  * @param {RecordingSource} source
+ * @param {import("../engine/library.js").Library} library
  * @param {Sink} sink
  * @param {Pick<Read, "notes"|"warnings">} told
  * @param {Heard} heard
  */
-async function takeRecording({ file, form, channels, rising, inverted = 0 }, sink, { notes, warnings }, heard) {
+async function takeRecording(source, library, sink, { notes, warnings }, heard) {
+  const { file, form, channels, rising, inverted = 0 } = source;
   const samples = form === "session" ? await sessionOf(file) : undefined;
   const pieces = samples ? samples.pieces(heard) : piecesOf(file, heard);
   const recording = await recordingOf(pieces, { form, channels, samples });
@@ -180,7 +183,7 @@ async function takeRecording({ file, form, channels, rising, inverted = 0 }, sin
   /** @type {(line: number, bit: number) => void} */
   const arrive =
     channels.length === 2 ? (_, bit) => sink.add(bit) : (line, bit) => /** @type {Arrivals} */ (sink).push(line, bit);
-  const sampler = new Sampler(recording, samplingOf(recording), turned, arrive);
+  const sampler = new Sampler(library, recording, samplingOf(recording), turned, arrive);
   try {
     for await (const piece of recording.pieces) sampler.take(piece);
   } finally {

@@ -1,0 +1,142 @@
+import { ARRIVAL, GAP, LINE_FACTS, OCCURRENCES, TAP, WIRE, WIRES } from "./layout.js";
+
+/** @typedef {import("../../../scripts/modules/recording/doubts.js").Facts} Facts */
+/** @typedef {import("../../../scripts/modules/recording/doubts.js").Seen} Seen */
+/** @typedef {import("./library.js").Library} Library */
+
+/** How many octets of samples, and how many arrivals, a call has room for. */
+const OCTETS = 65536;
+const ROOM = 65536;
+
+/** A run of samples that are the same: so many octets, the levels in the lowest. */
+const RUN = 8;
+
+/** The wires, as a recording and the library have them in order. */
+const NAMES = /** @type {const} */ (["firstClock", "firstData", "secondClock", "secondData"]);
+
+/** Takes bits from samples by a tap of the library. */
+export class Sampler {
+  /**
+   * @param {Library} library
+   * @param {import("../../../scripts/modules/recording/recording.js").Recording} recording
+   * @param {{ hold: number, jump: number }} sampling
+   * @param {number} turned wires whose levels are exchanged: 1 for TXC, 2 TXD, 4 RXC, 8 RXD
+   * @param {(line: number, bit: number) => void} arrive
+   */
+  constructor(library, { hasRuns, width, wires }, { hold, jump }, turned, arrive) {
+    this.library = library;
+    this.hasRuns = hasRuns;
+    this.width = width;
+    this.arrive = arrive;
+    this.samples = library.allocate(OCTETS);
+    this.arrivals = library.allocate(ROOM * ARRIVAL.size);
+    this.at = library.allocate(8);
+    this.arrived = library.allocate(8);
+    this.tap = library.allocate(TAP.size);
+    this.pointers = [this.tap, this.samples, this.at, this.arrivals, this.arrived].map(BigInt);
+    const named = this.nameWires(wires, turned);
+    library.demand(library.calls.port1_tap_init(this.pointers[0], named, hold, BigInt(jump)), "port1_tap_init");
+  }
+
+  /**
+   * Writes the wires into memory.
+   * @param {number[]} wires
+   * @param {number} turned
+   */
+  nameWires(wires, turned) {
+    const { view } = this.library;
+    const at = this.library.allocate(WIRES.size);
+    for (const [wire, bit] of wires.entries()) {
+      const place = at + WIRES[NAMES[wire]];
+      view.setUint8(place + WIRE.used, 1);
+      view.setUint8(place + WIRE.number, bit);
+      view.setUint8(place + WIRE.inverted, (turned >> wire) & 1);
+    }
+    return BigInt(at);
+  }
+
+  /** @param {Uint8Array} piece whole samples, or whole runs */
+  take(piece) {
+    if (this.hasRuns) return this.takeRuns(piece);
+    const most = OCTETS - (OCTETS % this.width);
+    for (let from = 0; from < piece.length; from += most) this.takeSamples(piece.subarray(from, from + most));
+  }
+
+  /** @param {Uint8Array} octets that a call has room for */
+  takeSamples(octets) {
+    const { library, width } = this;
+    const [tap, samples, at, arrivals, arrived] = this.pointers;
+    const [count, room] = [BigInt(octets.length), BigInt(ROOM)];
+    library.octets.set(octets, this.samples);
+    library.view.setBigUint64(this.at, 0n, true);
+    while (library.number(this.at) < octets.length / width) {
+      const status = library.calls.port1_tap_feed(tap, samples, count, width, at, arrivals, room, arrived);
+      library.demand(status, "port1_tap_feed");
+      this.handOn();
+    }
+  }
+
+  /** @param {Uint8Array} piece */
+  takeRuns(piece) {
+    const { library } = this;
+    const [tap, , at, arrivals, arrived] = this.pointers;
+    const records = new DataView(piece.buffer, piece.byteOffset, piece.length);
+    for (let from = 0; from < piece.length; from += RUN) {
+      const record = records.getBigUint64(from, true);
+      library.view.setBigUint64(this.at, record >> 8n, true);
+      while (library.number(this.at) > 0) {
+        const status = library.calls.port1_tap_push(tap, record & 255n, at, arrivals, BigInt(ROOM), arrived);
+        library.demand(status, "port1_tap_push");
+        this.handOn();
+      }
+    }
+  }
+
+  /** Hands on the bits that arrived at a call. */
+  handOn() {
+    const { octets } = this.library;
+    const past = this.arrivals + ARRIVAL.size * this.library.number(this.arrived);
+    for (let at = this.arrivals; at < past; at += ARRIVAL.size) {
+      this.arrive(octets[at + ARRIVAL.line] - 1, octets[at + ARRIVAL.bit]);
+    }
+  }
+
+  /**
+   * Samples in which something happens.
+   * @param {number} at
+   * @returns {Seen}
+   */
+  seen(at) {
+    const number = (/** @type {"count"|"first"|"last"} */ field) => this.library.number(at + OCCURRENCES[field]);
+    return { count: number("count"), first: number("first"), last: number("last") };
+  }
+
+  /** @returns {Facts} */
+  get facts() {
+    const { library, tap } = this;
+    const [first, second] = [tap + TAP.first, tap + TAP.second];
+    /** @param {number} facts @param {"clockChanges"|"dataChanges"} field @param {typeof NAMES[number]} wire */
+    const wire = (facts, field, wire) => ({
+      level: library.view.getUint32(tap + TAP[wire], true),
+      changes: this.seen(facts + LINE_FACTS[field]),
+    });
+    const lines = [first, second].map((facts) => {
+      const gap = facts + LINE_FACTS.gap;
+      const bits = this.seen(facts + LINE_FACTS.bits);
+      const high = this.seen(facts + LINE_FACTS.dataChangesHigh);
+      const [length, place] = [library.number(gap + GAP.length), library.number(gap + GAP.from)];
+      return { bits, gap: { length, place }, high };
+    });
+    return {
+      samples: library.number(tap + TAP.samples),
+      wires: {
+        txc: wire(first, "clockChanges", "firstClock"),
+        txd: wire(first, "dataChanges", "firstData"),
+        rxc: wire(second, "clockChanges", "secondClock"),
+        rxd: wire(second, "dataChanges", "secondData"),
+      },
+      lines,
+      jumps: this.seen(first + LINE_FACTS.jumps),
+    };
+  }
+}
