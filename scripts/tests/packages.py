@@ -11,6 +11,7 @@ from pathlib import Path
 from typing import Dict, Iterator, List, NamedTuple, Optional, Sequence, Tuple
 
 from needs import Skipped, needs
+from table.samples import ROWS
 from table.vectors import VECTORS
 from tests.case import CALL, ONE_CALL, REPLY, SECONDS, TOP
 from tests.case import Run, Test, Word, listed, packed, plain, random_bits, written_by
@@ -573,6 +574,27 @@ def taps_in_python(folder: Path) -> List[str]:
     return problems
 
 
+# Samples of examples/vectors as JSON, and the bits of each on a line.
+SAMPLED = """
+import json, sys
+from port1.taps import Tap, Wire
+for row in json.load(sys.stdin):
+    inverted = ["txc", "txd", "rxc", "rxd"]
+    wires = [Wire(number, name in row["turned"]) for number, name in zip(row["wires"], inverted)]
+    tap = Tap(tuple(wires[:2]), tuple(wires[2:]) or None, hold=row["hold"])
+    arrivals = tap.feed(bytes(int(digit, 16) for digit in row["samples"]))
+    print("".join("01oi"[2 * line - 2 + bit] for line, bit in arrivals))
+"""
+
+
+def samples_in_python(folder: Path) -> List[str]:
+    """It takes the bits of the samples that the tests of all languages read."""
+    text = json.dumps(ROWS).encode()
+    got = python(SAMPLED, [], text, moved(folder) / "lib" / "python").decode().splitlines()
+    problems = unlike("rows", len(ROWS), len(got))
+    return problems + [part for row, bits in zip(ROWS, got) for part in unlike(str(row["name"]), row["bits"], bits)]
+
+
 def refusals_in_python(folder: Path) -> List[str]:
     """What is raised, and that nothing is lost by it."""
     got = python(REFUSED, [], b"", moved(folder) / "lib" / "python").decode()
@@ -663,6 +685,7 @@ TESTS: List[Test] = [
     vectors_in_python,
     encoder_in_python,
     taps_in_python,
+    samples_in_python,
     refusals_in_python,
     code_of_the_document,
     places_of_the_library,

@@ -39,7 +39,8 @@ module _ (o : SampleOptions) (old new : TapState) (ss : List ℕ) (n s l : ℕ) 
 -- and the text that was put
 pub taken-more : (start before now : Option (List ℕ)) (run new : SampleRun) (ss : List ℕ) (n s l : ℕ) (e : Edges) →
     run.tap.hold ≡ run.options.hold → l ≡ channels run.options.wires s →
-    AdvancesTap run.tap (replicate n l) (bits_of_edges e) new.tap → HasTaken start before run ss → new.options ≡ run.options →
+    AdvancesTap run.tap (replicate n l) (bits_of_edges e) new.tap → HasTaken start before run ss →
+    new.options ≡ run.options →
     HasMarked start now new.marks (arrivals run.options ss ++ bits_of_edges e) →
     HasTaken start now new (ss ++ replicate n s)
 taken-more start before now run new ss n s l e hold is advances taken same marked =

@@ -61,7 +61,8 @@ pub(crate) fn take_run(
     requires fits { tap.old.samples + count ≤ most_places }
     ensures left { result ≤ count }
     ensures all { 0 < result → length arrivals.old < arrived.new + 2 }
-    ensures taken { HasTapped tap.old arrivals.old (replicate (count - result) levels) tap.new arrivals.new arrived.new }
+    ensures taken { HasTapped tap.old arrivals.old (replicate (count - result) levels) tap.new arrivals.new
+        arrived.new }
 {
     let mut left = count;
     while left > 0 && arrivals.len() - *arrived >= 2 {
