@@ -39,10 +39,10 @@ test("bits are shown from their first place, or else the listing, whose places a
     incidentsAmong(folder("a", TOLD.wall)),
     incidentsAmong(folder("a", TOLD.wall).slice(0, 1)),
   ]);
-  const { file, first, begin } = shownOf(whole, true);
-  assert.deepEqual([file.name, first, begin], ["bits.ts2", 307200, { text: KNOWN.begin, late: 2 }]);
+  const bits = shownOf(whole, true);
+  assert.deepEqual([bits?.file.name, bits?.first, bits?.begin], ["bits.ts2", 307200, { text: KNOWN.begin, late: 2 }]);
   const listed = shownOf(whole, false);
-  assert.deepEqual([listed.file.name, listed.first, listed.begin.late], ["listing.txt", 0, 0]);
+  assert.deepEqual([listed?.file.name, listed?.first, listed?.begin.late], ["listing.txt", 0, 0]);
   assert.equal(shownOf(bare, true), null);
 });
 

@@ -1,6 +1,7 @@
 -- Samples that are taken, and bits that are put.
 use Rattle.std.proofs.Common.{◌≡◌, ℕ, suc, ◌+◌, ◌-◌, ◌*◌, ◌<◌, ◌≤◌, List, [], ◌∷◌, ◌++◌, length, map, drop}
-use Rattle.std.proofs.Common.{refl, sym, ap, ◌∙◌, arith, take, get_or, slice_set, slice_range, append_assoc, length-append}
+use Rattle.std.proofs.Common.{refl, sym, ap, ◌∙◌, arith, take, get_or, slice_set, slice_range}
+use Rattle.std.proofs.Common.{append_assoc, length-append}
 use Rattle.std.proofs.lemmas.List.{map-append, length-map}
 use Rattle.std.proofs.Math.Seq.{drop-cons, set-append_seam}
 use Rattle.bus_pairing.specs.declared.line.Line.TheVariants.{First, Second}

@@ -38,8 +38,11 @@ class Wires {
 
 /** What is told of parts, a quarter of a second or less at a time, each with the second after which it is. */
 function eventsOf(parts, rising = true) {
-  const [wires, events, told] = [new Wires(), new Events(NAMES, rising), []];
-  const sampler = new Sampler({ hasRuns: true, width: 8, wires: [0, 1, 2, 3] }, { hold: 0, jump: 3 }, rising ? 0 : 5, () => {});
+  const [wires, events] = [new Wires(), new Events(NAMES, rising)];
+  /** @type {string[]} */
+  const told = [];
+  const recording = /** @type {any} */ ({ hasRuns: true, width: 8, wires: [0, 1, 2, 3] });
+  const sampler = new Sampler(recording, { hold: 0, jump: 3 }, rising ? 0 : 5, () => {});
   const look = () => {
     sampler.take(wires.take());
     const texts = events.look(sampler.facts, new Moments(TICKS));

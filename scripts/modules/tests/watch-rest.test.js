@@ -21,6 +21,7 @@ const [ROUND, SECONDS] = [6144, 40];
 /** When station 2 is silent, and when station 1 is not asked, in seconds. */
 const [SILENT, UNASKED] = [[4, 5], [24, 25]];
 
+/** @param {number[]} seconds @param {number} place */
 const within = ([begin, past], place) => begin * RATE <= place && place < past * RATE;
 
 /** The lines of a talk. */
@@ -93,7 +94,7 @@ async function incidentsOf(folder, count, each) {
   writeFileSync(join(folder, "listing"), LINES.map((line) => `${line}\n`).join(""));
   writeFileSync(program, `#!/bin/sh\ncat > /dev/null; cat ${join(folder, "listing")}\n`);
   chmodSync(program, 0o755);
-  const asked = { program, form: PAIRS, dictionary: "", limits, gaps: new Map() };
+  const asked = /** @type {any} */ ({ program, form: PAIRS, dictionary: "", limits, gaps: new Map() });
   const { incidents } = await judgedRest(old, ring, asked, journal);
   const told = journal.told().filter(({ event }) => event === "incident");
   const begun = journal.told().filter(({ event }) => event === "begun");
@@ -108,7 +109,7 @@ for (const each of [1, 7, 100000]) {
       const folder = mkdtempSync(join(tmpdir(), "port1-"));
       try {
         const { all, begun, ended } = await incidentsOf(folder, count, each);
-        const found = all.map(({ causes, first }) => [Object.keys(causes).join(), first]);
+        const found = all.map(({ causes, first }) => [Object.keys(/** @type {object} */ (causes)).join(), first]);
         assert.deepEqual(found, WANTED, `killed after ${count} lines`);
         assert.deepEqual(ended, ENDED, `killed after ${count} lines`);
         assert.deepEqual(begun.map(({ id }) => id), all.map(({ id }) => id), `killed after ${count} lines`);
