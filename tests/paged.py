@@ -13,6 +13,7 @@ from contextlib import contextmanager
 from functools import lru_cache, partial
 from pathlib import Path
 from typing import Any, Callable, Dict, Iterator, List, NamedTuple, Optional, Sequence, Tuple, Union
+from zipfile import ZIP_DEFLATED, ZipFile
 
 TOP = Path(__file__).resolve().parent.parent
 
@@ -20,7 +21,7 @@ sys.path.append(str(TOP / "c" / "tests"))
 
 import browser
 from built import newest_of, sources_of
-from library import Bench, captures, octets_of, talk, traffic
+from library import TAPPED, Bench, captures, octets_of, simulated, talk, traffic
 from needs import NODE_MODULES, Skipped, needs, needs_file, needs_module
 from table.vectors import VECTORS
 
@@ -340,23 +341,42 @@ RECORDINGS = [
 ]
 
 
-def problems_of_recording(page: Path, name: str, channels: Sequence[str]) -> List[str]:
-    """Whether the listing of a recording is that of the script's capture."""
+def problems_of_recording(page: Path, file: Path, channels: Sequence[str], words: Sequence[str] = ()) -> List[str]:
+    """Whether the listing of a recording is that of the script's capture, by words of the script."""
     bench()
-    file = TOP / "examples" / name
     taken = subprocess.run(
-        [str(TOP / "scripts" / "recording-to-bits"), *channels], stdin=file.open(), capture_output=True
+        [str(TOP / "scripts" / "recording-to-bits"), *words, *channels], stdin=file.open(), capture_output=True
     )
     if taken.returncode != 0:
         return [taken.stderr.decode().strip()]
     kind = 1 if len(channels) == 2 else "arrivals"
-    wanted, fault = program_lists(text_job(name, taken.stdout.decode(), kind, NAMES))
-    job = {"file": str(file), "channels": list(channels), "rising": True, "dictionary": NAMES}
+    wanted, fault = program_lists(text_job(file.name, taken.stdout.decode(), kind, NAMES))
+    edges = {"rising": "--falling" not in words, "inverted": 2 if f"--invert={channels[-1]}" in words else 0}
+    job = {"file": str(file), "channels": list(channels), **edges, "dictionary": NAMES}
     got = listed(page, [job])[0]
     told = [line.partition(": ")[2] for line in taken.stderr.decode().splitlines()]
     problems = [] if got["text"] == wanted else [f"wanted {wanted[:300]!r}, got {got['text'][:300]!r}"]
     problems += [] if got["fault"] == fault else [f"wanted {fault}, got {got['fault']}"]
     return problems + ([] if got["notes"] == told else [f"wanted the notes {told}, got {got['notes']}"])
+
+
+def problems_of_session(page: Path) -> List[str]:
+    """The same of samples as PulseView saves them, of two octets each."""
+    generator = random.Random(4)
+    lines = [talk(bench(), generator) for _ in TAPPED]
+    samples = b"".join(bytes([0x5A, sample]) for sample in simulated(generator, lines)[0])
+    probes = "".join(f"probe{at + 1}=w{at}\n" for at in range(16))
+    metadata = f"[device 1]\ncapturefile=logic-1\ntotal probes=16\nsamplerate=1 MHz\nunitsize=2\n{probes}"
+    channels = [f"w{8 + wire}" for line in TAPPED for wire in line]
+    problems = []
+    with tempfile.TemporaryDirectory(prefix="port1-") as folder:
+        file = Path(folder, "session.sr")
+        with ZipFile(file, "w", ZIP_DEFLATED) as archive:
+            for name, content in [("version", "2"), ("metadata", metadata), ("logic-1-1", samples)]:
+                archive.writestr(name, content)
+        for words in [[], ["--falling", f"--invert={channels[-1]}"]]:
+            problems += problems_of_recording(page, file, channels, words)
+    return problems
 
 
 # ---- in browsers
@@ -693,7 +713,8 @@ def tests_of(page: Path, is_long: bool) -> Iterator[Test]:
     yield Test("listings: traffic", partial(problems_of_jobs, page, traffic_jobs))
     yield Test("listings: broken captures", partial(problems_of_jobs, page, broken_jobs))
     for name, channels in RECORDINGS:
-        yield Test(f"listings: {name}", partial(problems_of_recording, page, name, channels))
+        yield Test(f"listings: {name}", partial(problems_of_recording, page, TOP / "examples" / name, channels))
+    yield Test("listings: a session", partial(problems_of_session, page))
     yield Test("one file that fetches nothing", partial(problems_of_size, page))
     for name in browser.BROWSERS:
         for what, problems in [
