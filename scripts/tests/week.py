@@ -27,7 +27,7 @@ DAY = 86400
 SOURCE = """read turn < turn; echo $((turn + 1)) > turn
 set -- $(sed -n ${{turn}}p turns)
 [ $# -eq 2 ] || {{ kill -TERM $PPID; exit; }}
-node {simulator} 7 $1 $2 plan 0 arrivals 2>> told; exit 3
+node {simulator} 7 $1 $2 plan 0 {form} 2>> told; exit 3
 """
 
 
@@ -127,7 +127,8 @@ def turns_from(plan: Plan, begin: int, past: int) -> List[Tuple[int, int]]:
 
 
 class Week:
-    def __init__(self, folder: Path, plan: Plan, days: float, seconds: float) -> None:
+    def __init__(self, folder: Path, plan: Plan, days: float, seconds: float, form: str) -> None:
+        self.form = form
         self.folder, self.plan, self.past = folder, plan, int(DAY * days) * RATE
         self.until = time.monotonic() + seconds
         self.cabinet = Cabinet(folder, plan.faults)
@@ -143,7 +144,8 @@ class Week:
         (self.folder / "told").write_text("")
         date = time.strftime("%Y-%m-%dT%H:%M:%SZ", time.gmtime(BEGIN + begin / RATE))
         words = [SCRIPTS / "bus-watch", "watch", "--dictionary", DICTIONARY, "--begin", date, "--ring", "256M"]
-        words += ["--keep", "200M", "--floor", "16M", "--source", SOURCE.format(simulator=SIMULATOR)]
+        words += ["--keep", "200M", "--floor", "16M", "--source", SOURCE.format(simulator=SIMULATOR, form=self.form)]
+        words += ["--two"] if self.form == "pairs" else []
         with (self.folder / "said").open("ab") as said:
             watch = subprocess.Popen(words, cwd=self.folder, stdin=subprocess.DEVNULL, stdout=subprocess.DEVNULL, stderr=said)
         gauge = Gauge(watch, self.folder / "watch")
@@ -185,7 +187,7 @@ class Week:
 
 
 def problems_of_days(
-    folder: Path, days: float, kills: Sequence[float], full: Tuple[float, float], seconds: float = DAY
+    folder: Path, days: float, kills: Sequence[float], full: Tuple[float, float], seconds: float, form: str
 ) -> List[str]:
     """What is wrong with some days, or as many of them as fit into some seconds."""
     needs("node")
@@ -195,7 +197,7 @@ def problems_of_days(
     if mounted.returncode != 0:
         raise Skipped("no disk of 600 MB: it takes root to mount one")
     try:
-        week = Week(folder, plan_of(41, days, kills, full), days, seconds)
+        week = Week(folder, plan_of(41, days, kills, full), days, seconds, form)
         filler = threading.Thread(target=fill, args=(disk, week.plan), daemon=True)
         filler.start()
         began = time.monotonic()
@@ -211,7 +213,7 @@ def problems_of_days(
 
 def an_hour_of_all(folder: Path) -> List[str]:
     """A simulated hour with each of it."""
-    return problems_of_days(folder, 1 / 24, [3, 4], (5, 2))
+    return problems_of_days(folder, 1 / 24, [3, 4], (5, 2), DAY, "arrivals")
 
 
 TESTS = [an_hour_of_all]
@@ -221,7 +223,7 @@ def main(days: float, seconds: float) -> None:
     generator = random.Random(6)
     with tempfile.TemporaryDirectory(prefix="port1-") as folder:
         kills = [generator.uniform(0.4, 1.6) * seconds / 12 for _ in range(10)]
-        problems = problems_of_days(Path(folder), days, kills, (seconds / 4, 20), seconds)
+        problems = problems_of_days(Path(folder), days, kills, (seconds / 4, 20), seconds, "pairs")
     print("\n".join([*problems, f"{len(problems)} problems"]))
 
 

@@ -153,7 +153,7 @@ function copy(at, past) {
 function copyFaulty(base, at, past) {
   for (; at < past; at++) {
     if (faultAt(base + at, "lose")) continue;
-    if (form !== "pairs" && clock[at] && faultAt(base + at, "still")) clock[at] = 0;
+    if (faultAt(base + at, "still")) [clock[at], second[at]] = [0, ONE];
     copy(at, at + 1);
   }
 }
