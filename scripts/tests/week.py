@@ -1,9 +1,14 @@
-"""A simulated week of bus-watch: faults of every kind, lost input, clocks that stop, recorders that die, kills, a full disk."""
+"""Simulated days of bus-watch: faults of every kind, lost input, clocks that stop, recorders that die, kills, a full disk.
+
+    PYTHONPATH=scripts:scripts/port1_scripts python3 -m tests.week DAYS [SECONDS]
+
+runs some days, as long as the seconds last, and writes the figures. It takes root, which mounts a disk of 600 MB.
+"""
 
 import json
-import os
 import random
 import subprocess
+import sys
 import tempfile
 import threading
 import time
@@ -22,7 +27,7 @@ DAY = 86400
 SOURCE = """read turn < turn; echo $((turn + 1)) > turn
 set -- $(sed -n ${{turn}}p turns)
 [ $# -eq 2 ] || {{ kill -TERM $PPID; exit; }}
-node {simulator} 7 $1 $2 plan 0 arrivals 2>> told; exit 3
+node {simulator} 7 $1 $2 plan 0 {form} 2>> told; exit 3
 """
 
 
@@ -72,7 +77,7 @@ class Gauge(threading.Thread):
             for name in (str(self.watch.pid), *children(self.watch.pid)):
                 status = read(Path(f"/proc/{name}/status"))
                 if "VmHWM:" in status:
-                    what = status.split()[1]
+                    what = "watch" if name == str(self.watch.pid) else status.split()[1]
                     self.note(what, int(status.split("VmHWM:")[1].split()[0]))
             self.note("disk", sum(size_of(path) for path in self.folder.rglob("*")))
             time.sleep(1)
@@ -122,9 +127,10 @@ def turns_from(plan: Plan, begin: int, past: int) -> List[Tuple[int, int]]:
 
 
 class Week:
-    def __init__(self, folder: Path, plan: Plan, days: float) -> None:
+    def __init__(self, folder: Path, plan: Plan, days: float, seconds: float, form: str) -> None:
+        self.form = form
         self.folder, self.plan, self.past = folder, plan, int(DAY * days) * RATE
-        self.until = time.monotonic() + float(os.environ.get("SECONDS_OF_WEEK", 10 * DAY))
+        self.until = time.monotonic() + seconds
         self.cabinet = Cabinet(folder, plan.faults)
         self.runs: List[Watched] = []
         self.most: Dict[str, int] = {}
@@ -138,7 +144,8 @@ class Week:
         (self.folder / "told").write_text("")
         date = time.strftime("%Y-%m-%dT%H:%M:%SZ", time.gmtime(BEGIN + begin / RATE))
         words = [SCRIPTS / "bus-watch", "watch", "--dictionary", DICTIONARY, "--begin", date, "--ring", "256M"]
-        words += ["--keep", "200M", "--floor", "16M", "--source", SOURCE.format(simulator=SIMULATOR)]
+        words += ["--keep", "200M", "--floor", "16M", "--source", SOURCE.format(simulator=SIMULATOR, form=self.form)]
+        words += ["--two"] if self.form == "pairs" else []
         with (self.folder / "said").open("ab") as said:
             watch = subprocess.Popen(words, cwd=self.folder, stdin=subprocess.DEVNULL, stdout=subprocess.DEVNULL, stderr=said)
         gauge = Gauge(watch, self.folder / "watch")
@@ -179,21 +186,24 @@ class Week:
         return f"{len(known)} faults to be found; {counts}; {unsaved} not saved, {cut} cut; most {self.most}"
 
 
-def problems_of_days(folder: Path, days: float, kills: Sequence[float], full: Tuple[float, float]) -> List[str]:
+def problems_of_days(
+    folder: Path, days: float, kills: Sequence[float], full: Tuple[float, float], seconds: float, form: str
+) -> List[str]:
+    """What is wrong with some days, or as many of them as fit into some seconds."""
     needs("node")
-    disk = folder / "disk"
+    disk = folder / "watch"
     disk.mkdir()
     mounted = subprocess.run(["mount", "-t", "tmpfs", "-o", "size=600m", "none", disk], capture_output=True)
     if mounted.returncode != 0:
         raise Skipped("no disk of 600 MB: it takes root to mount one")
     try:
-        week = Week(disk, plan_of(41, days, kills, full), days)
+        week = Week(folder, plan_of(41, days, kills, full), days, seconds, form)
         filler = threading.Thread(target=fill, args=(disk, week.plan), daemon=True)
         filler.start()
         began = time.monotonic()
         week.go()
         print(f"{week.past / RATE / DAY:.2f} days in {time.monotonic() - began:.0f} s: {week.figures()}", flush=True)
-        print(f"ran {[(run.status, len(run.turns)) for run in week.runs]}; said {(disk / 'said').read_text()}", flush=True)
+        print(f"ran {[(run.status, len(run.turns)) for run in week.runs]}; said {(folder / 'said').read_text()}", flush=True)
         problems = judged(week.cabinet, week.runs)
         # Old folders go; while the disk is full none can be saved.
         return [problem for problem in problems if not problem.endswith("is not there") and not problem.startswith("not saved")]
@@ -201,15 +211,21 @@ def problems_of_days(folder: Path, days: float, kills: Sequence[float], full: Tu
         subprocess.run(["umount", disk], check=True)
 
 
-def a_week(folder: Path) -> List[str]:
-    """A simulated week with a thousand faults and ten kill -9."""
-    generator = random.Random(6)
-    return problems_of_days(folder, 7, [generator.uniform(60, 240) for _ in range(10)], (400, 20))
-
-
 def an_hour_of_all(folder: Path) -> List[str]:
     """A simulated hour with each of it."""
-    return problems_of_days(folder, 1 / 24, [3, 4], (5, 2))
+    return problems_of_days(folder, 1 / 24, [3, 4], (5, 2), DAY, "arrivals")
 
 
-TESTS = [an_hour_of_all, a_week]
+TESTS = [an_hour_of_all]
+
+
+def main(days: float, seconds: float) -> None:
+    generator = random.Random(6)
+    with tempfile.TemporaryDirectory(prefix="port1-") as folder:
+        kills = [generator.uniform(0.4, 1.6) * seconds / 12 for _ in range(10)]
+        problems = problems_of_days(Path(folder), days, kills, (seconds / 4, 20), seconds, "pairs")
+    print("\n".join([*problems, f"{len(problems)} problems"]))
+
+
+if __name__ == "__main__":
+    main(float(sys.argv[1]), float((sys.argv[2:] or ["3600"])[0]))

@@ -43,16 +43,16 @@ function dictionaryOf(text, program) {
 }
 
 /**
- * Writes a line for whoever reads; that nobody does is no reason to end.
- * @param {string} text
+ * Writes a line for whoever reads; that nobody does, or that its disk is full, is no reason to end.
+ * @param {(text: string) => void} write
  */
-function tell(text) {
+const safely = (write) => (/** @type {string} */ text) => {
   try {
-    writeText(text);
+    write(text);
   } catch {
-    // the file has it
+    // of events the log has it
   }
-}
+};
 
 /** @param {string} text @returns {number} seconds since 1970 */
 const timeOf = (text) => new DayTime(text).begin / 1000;
@@ -116,7 +116,7 @@ class Duty {
     try {
       await this.watch.change(this.readDictionary());
     } catch (fault) {
-      warn(/** @type {Error} */ (fault).message);
+      safely(warn)(/** @type {Error} */ (fault).message);
     }
   }
 
@@ -169,7 +169,7 @@ run(async () => {
     ...{ folder, program, form: values.two ? PAIRS : ARRIVALS },
     ...{ limits: { before, after, longest, ring, keep, floor }, gaps: values.gap ?? new Map(), wall },
     dictionary: readDictionary(),
-    ...{ prometheus: values.prometheus, run: values.run, write: tell, warn },
+    ...{ prometheus: values.prometheus, run: values.run, write: safely(writeText), warn: safely(warn) },
   });
   await watch.begin();
   await new Duty(watch, values.source, readDictionary).go();

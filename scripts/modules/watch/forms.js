@@ -52,11 +52,21 @@ export class Packer {
 
   /** @param {Uint8Array} text @returns {Uint8Array} the octets that are full */
   take(text) {
-    const { table, steps } = this.form;
+    const { table, steps, widths } = this.form;
     const octets = new Uint8Array((text.length >> 2) + 1);
     let { held, shift, places, width } = this;
     let count = 0;
     for (let at = 0; at < text.length; at++) {
+      if (shift === 0 && at + 4 <= text.length) {
+        const [one, two, three, four] = [table[text[at]], table[text[at + 1]], table[text[at + 2]], table[text[at + 3]]];
+        if ((one | two | three | four) !== BLANK) {
+          const octet = one | (two << 2) | (three << 4) | (four << 6);
+          octets[count++] = octet;
+          places += widths[octet];
+          at += 3;
+          continue;
+        }
+      }
       const mark = table[text[at]];
       if (mark === BLANK) continue;
       held |= mark << shift;

@@ -27,7 +27,10 @@ function below(limit) {
   return ((mixed ^ (mixed >>> 14)) >>> 0) % limit;
 }
 
+/** The characters of the two lines, and where the second one has a clock. */
 const [first, second, clock] = [new Uint8Array(ROUND), new Uint8Array(ROUND), new Uint8Array(ROUND)];
+
+const [ZERO, ONE] = [48, 49];
 
 const COMMANDS = [
   { at: 40, station: 16, type: 0 },
@@ -64,7 +67,7 @@ function encoded(octets) {
 /** Puts a frame on a line, some of its bits wrong. @returns {number} where it ends */
 function put(line, at, octets, wrong) {
   const bits = encoded(octets);
-  for (let bit = 0; bit < bits.length; bit++) line[at + bit] = bits[bit];
+  for (let bit = 0; bit < bits.length; bit++) line[at + bit] = ZERO + bits[bit];
   for (let count = 0; count < wrong; count++) line[at + 8 + below(bits.length - 16)] ^= 1;
   return at + bits.length;
 }
@@ -79,13 +82,14 @@ function fateOf(place, { station }, isQuiet) {
   return { wrong, isSkipped, isSilent: isOwn(has("silent")) || alone === 1, isLate: isOwn(has("late")) || alone === 2 };
 }
 
-/** Makes a round: what the two lines have at its places, and where the second one has a clock. */
+/** Makes a round: what the two lines have at its places; whether some of these are lost, or a clock stands still. */
 function make(number) {
   const base = number * ROUND;
   state = Math.imul(seed * 7919 + number, 0x9e3779b1) | 0;
-  for (const line of [first, second]) line.fill(1);
+  for (const line of [first, second]) line.fill(ONE);
   clock.fill(0);
-  const isQuiet = !faults.some(({ begin, past }) => begin < base + ROUND && base < past);
+  const near = faults.filter(({ begin, past }) => begin < base + ROUND && base < past);
+  const isQuiet = near.length === 0;
   for (const command of COMMANDS) {
     const begin = command.at + below(6);
     const { wrong, isSkipped, isSilent, isLate } = fateOf(base + begin, command, isQuiet);
@@ -97,8 +101,8 @@ function make(number) {
     const end = put(second, answer, [command.station, 0x83, command.type + 128, below(256), below(256)], 0);
     clock.fill(1, answer - 16, end + 24);
   }
-  if (!isQuiet) disturb(base);
-  return isQuiet;
+  if (near.some(({ kind }) => kind === "burst" || kind === "rest")) disturb(base);
+  return near.some(({ kind }) => kind === "lose" || kind === "still");
 }
 
 /** Wrong bits, and a rest of both lines. */
@@ -107,7 +111,7 @@ function disturb(base) {
     const burst = faultAt(base + at, "burst");
     if (burst && below(100000) < burst.number * 100000) first[at] ^= 1;
     if (burst && below(100000) < burst.number * 100000) second[at] ^= 1;
-    if (faultAt(base + at, "rest")) first[at] = second[at] = 1;
+    if (faultAt(base + at, "rest")) first[at] = second[at] = ONE;
   }
 }
 
@@ -127,20 +131,42 @@ function flush() {
   held = 0;
 }
 
+/** Writes places of a round of which none is lost. */
+function copy(at, past) {
+  if (form === "pairs") {
+    for (; at < past; at++) room[held++] = first[at] + 2 * (second[at] - ZERO);
+    return;
+  }
+  while (at < past) {
+    const next = clock.indexOf(1, at);
+    const end = next < 0 || next > past ? past : next;
+    room.set(first.subarray(at, end), held);
+    held += end - at;
+    for (at = end; at < past && clock[at]; at++) {
+      room[held++] = first[at];
+      room[held++] = second[at] === ONE ? 105 : 111;
+    }
+  }
+}
+
+/** Writes places of which some are lost, and where the second clock may stand still. */
+function copyFaulty(base, at, past) {
+  for (; at < past; at++) {
+    if (faultAt(base + at, "lose")) continue;
+    if (faultAt(base + at, "still")) [clock[at], second[at]] = [0, ONE];
+    copy(at, at + 1);
+  }
+}
+
 const begun = performance.now() - (1000 * from) / (RATE * (Number(speed) || 1));
 
 for (let place = from; place < until; ) {
   const base = place - (place % ROUND);
-  const isQuiet = make(base / ROUND);
+  const isPartial = make(base / ROUND);
   const past = Math.min(until, base + ROUND);
-  for (; place < past; place++) {
-    const at = place - base;
-    if (!isQuiet && faultAt(place, "lose")) continue;
-    if (form === "pairs") room[held++] = 48 + first[at] + 2 * second[at];
-    else room[held++] = 48 + first[at];
-    if (form !== "pairs" && clock[at] && (isQuiet || !faultAt(place, "still"))) room[held++] = second[at] ? 105 : 111;
-  }
-  written = place;
+  if (isPartial) copyFaulty(base, place - base, past - base);
+  else copy(place - base, past - base);
+  written = place = past;
   while (faults.length > 0 && faults[0].past < place - 60 * RATE) faults.shift();
   if (held > 2 * ROUND * 32 || speed !== "0") flush();
   const early = speed === "0" ? 0 : begun + (1000 * place) / (RATE * Number(speed)) - performance.now();
