@@ -2,8 +2,8 @@
 
 use super::{Arrival, CALL, Turn, analyser, arrivals_in, push};
 use crate::expect::same;
-use bus_tap::RestRule;
 use bus_fcs::OctetCheck;
+use bus_tap::RestRule;
 use bus_watch::Line;
 use std::alloc::Global;
 use std::process::Abort;
