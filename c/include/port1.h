@@ -30,9 +30,9 @@
  * means nothing.
  *
  * The library has no writable data, asks for no memory and calls nothing but memcpy and memset, and on 32-bit
- * targets what the compiler's own library has for 64-bit numbers. As it shares nothing between calls, calls on
- * different objects may run at the same time, in threads and in interrupts. Calls that write the same object may not:
- * a line that an interrupt feeds is neither fed nor read elsewhere, unless that interrupt is off.
+ * targets memmove and what the compiler's own library has for 64-bit numbers. As it shares nothing between calls,
+ * calls on different objects may run at the same time, in threads and in interrupts. Calls that write the same object
+ * may not: a line that an interrupt feeds is neither fed nor read elsewhere, unless that interrupt is off.
  *
  * Numbers of octets and of bits are uint64_t on every target, so a 32-bit one passes them as 64-bit numbers.
  *

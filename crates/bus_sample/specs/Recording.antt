@@ -1,5 +1,5 @@
 -- Recordings: the samples that octets are.
-use Rattle.std.specs.Prelude.{ℕ, ◌-◌, ◌*◌, ◌/◌, ◌%◌, List, [], ◌∷◌, ◌++◌, length, map, take, drop, replicate}
+use Rattle.std.specs.Prelude.{ℕ, ◌*◌, ◌/◌, ◌%◌, List, [], ◌∷◌, length, map, drop, replicate}
 use Rattle.std.specs.List.{flat_map}
 use Rattle.bus_line.specs.Due.{places}
 use Rattle.bus_tap.specs.Arrival.{Arrival}

@@ -1,19 +1,20 @@
 -- Samples that are taken, and bits that are put.
-use Rattle.std.proofs.Common.{◌≡◌, ℕ, suc, ◌+◌, ◌-◌, ◌*◌, ◌<◌, ◌≤◌, List, [], ◌∷◌, ◌++◌, length, map, drop}
-use Rattle.std.proofs.Common.{refl, sym, ap, ◌∙◌, arith, take, get_or, slice_set, slice_range}
-use Rattle.std.proofs.Common.{append_assoc, length-append}
+use Rattle.std.proofs.Common.{◌≡◌, ℕ, zero, suc, ◌+◌, ◌-◌, ◌<◌, ◌≤◌, List, [], ◌∷◌, ◌++◌, length, map, drop, replicate}
+use Rattle.std.proofs.Common.{refl, sym, ap, ◌∙◌, arith, subst, inl, inr, get_or, slice_set, append_assoc, append-nil}
+use Rattle.std.proofs.Common.{length-append}
+use Rattle.std.proofs.lemmas.Bool.{cases_lt}
 use Rattle.std.proofs.lemmas.List.{map-append, length-map}
 use Rattle.std.proofs.Math.Seq.{drop-cons, set-append_seam}
 use Rattle.bus_pairing.specs.declared.line.Line.TheVariants.{First, Second}
 use Rattle.bus_tap.specs.Arrival.{Arrival}
 use Rattle.bus_tap.specs.Sampled.{bit_on, bits_of_edges}
 use Rattle.bus_line.specs.Due.{places}
-use Rattle.bus_tap.specs.Recorded.{record_at, record_number}
+use Rattle.bus_tap.specs.Recorded.{record_at}
 use Rattle.bus_tap.specs.Tapped.{TapState, AdvancesTap, channels}
 use Rattle.bus_tap.specs.declared.wires.Wires.{Wires}
 use Rattle.bus_tap.specs.declared.sampler.Edges.{Edges}
 use Rattle.bus_tap.proofs.EachLemmas.{length-more}
-use Rattle.bus_tap.proofs.TapLemmas.{advances-further, advances-nothing}
+use Rattle.bus_tap.proofs.TapLemmas.{advances-further, advances-nothing, replicate-more}
 use Rattle.port1_c.specs.Tap.{HasTapped, coded, put_over, samples_from}
 use Rattle.port1_c.specs.declared.arrival.Port1Arrival.{Port1Arrival}
 
@@ -72,21 +73,50 @@ tapped-more from old new start before mid behind ls more e count next past long 
       advances = advances-further from old new ls more xs (bits_of_edges e) tapped.advances advances;
     }
 
--- the levels of one sample more
-pub levels-next : (wires : Wires) (width : ℕ) (octets : List ℕ) (from at sample level : ℕ) → from ≤ at →
-    sample ≡ record_number (slice_range octets (at * width) (at * width + width)) → level ≡ channels wires sample →
-    map (channels wires) (samples_from width octets from (at + 1 - from))
-    ≡ map (channels wires) (samples_from width octets from (at - from)) ++ level ∷ []
-levels-next wires width octets from at sample level order is-sample is-level =
-    let next : at + 1 - from ≡ suc (at - from) = omega (arith, order) in
-    let here : from + (at - from) ≡ at = omega (arith, order) in
-    let size : at * width + width - at * width ≡ width = omega arith in
-    let found : record_at width octets (from + (at - from)) ≡ sample =
-    ap (record_at width octets) here
-    ∙ sym (is-sample ∙ ap (λ n. record_number (take n (drop (at * width) octets))) size) in
-    ap (λ n. map (channels wires) (samples_from width octets from n)) next
-    ∙ ap (map (channels wires))
-    (map-append (λ k. record_at width octets (from + k)) (places (at - from)) ((at - from) ∷ []))
-    ∙ map-append (channels wires) (samples_from width octets from (at - from)) (_ ∷ [])
-    ∙ ap (λ s. map (channels wires) (samples_from width octets from (at - from)) ++ s ∷ [])
-    (ap (channels wires) found ∙ sym is-level)
+-- what holds below a number, and of it, holds below the next
+pub up-to : (P : ℕ → Type 0) (n : ℕ) → ((k : ℕ) → k < n → P k) → P n → (k : ℕ) → k < n + 1 → P k
+up-to P n below here k inside =
+    elim (cases_lt k n) [
+      | inl less ↦ below k less
+      | inr more ↦ subst P (omega (arith, inside, more)) here
+    ]
+
+-- some samples more, which are the same
+samples-next : (width : ℕ) (octets : List ℕ) (from n : ℕ) →
+    samples_from width octets from (suc n) ≡ samples_from width octets from n ++ record_at width octets (from + n) ∷ []
+samples-next width octets from n = map-append (λ k. record_at width octets (from + k)) (places n) (n ∷ [])
+
+samples-more : (width : ℕ) (octets : List ℕ) (from at sample n : ℕ) → from ≤ at →
+    ((k : ℕ) → k < n → record_at width octets (at + k) ≡ sample) →
+    samples_from width octets from (at + n - from) ≡ samples_from width octets from (at - from) ++ replicate n sample
+samples-more width octets from at sample zero order same =
+    let none : at + 0 - from ≡ at - from = omega arith in
+    rw none (sym (append-nil (samples_from width octets from (at - from))))
+samples-more width octets from at sample (suc n) order same =
+    let next : at + suc n - from ≡ suc (at + n - from) = omega (arith, order) in
+    let here : from + (at + n - from) ≡ at + n = omega (arith, order) in
+    let one : suc n ≡ n + 1 = omega arith in
+    let before = samples-more width octets from at sample n order (λ k less. same k (omega (arith, less))) in
+    ap (samples_from width octets from) next
+    ∙ samples-next width octets from (at + n - from)
+    ∙ ap (λ xs. xs ++ record_at width octets (from + (at + n - from)) ∷ []) before
+    ∙ ap (λ s. (samples_from width octets from (at - from) ++ replicate n sample) ++ s ∷ [])
+    (ap (record_at width octets) here ∙ same n (omega arith))
+    ∙ append_assoc (samples_from width octets from (at - from)) (replicate n sample) (sample ∷ [])
+    ∙ ap (λ xs. samples_from width octets from (at - from) ++ xs)
+    (sym (ap (λ k. replicate k sample) one ∙ replicate-more n sample))
+
+map-replicate : (f : ℕ → ℕ) (n s : ℕ) → map f (replicate n s) ≡ replicate n (f s)
+map-replicate f zero s = refl
+map-replicate f (suc n) s = ap (λ xs. f s ∷ xs) (map-replicate f n s)
+
+-- and their levels
+pub levels-more : (wires : Wires) (width : ℕ) (octets : List ℕ) (from at sample level n : ℕ) → from ≤ at →
+    ((k : ℕ) → k < n → record_at width octets (at + k) ≡ sample) → level ≡ channels wires sample →
+    map (channels wires) (samples_from width octets from (at + n - from))
+    ≡ map (channels wires) (samples_from width octets from (at - from)) ++ replicate n level
+levels-more wires width octets from at sample level n order same is-level =
+    ap (map (channels wires)) (samples-more width octets from at sample n order same)
+    ∙ map-append (channels wires) (samples_from width octets from (at - from)) (replicate n sample)
+    ∙ ap (λ xs. map (channels wires) (samples_from width octets from (at - from)) ++ xs)
+    (map-replicate (channels wires) n sample ∙ ap (replicate n) (sym is-level))

@@ -2,6 +2,7 @@
 
 ghost use Rattle.std.specs.Prelude.{◌≡◌, ◌+◌, ◌-◌, ◌*◌, ◌≤◌, ◌<◌, ◌++◌, List, ℕ, length, map, replicate};
 ghost use Rattle.bus_bits.specs.Limits.{most_places};
+ghost use Rattle.bus_tap.specs.Recorded.{record_at};
 ghost use Rattle.bus_tap.specs.Tapped.{TapState, channels};
 ghost use Rattle.port1_c.specs.Tap.{HasTapped, samples_from};
 
@@ -71,6 +72,33 @@ pub(crate) fn take_run(
     left
 }
 
+/// A sample of `width` octets.
+#[inline(always)]
+fn sample_at(octets: &[u8], width: usize, at: usize) -> u64
+    requires width { width ≤ 8 }
+    requires within { (at + 1) * width ≤ length octets.now }
+    ensures { result ≡ record_at width octets.now at }
+{
+    let begin = at * width;
+    number_of(&octets[begin..begin + width])
+}
+
+/// How many samples are this one, from number `at` on and before number `end`.
+fn alike(octets: &[u8], width: usize, at: usize, end: usize, sample: u64) -> usize
+    requires width { width ≤ 8 }
+    requires order { at < end }
+    requires within { end * width ≤ length octets.now }
+    requires first { sample ≡ record_at width octets.now at }
+    ensures some { (1 ≤ result) × (at + result ≤ end) }
+    ensures same { (k : ℕ) → k < result → record_at width octets.now (at + k) ≡ sample }
+{
+    let mut count = 1;
+    while at + count < end && sample_at(octets, width, at + count) == sample {
+        count += 1;
+    }
+    count
+}
+
 /// Takes samples of `width` octets each, from number `at` on and before number `end`, while there is room for two bits
 /// more, and puts the bits that arrive. `at` is then the next sample to take.
 pub(crate) fn take_samples(
@@ -95,9 +123,8 @@ pub(crate) fn take_samples(
         arrived.new }
 {
     while *at < end && arrivals.len() - *arrived >= 2 {
-        let begin = *at * width;
-        let sample = number_of(&octets[begin..begin + width]);
-        take_some(tap, wires.channels(sample), 1, arrivals, arrived);
-        *at += 1;
+        let sample = sample_at(octets, width, *at);
+        let count = alike(octets, width, *at, end, sample) as u64;
+        *at += take_some(tap, wires.channels(sample), count, arrivals, arrived) as usize;
     }
 }

@@ -11,6 +11,9 @@ const ROOM = 65536;
 /** A run of samples that are the same: so many octets, the levels in the lowest. */
 const RUN = 8;
 
+/** Levels as the library takes them. */
+const LEVELS = Array.from({ length: 256 }, (_, levels) => BigInt(levels));
+
 /** The wires, as a recording and the library have them in order. */
 const NAMES = /** @type {const} */ (["firstClock", "firstData", "secondClock", "secondData"]);
 
@@ -81,11 +84,14 @@ export class Sampler {
     const { library } = this;
     const [tap, , at, arrivals, arrived] = this.pointers;
     const records = new DataView(piece.buffer, piece.byteOffset, piece.length);
+    const room = BigInt(ROOM);
     for (let from = 0; from < piece.length; from += RUN) {
-      const record = records.getBigUint64(from, true);
-      library.view.setBigUint64(this.at, record >> 8n, true);
+      const [low, high] = [records.getUint32(from, true), records.getUint32(from + 4, true)];
+      library.view.setUint32(this.at, (low >>> 8) | (high << 24), true);
+      library.view.setUint32(this.at + 4, high >>> 8, true);
+      const levels = LEVELS[low & 255];
       while (library.number(this.at) > 0) {
-        const status = library.calls.port1_tap_push(tap, record & 255n, at, arrivals, BigInt(ROOM), arrived);
+        const status = library.calls.port1_tap_push(tap, levels, at, arrivals, room, arrived);
         library.demand(status, "port1_tap_push");
         this.handOn();
       }
