@@ -7,9 +7,10 @@ import re
 import shutil
 import signal
 import subprocess
+import threading
 import time
 from pathlib import Path
-from typing import List, NamedTuple, Sequence
+from typing import IO, List, NamedTuple, Sequence
 
 from needs import Skipped, needs
 from tests.case import SCRIPTS, SECONDS, TOP, Run
@@ -61,6 +62,38 @@ def problems_of_kills(folder: Path, moments: Sequence[float], scripts: Path = SC
 def kills(folder: Path) -> List[str]:
     """An incident is told once and saved, whenever after its beginning the watch is killed."""
     return problems_of_kills(folder, [0, 0.05, 0.1, 0.2, 0.3, 0.6])
+
+
+def undecided(folder: Path) -> List[str]:
+    """What the ring has and `port1` had not decided at a kill is an incident of the run that was killed."""
+    cabinet = Cabinet(folder, [Fault(RATE // 10, 2 * RATE, "silent", 2)])
+    bits, _ = cabinet.simulator(0, RATE).communicate(timeout=SECONDS)
+    watch = cabinet.watch(subprocess.PIPE, 0)
+    port1 = child_of(watch)
+    time.sleep(1)
+    os.kill(port1, signal.SIGSTOP)
+    assert watch.stdin is not None
+    threading.Thread(target=feed, args=(watch.stdin, bits), daemon=True).start()
+    ring = folder / "watch" / "ring"
+    for _ in range(100):
+        if sum(path.stat().st_size for path in ring.iterdir()) > RATE // 8:
+            break
+        time.sleep(0.1)
+    watch.kill()
+    watch.wait()
+    known = "incident" in (folder / "watch" / "incidents.jsonl").read_text()
+    cabinet.run(300 * RATE, 320 * RATE)
+    told = [(record["run"], list(record["causes"]), "cut" in record) for record in cabinet.incidents]
+    is_saved = all(record["saved"] for record in cabinet.incidents)
+    return [] if not known and told == [(1, ["missing 2/1"], True)] and is_saved else [f"{known}, {cabinet.log}"]
+
+
+def feed(pipe: IO[bytes], bits: bytes) -> None:
+    try:
+        pipe.write(bits)
+        pipe.flush()
+    except OSError:
+        pass  # nobody reads any more
 
 
 def many_kills(folder: Path) -> List[str]:
@@ -256,6 +289,7 @@ TESTS = [
     an_hour,
     arrivals,
     kills,
+    undecided,
     full_disk,
     stalls,
     port1_is_killed,
