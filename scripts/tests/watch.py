@@ -2,19 +2,18 @@
 
 import json
 import os
-import random
 import re
 import shutil
 import signal
 import subprocess
-import threading
 import time
 from pathlib import Path
-from typing import IO, List, NamedTuple, Sequence
+from typing import List, NamedTuple, Sequence
 
 from needs import Skipped, needs
 from tests.case import SCRIPTS, SECONDS, TOP, Run
-from tests.watched import DICTIONARY, RATE, SIMULATOR, Cabinet, Fault, Watched, judged, schedule, watched_with_kills
+from tests.killed import problems_of_kills
+from tests.watched import DICTIONARY, RATE, SIMULATOR, Cabinet, Fault, child_of, judged, schedule, watched_with_kills
 
 RUNS: List[Run] = []
 
@@ -44,63 +43,6 @@ def a_day(folder: Path) -> List[str]:
     return problems_of_time(folder, 23, 86400, 150, [30.0, 41.0, 17.0, 26.0, 38.0, 22.0, 33.0])
 
 
-def problems_of_kills(folder: Path, moments: Sequence[float], scripts: Path = SCRIPTS) -> List[str]:
-    problems = []
-    for number, moment in enumerate(moments):
-        own = folder / str(number)
-        own.mkdir()
-        cabinet = Cabinet(own, [Fault(15 * RATE, 17 * RATE, "silent", 2)], scripts=scripts)
-        runs = [cabinet.run(0, 200 * RATE, moment, is_begun=True)]
-        runs.append(cabinet.run(300 * RATE, 320 * RATE))
-        told = cabinet.incidents
-        if len(told) != 1 or told[0]["saved"] is None or runs[1].status != 0:
-            problems.append(f"killed {moment:.3f} s after it began: {told}, {runs[1].stderr}")
-        problems += judged(cabinet, runs) if len(told) == 1 else []
-    return problems
-
-
-def kills(folder: Path) -> List[str]:
-    """An incident is told once and saved, whenever after its beginning the watch is killed."""
-    return problems_of_kills(folder, [0, 0.05, 0.1, 0.2, 0.3, 0.6])
-
-
-def undecided(folder: Path) -> List[str]:
-    """What the ring has and `port1` had not decided at a kill is an incident of the run that was killed."""
-    cabinet = Cabinet(folder, [Fault(RATE // 10, 2 * RATE, "silent", 2)])
-    bits, _ = cabinet.simulator(0, RATE).communicate(timeout=SECONDS)
-    watch = cabinet.watch(subprocess.PIPE, 0)
-    port1 = child_of(watch)
-    time.sleep(1)
-    os.kill(port1, signal.SIGSTOP)
-    assert watch.stdin is not None
-    threading.Thread(target=feed, args=(watch.stdin, bits), daemon=True).start()
-    ring = folder / "watch" / "ring"
-    for _ in range(100):
-        if sum(path.stat().st_size for path in ring.iterdir()) > RATE // 8:
-            break
-        time.sleep(0.1)
-    watch.kill()
-    watch.wait()
-    known = "incident" in (folder / "watch" / "incidents.jsonl").read_text()
-    cabinet.run(300 * RATE, 320 * RATE)
-    told = [(record["run"], list(record["causes"]), "cut" in record) for record in cabinet.incidents]
-    is_saved = all(record["saved"] for record in cabinet.incidents)
-    return [] if not known and told == [(1, ["missing 2/1"], True)] and is_saved else [f"{known}, {cabinet.log}"]
-
-
-def feed(pipe: IO[bytes], bits: bytes) -> None:
-    try:
-        pipe.write(bits)
-        pipe.flush()
-    except OSError:
-        pass  # nobody reads any more
-
-
-def many_kills(folder: Path) -> List[str]:
-    generator = random.Random(5)
-    return problems_of_kills(folder, [generator.uniform(0, 1.0) for _ in range(50)])
-
-
 def full_disk(folder: Path) -> List[str]:
     """On a disk of 12 MB every incident is told, the watch goes on to the end, and the disk is never full."""
     disk = folder / "watch"
@@ -117,16 +59,6 @@ def full_disk(folder: Path) -> List[str]:
         return problems + ([] if run.status == 0 and len(lines) < 20 else [f"status {run.status}, {lines[:5]}"])
     finally:
         subprocess.run(["umount", disk], check=True)
-
-
-def child_of(watch: "subprocess.Popen[bytes]") -> int:
-    """The `port1` of a watch."""
-    for _ in range(200):
-        found = Path(f"/proc/{watch.pid}/task/{watch.pid}/children").read_text().split()
-        if found:
-            return int(found[-1])
-        time.sleep(0.05)
-    return 0
 
 
 def stalls(folder: Path) -> List[str]:
@@ -288,8 +220,6 @@ def lost_input(folder: Path) -> List[str]:
 TESTS = [
     an_hour,
     arrivals,
-    kills,
-    undecided,
     full_disk,
     stalls,
     port1_is_killed,
@@ -300,5 +230,4 @@ TESTS = [
     wrong_forms,
     lost_input,
     a_day,
-    many_kills,
 ]
