@@ -30,8 +30,8 @@ def packed() -> bytes:
     commands, answers = talk(40, lambda station, number: NO_ANSWER if station == 2 and number in SILENT else 1.0)
     pairs = [int(one) + 2 * int(other) for one, other in zip(commands.bits, answers.bits)]
     pairs = pairs[: len(pairs) // 4 * 4]
-    octets = (sum(pair << 2 * at for at, pair in enumerate(pairs[begin : begin + 4])) for begin in range(0, len(pairs), 4))
-    return b"TS2BITS2" + len(pairs).to_bytes(8, "little") + bytes(octets)
+    octets = bytes(sum(pair << 2 * at for at, pair in enumerate(four)) for four in zip(*[iter(pairs)] * 4))
+    return b"TS2BITS2" + len(pairs).to_bytes(8, "little") + octets
 
 
 def folder_of(name: str, wall: str, causes: Sequence[str]) -> Files:

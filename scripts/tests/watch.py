@@ -106,7 +106,8 @@ def source_that_ends(folder: Path) -> List[str]:
     needs("node")
     doubt = "echo recording-to-bits: event: TXC stops >&2"
     command = f"{doubt}; echo bad luck >&2; node {SIMULATOR} 7 0 {8 * RATE} '' 0; exit 3"
-    words = [SCRIPTS / "bus-watch", folder / "watch", "--dictionary", DICTIONARY, "--floor", "0", "--two", "--source", command]
+    words = [SCRIPTS / "bus-watch", folder / "watch", "--dictionary", DICTIONARY, "--floor", "0", "--two"]
+    words += ["--source", command]
     watch = subprocess.Popen(words, stdin=subprocess.DEVNULL, stdout=subprocess.PIPE, stderr=subprocess.PIPE)
     time.sleep(5)
     watch.send_signal(signal.SIGINT)
