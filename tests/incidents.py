@@ -30,8 +30,8 @@ def packed() -> bytes:
     commands, answers = talk(40, lambda station, number: NO_ANSWER if station == 2 and number in SILENT else 1.0)
     pairs = [int(one) + 2 * int(other) for one, other in zip(commands.bits, answers.bits)]
     pairs = pairs[: len(pairs) // 4 * 4]
-    octets = (sum(pair << 2 * at for at, pair in enumerate(pairs[begin : begin + 4])) for begin in range(0, len(pairs), 4))
-    return b"TS2BITS2" + len(pairs).to_bytes(8, "little") + bytes(octets)
+    octets = bytes(sum(pair << 2 * at for at, pair in enumerate(four)) for four in zip(*[iter(pairs)] * 4))
+    return b"TS2BITS2" + len(pairs).to_bytes(8, "little") + octets
 
 
 def folder_of(name: str, wall: str, causes: Sequence[str]) -> Files:
@@ -72,18 +72,16 @@ def tree_of(files: Files) -> Dict[str, object]:
     return tree
 
 
-def choose(session: browser.Session, name: str, files: Files) -> None:
+def choose(session: browser.Session, name: str, files: Files, top: Path) -> None:
     """Gives the page a folder: Chromium by its field, Firefox, whose driver cannot, by a drop."""
     if name != "chromium":
         session.value(DROP % json.dumps(tree_of(files)))
         return
-    with tempfile.TemporaryDirectory(prefix="port1-") as top:
-        for path, content in files.items():
-            file = Path(top, path)
-            file.parent.mkdir(parents=True, exist_ok=True)
-            file.write_bytes(content)
-        session.set_files("#folder", [Path(top)])
-        session.wait_until("document.body.dataset.state !== 'empty'", 20)
+    for path, content in files.items():
+        file = top / path
+        file.parent.mkdir(parents=True, exist_ok=True)
+        file.write_bytes(content)
+    session.set_files("#folder", [top])
 
 
 ROWS = "[...document.querySelectorAll('#incident-list button')].map((b) => [...b.children].map((s) => s.textContent))"
@@ -100,7 +98,7 @@ SHOWN: List[Tuple[str, str]] = [
     ("#sentences .jump", "10 in a row from 03:00:00.311 on"),
     ("#sentences .times button", "03:00:00.311"),
     ("#head", "It begins on 2026-11-27 02:59:59.900 UTC."),
-    ("#timeline .where", "02:59:59.900 to 03:00:00."),
+    ("#timeline .where", "02:59:59.9000 to 03:00:00."),
     ("#timeline .axis", "03:00:00.3"),
     ("#timeline .axis .about", "UTC"),
     ("#chosen", "03:00:00.311"),
@@ -114,12 +112,12 @@ RESULT = "document.body.dataset.state === 'result' && !document.body.classList.c
 
 def problems_of_list(page: Path, name: str) -> List[str]:
     """Whether a folder is a list, its last incident is shown with times of day, and a file after it with seconds."""
-    with opened(name, address_of(page)) as session, tempfile.TemporaryDirectory(prefix="port1-"):
-        choose(session, name, incidents())
+    with opened(name, address_of(page)) as session, tempfile.TemporaryDirectory(prefix="port1-") as top:
+        choose(session, name, incidents(), Path(top))
         session.wait_until("document.body.dataset.state === 'list'", 20)
         found = session.value(ROWS)
         problems = [] if found == LIST else [f"the list is {found}"]
-        session.press("Enter")
+        session.value("document.activeElement.click()")
         session.wait_until(f"{RESULT} && /^03/.test(document.getElementById('chosen').textContent)", 20)
         session.wait_until("document.querySelector('#lines .line.chosen .second')", 20)
         session.wait_until("document.querySelectorAll('#timeline .axis .tick').length > 2", 20)
@@ -133,7 +131,7 @@ def problems_of_list(page: Path, name: str) -> List[str]:
         read_file(session, EXAMPLE)
         is_hidden = session.value("document.getElementById('incidents').hidden")
         where = text_at(session, "#timeline .where")
-        return problems + ([] if is_hidden and where.startswith("0.000 to 0.4") else [f"after a file: {where}"])
+        return problems + ([] if is_hidden and where.startswith("0.0000 to 0.5") else [f"after a file: {where}"])
 
 
 def problems_of_one(page: Path, name: str) -> List[str]:
@@ -150,7 +148,7 @@ def problems_of_one(page: Path, name: str) -> List[str]:
         session.value(DROP % json.dumps(tree_of(plain)))
         session.wait_until(f"{RESULT} && /^bits/.test(document.querySelector('#facts .name').textContent)", 20)
         where, told = text_at(session, "#timeline .where"), text_at(session, "#status.fault")
-        return problems + ([] if where.startswith("0.000 to 0.8") and told == "" else [f"a folder of files: {where}, {told}"])
+        return problems + ([] if where.startswith("0.0000 to 0.8") and told == "" else [f"a folder of files: {where}, {told}"])
 
 
 def tests_of(page: Path) -> Iterator[Test]:

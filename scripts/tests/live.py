@@ -207,6 +207,25 @@ def bits_come_soon(_: Path) -> List[str]:
     return problems
 
 
+def events_come_at_once(_: Path) -> List[str]:
+    """A clock that stops is told while it does: its last edge is four samples before the end of three tenths."""
+    child = started("recording-to-bits", ["--events", "--samplerate", "1M", "0", "1", "2", "3"])
+    assert child.stdin is not None and child.stdout is not None and child.stderr is not None
+    threading.Thread(target=child.stdout.read, daemon=True).start()
+    told: List[bytes] = []
+    reader = threading.Thread(target=lambda: told.append(child.stderr.readline()), daemon=True)
+    reader.start()
+    tenth = samples_of(1_000_000)
+    child.stdin.write(3 * tenth)
+    deadline = time.monotonic() + BEGIN
+    while reader.is_alive() and time.monotonic() < deadline:
+        child.stdin.write(tenth[-1:] * 1000)
+        time.sleep(0.001)
+    child.kill()
+    child.wait(SECONDS)
+    return [] if told == [b"recording-to-bits: event: 0 stops (at 0.299996 s)\n"] else [f"{told}"]
+
+
 TESTS = [
     first_signal_ends_the_stream,
     second_signal_ends_at_once,
@@ -214,4 +233,5 @@ TESTS = [
     unfinished_files_are_removed,
     lines_come_at_once,
     bits_come_soon,
+    events_come_at_once,
 ]

@@ -2,7 +2,6 @@
 
 import json
 import os
-import random
 import re
 import shutil
 import signal
@@ -13,7 +12,8 @@ from typing import List, NamedTuple, Sequence
 
 from needs import Skipped, needs
 from tests.case import SCRIPTS, SECONDS, TOP, Run
-from tests.watched import DICTIONARY, RATE, SIMULATOR, Cabinet, Fault, Watched, judged, schedule, watched_with_kills
+from tests.killed import problems_of_kills
+from tests.watched import DICTIONARY, RATE, SIMULATOR, Cabinet, Fault, child_of, judged, schedule, watched_with_kills
 
 RUNS: List[Run] = []
 
@@ -43,31 +43,6 @@ def a_day(folder: Path) -> List[str]:
     return problems_of_time(folder, 23, 86400, 150, [30.0, 41.0, 17.0, 26.0, 38.0, 22.0, 33.0])
 
 
-def problems_of_kills(folder: Path, moments: Sequence[float], scripts: Path = SCRIPTS) -> List[str]:
-    problems = []
-    for number, moment in enumerate(moments):
-        own = folder / str(number)
-        own.mkdir()
-        cabinet = Cabinet(own, [Fault(15 * RATE, 17 * RATE, "silent", 2)], scripts=scripts)
-        runs = [cabinet.run(0, 200 * RATE, moment, is_begun=True)]
-        runs.append(cabinet.run(300 * RATE, 320 * RATE))
-        told = cabinet.incidents
-        if len(told) != 1 or told[0]["saved"] is None or runs[1].status != 0:
-            problems.append(f"killed {moment:.3f} s after it began: {told}, {runs[1].stderr}")
-        problems += judged(cabinet, runs) if len(told) == 1 else []
-    return problems
-
-
-def kills(folder: Path) -> List[str]:
-    """An incident is told once and saved, whenever after its beginning the watch is killed."""
-    return problems_of_kills(folder, [0, 0.05, 0.1, 0.2, 0.3, 0.6])
-
-
-def many_kills(folder: Path) -> List[str]:
-    generator = random.Random(5)
-    return problems_of_kills(folder, [generator.uniform(0, 1.0) for _ in range(50)])
-
-
 def full_disk(folder: Path) -> List[str]:
     """On a disk of 12 MB every incident is told, the watch goes on to the end, and the disk is never full."""
     disk = folder / "watch"
@@ -84,16 +59,6 @@ def full_disk(folder: Path) -> List[str]:
         return problems + ([] if run.status == 0 and len(lines) < 20 else [f"status {run.status}, {lines[:5]}"])
     finally:
         subprocess.run(["umount", disk], check=True)
-
-
-def child_of(watch: "subprocess.Popen[bytes]") -> int:
-    """The `port1` of a watch."""
-    for _ in range(200):
-        found = Path(f"/proc/{watch.pid}/task/{watch.pid}/children").read_text().split()
-        if found:
-            return int(found[-1])
-        time.sleep(0.05)
-    return 0
 
 
 def stalls(folder: Path) -> List[str]:
@@ -141,7 +106,8 @@ def source_that_ends(folder: Path) -> List[str]:
     needs("node")
     doubt = "echo recording-to-bits: event: TXC stops >&2"
     command = f"{doubt}; echo bad luck >&2; node {SIMULATOR} 7 0 {8 * RATE} '' 0; exit 3"
-    words = [SCRIPTS / "bus-watch", folder / "watch", "--dictionary", DICTIONARY, "--floor", "0", "--two", "--source", command]
+    words = [SCRIPTS / "bus-watch", folder / "watch", "--dictionary", DICTIONARY, "--floor", "0", "--two"]
+    words += ["--source", command]
     watch = subprocess.Popen(words, stdin=subprocess.DEVNULL, stdout=subprocess.PIPE, stderr=subprocess.PIPE)
     time.sleep(5)
     watch.send_signal(signal.SIGINT)
@@ -255,7 +221,6 @@ def lost_input(folder: Path) -> List[str]:
 TESTS = [
     an_hour,
     arrivals,
-    kills,
     full_disk,
     stalls,
     port1_is_killed,
@@ -266,5 +231,4 @@ TESTS = [
     wrong_forms,
     lost_input,
     a_day,
-    many_kills,
 ]

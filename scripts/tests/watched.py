@@ -64,6 +64,16 @@ def schedule(seed: int, seconds: int, count: int) -> List[Fault]:
     return [fault_of(generator, begin, min(3600, 0.5 * step)) for begin in begins]
 
 
+def child_of(watch: "subprocess.Popen[bytes]") -> int:
+    """The `port1` of a watch."""
+    for _ in range(200):
+        found = Path(f"/proc/{watch.pid}/task/{watch.pid}/children").read_text().split()
+        if found:
+            return int(found[-1])
+        time.sleep(0.05)
+    return 0
+
+
 class Watched(NamedTuple):
     """A run of the watch: the places of each recorder that it had, what it wrote, and its status."""
 

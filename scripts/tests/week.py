@@ -1,11 +1,10 @@
-"""Simulated days of bus-watch: faults of every kind, lost input, clocks that stop, recorders that die, kills, a full disk.
+"""Simulated days of bus-watch: faults of all kinds, lost input, stopped clocks, dying recorders, kills, a full disk.
 
     PYTHONPATH=scripts:scripts/port1_scripts python3 -m tests.week DAYS [SECONDS]
 
 runs some days, as long as the seconds last, and writes the figures. It takes root, which mounts a disk of 600 MB.
 """
 
-import json
 import random
 import subprocess
 import sys
@@ -147,7 +146,8 @@ class Week:
         words += ["--keep", "200M", "--floor", "16M", "--source", SOURCE.format(simulator=SIMULATOR, form=self.form)]
         words += ["--two"] if self.form == "pairs" else []
         with (self.folder / "said").open("ab") as said:
-            watch = subprocess.Popen(words, cwd=self.folder, stdin=subprocess.DEVNULL, stdout=subprocess.DEVNULL, stderr=said)
+            pipes = {"stdin": subprocess.DEVNULL, "stdout": subprocess.DEVNULL, "stderr": said}
+            watch = subprocess.Popen(words, cwd=self.folder, **pipes)
         gauge = Gauge(watch, self.folder / "watch")
         gauge.start()
         try:
@@ -158,7 +158,8 @@ class Week:
         gauge.join()
         self.most = {name: max(self.most.get(name, 0), count) for name, count in {**self.most, **gauge.most}.items()}
         for _ in range(100):  # the recorder ends when it finds that nobody reads
-            told = [line.split() for line in (self.folder / "told").read_text().splitlines() if line.startswith("places")]
+            lines = (self.folder / "told").read_text().splitlines()
+            told = [line.split() for line in lines if line.startswith("places")]
             if len(told) >= min(int((self.folder / "turn").read_text()) - 1, len(turns)):
                 break
             time.sleep(0.1)
@@ -203,10 +204,9 @@ def problems_of_days(
         began = time.monotonic()
         week.go()
         print(f"{week.past / RATE / DAY:.2f} days in {time.monotonic() - began:.0f} s: {week.figures()}", flush=True)
-        print(f"ran {[(run.status, len(run.turns)) for run in week.runs]}; said {(folder / 'said').read_text()}", flush=True)
-        problems = judged(week.cabinet, week.runs)
-        # Old folders go; while the disk is full none can be saved.
-        return [problem for problem in problems if not problem.endswith("is not there") and not problem.startswith("not saved")]
+        print(f"status of each run {[run.status for run in week.runs]}; said {(folder / 'said').read_text()}", flush=True)
+        problems = (problem for problem in judged(week.cabinet, week.runs) if not problem.startswith("not saved"))
+        return [problem for problem in problems if not problem.endswith("is not there")]  # old folders go
     finally:
         subprocess.run(["umount", disk], check=True)
 

@@ -127,8 +127,9 @@ function ticksOf(from, to, count) {
  */
 function labelOf(second, step, digits) {
   const [whole, part = ""] = second.toFixed(digits).split(".");
-  const [hour, minute, rest] = [3600, 60, 1].map((unit) => Math.floor(Number(whole) / unit) % (unit === 3600 ? 24 : 60));
-  const [hours, minutes, seconds] = [hour, minute, rest].map((number) => String(number).padStart(2, "0"));
+  const now = Number(whole);
+  const numbers = [Math.floor(now / 3600) % 24, Math.floor(now / 60) % 60, now % 60];
+  const [hours, minutes, seconds] = numbers.map((number) => String(number).padStart(2, "0"));
   if (step >= 60) return `${hours}:${minutes}`;
   const time = part ? `${seconds}.${part}` : seconds;
   return digits > 3 ? `:${time}` : `${hours}:${minutes}:${time}`;

@@ -56,8 +56,8 @@ export async function incidentsAmong(all) {
  */
 export function shownOf({ files, begin, origin }, canDecode) {
   const [bits, listing] = ["bits.ts2", "listing.txt"].map((name) => files.get(name));
-  if (bits && (canDecode || !listing)) return { file: bits, first: origin, begin: { text: begin, late: origin / RATE } };
-  return listing ? { file: listing, first: 0, begin: { text: begin, late: 0 } } : null;
+  const [file, first] = bits && (canDecode || !listing) ? [bits, origin] : [listing, 0];
+  return file ? { file, first, begin: { text: begin, late: first / RATE } } : null;
 }
 
 /**

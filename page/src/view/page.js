@@ -339,8 +339,9 @@ class Page {
     } else if (others.length === 0) {
       this.say("The dictionary is kept. Now drop a recording.");
     }
-    const more = others.length > MOST_TOLD ? ` So are ${others.length - MOST_TOLD} other files.` : "";
-    if (others.length > 0 && !(isFolder && rest.length > 0)) this.say(others.slice(0, MOST_TOLD).join(" ") + more, true);
+    const more = others.length > MOST_TOLD ? ` ${others.length - MOST_TOLD} other files cannot be read either.` : "";
+    const told = isFolder && rest.length > 0 ? "" : others.slice(0, MOST_TOLD).join(" ") + more;
+    if (told) this.say(told, true);
   }
 
   get file() {
@@ -659,7 +660,7 @@ class Page {
   /** Shows the listing that a report has in it. */
   async showEmbedded() {
     if (!element("listing-data")) return;
-    const { title, rate, dictionary, recording, notes = [], bits: end, begin: text } = /** @type {Report} */ (this.about);
+    const { title, rate, dictionary, recording, notes = [], ...known } = /** @type {Report} */ (this.about);
     document.title = title;
     for (const id of ["choice", "actions", "dictionary-box"]) element(id).hidden = true;
     /** @type {NodeListOf<HTMLElement & { dataset: { report: string } }>} */
@@ -670,8 +671,8 @@ class Page {
     this.showRecording(recording ?? {});
     const told = notes.filter((note) => note.startsWith(WARNING)).map((note) => note.slice(WARNING.length));
     const file = await unpacked("listing-data");
-    const begin = text === undefined ? null : { text, late: 0 };
-    await this.load({ file, form: "listing", rate, engine: null, dictionary, begin, told, end }, title);
+    const begin = known.begin === undefined ? null : { text: known.begin, late: 0 };
+    await this.load({ file, form: "listing", rate, engine: null, dictionary, begin, told, end: known.bits }, title);
   }
 }
 

@@ -35,9 +35,9 @@ export class Events {
   look(facts, when) {
     const bit = samplesOfBit(facts, when.ticks);
     if (bit === 0) return [];
-    const events = [this.ofWhole(facts, bit, when), this.ofClock(facts, bit, when), this.ofWires(facts, bit, when)].flat();
+    const events = [this.ofWhole(facts, bit, when), this.ofClock(facts, bit, when), this.ofWires(facts, bit, when)];
     Object.assign(facts.lines[0].gap, { length: 0, place: 0 });
-    return events;
+    return events.flat();
   }
 
   /** @param {Facts} facts @param {number} bit @param {Moments} when */
@@ -57,13 +57,13 @@ export class Events {
       return [`${name} stops (at ${when.of(bits.last)})`];
     }
     if (gap.length > LONG * bit) {
-      const length = when.length(gap.length);
-      if (gap.place === this.stopped) return [`${name} goes on (after ${length}, at ${when.of(gap.place + gap.length)})`];
+      const [length, past] = [when.length(gap.length), when.of(gap.place + gap.length)];
+      if (gap.place === this.stopped) return [`${name} goes on (after ${length}, at ${past})`];
       return [`${name} stops (for ${length} from ${when.of(gap.place)} on)`];
     }
     const count = jumps.count - told;
-    const times = count === 1 ? "" : `${count} times, last `;
-    return count > 0 ? [`the edges of ${name} jump: samples may have been lost (${times}at ${when.of(jumps.last)})`] : [];
+    const times = `${count === 1 ? "" : `${count} times, last `}at ${when.of(jumps.last)}`;
+    return count > 0 ? [`the edges of ${name} jump: samples may have been lost (${times})`] : [];
   }
 
   /** @param {Facts} facts @param {number} bit @param {Moments} when */

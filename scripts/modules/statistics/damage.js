@@ -89,8 +89,8 @@ function stretches(bus) {
 function toldStretch({ begin, length, pieces }, { dayTime, damaged, first, rate }) {
   const past = begin + length;
   const inSeconds = `${(begin / 1000).toFixed(3)} to ${(past / 1000).toFixed(3)} s`;
-  const timesOf = (/** @type {import("./day-time.js").DayTime} */ day) => [begin, past].map((time) => day.of(time / 1000, first / rate));
-  const text = dayTime === null ? inSeconds : timesOf(dayTime).join(" to ");
+  const times = dayTime && [begin, past].map((time) => dayTime.of(time / 1000, first / rate));
+  const text = times === null ? inSeconds : times.join(" to ");
   return { begin, past, text, pieces, share: (100 * pieces) / damaged };
 }
 

@@ -19,7 +19,7 @@ import { Triggers } from "../watch/triggers.js";
 const [ROUND, SECONDS] = [6144, 40];
 
 /** When station 2 is silent, and when station 1 is not asked, in seconds. */
-const [SILENT, UNASKED] = [[4, 5], [24, 25]];
+const [SILENT, UNASKED] = [[4, 5], [24, 27]];
 
 /** @param {number[]} seconds @param {number} place */
 const within = ([begin, past], place) => begin * RATE <= place && place < past * RATE;

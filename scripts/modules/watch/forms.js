@@ -58,7 +58,8 @@ export class Packer {
     let count = 0;
     for (let at = 0; at < text.length; at++) {
       if (shift === 0 && at + 4 <= text.length) {
-        const [one, two, three, four] = [table[text[at]], table[text[at + 1]], table[text[at + 2]], table[text[at + 3]]];
+        const [one, two] = [table[text[at]], table[text[at + 1]]];
+        const [three, four] = [table[text[at + 2]], table[text[at + 3]]];
         if ((one | two | three | four) !== BLANK) {
           const octet = one | (two << 2) | (three << 4) | (four << 6);
           octets[count++] = octet;

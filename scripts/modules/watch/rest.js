@@ -25,7 +25,8 @@ const MOST = 8;
  * What tells an event from the others of a log.
  * @param {Entry} record
  */
-const keyOf = ({ event, run, place, id, kind, line, cause }) => JSON.stringify([event, run, place, id, kind, line, cause]);
+const keyOf = ({ event, run, place, id, kind, line, cause }) =>
+  JSON.stringify([event, run, place, id, kind, line, cause]);
 
 /**
  * The lines of a packed capture.

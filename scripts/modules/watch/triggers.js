@@ -122,14 +122,14 @@ export class Triggers {
   command(name, first) {
     const kind = this.kind(name);
     kind.sent += 1;
-    const last = kind.last ?? first;
-    const isLong = first - last > kind.limit;
-    if (isLong && !kind.isGone) this.ears.trigger(`gap ${name}`, last, first);
-    if (isLong || kind.isGone) {
-      this.ears.wellAgain({ kind: name }, last, first, kind.since);
+    const gap = kind.last === null ? null : first - kind.last;
+    if (kind.isGone) {
+      this.ears.wellAgain({ kind: name }, /** @type {number} */ (kind.last), first, kind.since);
       if (!kind.isBad) kind.since = null;
-    } else if (kind.last !== null) {
-      kind.learn(first - last);
+    } else if (gap !== null && gap > kind.limit) {
+      this.ears.trigger(`gap ${name}`, /** @type {number} */ (kind.last), first);
+    } else if (gap !== null) {
+      kind.learn(gap);
     }
     kind.last = first;
     kind.isGone = false;

@@ -38,8 +38,11 @@ const COMMANDS = [
   { at: 4000, station: 2, type: 1 },
 ];
 
+/** Those in a round. */
+let near = faults;
+
 function faultAt(place, wanted) {
-  return faults.find(({ begin, past, kind }) => kind === wanted && begin <= place && place < past);
+  return near.find(({ begin, past, kind }) => kind === wanted && begin <= place && place < past);
 }
 
 const FLAG = [0, 1, 1, 1, 1, 1, 1, 0];
@@ -88,7 +91,7 @@ function make(number) {
   state = Math.imul(seed * 7919 + number, 0x9e3779b1) | 0;
   for (const line of [first, second]) line.fill(ONE);
   clock.fill(0);
-  const near = faults.filter(({ begin, past }) => begin < base + ROUND && base < past);
+  near = faults.filter(({ begin, past }) => begin < base + ROUND && base < past);
   const isQuiet = near.length === 0;
   for (const command of COMMANDS) {
     const begin = command.at + below(6);
