@@ -53,7 +53,8 @@ class Measures:
 
     def most(self, call: str, callers: Sequence[str] = ()) -> int:
         """Of one call, by these callers, or by all."""
-        return max(cost.most for (caller, name), cost in self.costs.items() if name == call and caller in (callers or CALLERS))
+        wanted = callers or CALLERS
+        return max(cost.most for (caller, name), cost in self.costs.items() if name == call and caller in wanted)
 
     def others(self) -> List[str]:
         return [name for name in self.stacks if name not in SHOWN]

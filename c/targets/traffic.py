@@ -24,7 +24,8 @@ def array_of(name: str, octets: bytes) -> str:
 def header_of(polling: bytes, hard: bytes, frames: Sequence[bytes]) -> str:
     """Traffic as C: captures without their heads, and frames without their checks."""
     rows = "".join(f"    {{{len(frame) - 2}, {{{', '.join(map(str, frame[:-2]))}}}}},\n" for frame in frames)
-    sent = f"struct frame {{ uint16_t length; uint8_t octets[256]; }};\nstatic const struct frame frames[] = {{\n{rows}}};\n"
+    frame = "struct frame { uint16_t length; uint8_t octets[256]; };\n"
+    sent = f"{frame}static const struct frame frames[] = {{\n{rows}}};\n"
     return f"#include <stdint.h>\n{array_of('polling', polling)}{array_of('hardest', hard)}{sent}"
 
 

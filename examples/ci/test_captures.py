@@ -4,9 +4,9 @@
 
 A capture fails where it has no frame, where it has a fault, and where anything in it is one of the kinds of `WRONG`
 below; the message has the fault, and these lines of `port1 list` with seconds, names and the times of late answers. The
-counts of `port1 check` are properties of the test. A folder without captures fails, too. For captures of two lines say `--two` or
-`--arrivals`. The program is `port1`, or what the variable PORT1 says. The options and the variables that stand for
-them are in conftest.py; this folder may be copied and changed.
+counts of `port1 check` are properties of the test. A folder without captures fails, too. For captures of two lines say
+`--two` or `--arrivals`. The program is `port1`, or what the variable PORT1 says. The options and the variables that
+stand for them are in conftest.py; this folder may be copied and changed.
 """
 
 import os

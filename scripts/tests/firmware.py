@@ -54,7 +54,8 @@ def firmware_lists(folder: Path) -> List[str]:
     needs("arm-none-eabi-gcc", "qemu-system-arm")
     needs_file(SPECS_OF_NEWLIB)
     subprocess.run([BUILD, folder, target], check=True, stdout=subprocess.DEVNULL, stderr=subprocess.DEVNULL)
-    words = made(folder, "listing.elf", f"LIBRARY={folder / target / 'libport1_c.a'}")
+    archive, include = folder / target / "libport1_c.a", TOP / "c" / "include"
+    words = made(folder, "listing.elf", f"LIBRARY={archive}", f"INCLUDE={include}")
     problems = []
     for name, capture in captures_of_one_line():
         lines = listed(capture, ["--dict", DICTIONARY]).stdout.decode()
