@@ -19,7 +19,8 @@ loop-at-preserved c =
     let some = c.take_some.ensures in
     let n = c.take_some.result in
     let alike = c.alike-count.ensures in
-    let same : (k : ℕ) → k < n → record_at c.args.width c.args.octets.now (c.loop-at.at + k) ≡ c.sample_at-sample.result =
+    let same : (k : ℕ) → k < n
+    → record_at c.args.width c.args.octets.now (c.loop-at.at + k) ≡ c.sample_at-sample.result =
     λ k inside. alike.same k (omega (arith, inside, some.count.0)) in
     let next = levels-more c.args.wires.now c.args.width c.args.octets.now c.args.at.now c.loop-at.at
     c.sample_at-sample.result _ n before.order same c.channels.ensures in record {
