@@ -56,7 +56,8 @@ def undecided(folder: Path) -> List[str]:
     assert watch.stdin is not None and watch.stdout is not None
     watch.stdout.readline()  # it has begun
     time.sleep(1)
-    os.kill(child_of(watch), signal.SIGSTOP)
+    port1 = child_of(watch)
+    os.kill(port1, signal.SIGSTOP)
     threading.Thread(target=feed, args=(watch.stdin, bits), daemon=True).start()
     ring = folder / "watch" / "ring"
     for _ in range(100):
@@ -65,6 +66,7 @@ def undecided(folder: Path) -> List[str]:
         time.sleep(0.1)
     watch.kill()
     watch.wait()
+    os.kill(port1, signal.SIGKILL)  # one that is held up would stay
     known = "incident" in (folder / "watch" / "incidents.jsonl").read_text()
     cabinet.run(300 * RATE, 320 * RATE)
     told = [(record["run"], list(record["causes"]), "cut" in record) for record in cabinet.incidents]

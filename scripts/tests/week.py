@@ -78,7 +78,10 @@ class Gauge(threading.Thread):
                 if "VmHWM:" in status:
                     what = "watch" if name == str(self.watch.pid) else status.split()[1]
                     self.note(what, int(status.split("VmHWM:")[1].split()[0]))
-            self.note("disk", sum(size_of(path) for path in self.folder.rglob("*")))
+            try:
+                self.note("disk", sum(size_of(path) for path in self.folder.rglob("*")))
+            except OSError:
+                pass  # a folder went meanwhile
             time.sleep(1)
 
 
@@ -118,7 +121,7 @@ def fill(disk: Path, plan: Plan) -> None:
 def turns_from(plan: Plan, begin: int, past: int) -> List[Tuple[int, int]]:
     """The places of the recorders from one on: each begins 20 seconds after the one before it died."""
     turns = []
-    for death in [*plan.deaths, past]:
+    for death in [*(death for death in plan.deaths if death < past), past]:
         if death > begin + 5 * RATE:
             turns.append((begin, death))
             begin = death + 20 * RATE
@@ -157,7 +160,7 @@ class Week:
             watch.wait()
         gauge.join()
         self.most = {name: max(self.most.get(name, 0), count) for name, count in {**self.most, **gauge.most}.items()}
-        for _ in range(100):  # the recorder ends when it finds that nobody reads
+        for _ in range(1200):  # the recorder ends when it finds that nobody reads
             lines = (self.folder / "told").read_text().splitlines()
             told = [line.split() for line in lines if line.startswith("places")]
             if len(told) >= min(int((self.folder / "turn").read_text()) - 1, len(turns)):
