@@ -103,12 +103,13 @@ test("an empty listing has no lane", () => {
   assert.deepEqual([lanesOf(new Talk()).between(0, 1, BINS), lanesOf(new Talk()).range], [[], [0, 1]]);
 });
 
-test("a million lines are put in order within a second", (context) => {
+test("a million lines are put in order within a second of the processor", (context) => {
   const { listing } = new Talk();
   for (let at = 0; at < 1_000_000; at++) listing.addStation(1, 100 * at, 100 * at + 41, at % 4 === 0 ? 7 : 5, at % 20, 0);
-  const begin = performance.now();
+  const begin = process.cpuUsage();
   const lanes = new Lanes(listing, new Map(), NO_NAMES);
-  const milliseconds = performance.now() - begin;
+  const { user, system } = process.cpuUsage(begin);
+  const milliseconds = (user + system) / 1000;
   assert.equal(lanes.lanes.reduce((sum, { tracks }) => sum + tracks[0].rows.length, 0), 250_000);
   assert.ok(milliseconds < 1000, `${milliseconds} ms`);
   context.diagnostic(`${Math.round(milliseconds)} ms`);

@@ -9,6 +9,7 @@ declare const process: {
   stdin: import("node:stream").Readable;
   exit(status: number): never;
   memoryUsage(): { arrayBuffers: number; heapUsed: number };
+  cpuUsage(before?: { user: number; system: number }): { user: number; system: number };
   on(event: string, listener: () => void): void;
   once(event: string, listener: () => void): void;
   emit(event: string, ...words: any[]): boolean;
