@@ -29,13 +29,13 @@ def problems_of_time(
 
 
 def an_hour(folder: Path) -> List[str]:
-    """A simulated hour with a fault each four minutes; tests/killed.py has the kills."""
-    return problems_of_time(folder, 11, 3600, 15, [])
+    """A simulated hour with a fault each four minutes, and two kill -9."""
+    return problems_of_time(folder, 11, 3600, 15, [4.0, 5.0])
 
 
 def arrivals(folder: Path) -> List[str]:
     """Bits in order of arrival: a simulated quarter of an hour."""
-    return problems_of_time(folder, 12, 900, 4, [], "arrivals")
+    return problems_of_time(folder, 12, 900, 4, [1.5], "arrivals")
 
 
 def a_day(folder: Path) -> List[str]:

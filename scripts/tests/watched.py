@@ -164,7 +164,9 @@ def problems_of_folder(folder: Path, record: Record) -> Iterator[str]:
     if found != files:
         yield f"{folder.name} has {sorted(found)}"
     frames = [line for line in (folder / "listing.txt").read_text().splitlines() if " frame " in line]
-    if not frames or frames[0].split()[8:9] not in (["0"], ["1"]) or frames[0][0] != "1":
+    begins = [(line[0], line.split()[8:9]) for line in frames[:1]]
+    rests_from_the_start = not frames and record["place"] < 10 * RATE
+    if not rests_from_the_start and begins not in ([("1", ["0"])], [("1", ["1"])]):
         yield f"{folder.name} begins with {frames[:1]}"
     date = record["wall"][:10]
     if f"It begins on {date}" not in summary:

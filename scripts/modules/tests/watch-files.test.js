@@ -7,6 +7,7 @@ import { join } from "node:path";
 import { test } from "node:test";
 
 import { ARRIVALS, PAIRS, Packer, octetsBefore } from "../watch/forms.js";
+import { Incidents } from "../watch/incidents.js";
 import { Journal } from "../watch/journal.js";
 import { untold } from "../watch/memory.js";
 import { Ring, SEGMENT } from "../watch/ring.js";
@@ -100,4 +101,16 @@ test("what the log has is told, what was open is cut, the rest is to be told", (
   const incidents = { open: { id: "1-3" }, waiting: [{ id: "1-1" }, { id: "1-2" }] };
   const kept = /** @type {any} */ ({ run: 1, wall: 0, kinds: {}, ...incidents });
   assert.deepEqual(untold(kept, [{ id: "1-1" }]), [{ id: "1-2" }, { id: "1-3", cut: true }]);
+});
+
+test("an incident goes on in the next run where that run was cut off in it, and in no other", () => {
+  const office = { zero: () => 0, keep() {}, save() {}, log() {} };
+  const incidents = new Incidents(2, { after: 5, longest: 600 }, office);
+  const before = [{ id: "1-1", causes: { burst: 1 }, cut: false }, { id: "1-2", causes: { rest: 1 }, cut: true }];
+  incidents.takeOver(/** @type {any} */ (before));
+  for (const [cause, wanted] of [["burst", undefined], ["rest", "1-2"]]) {
+    incidents.trigger(/** @type {string} */ (cause), 10, 20);
+    assert.equal(incidents.open?.continues, wanted);
+    incidents.close();
+  }
 });

@@ -100,7 +100,7 @@ export class Incidents {
   begun(cause, first, past) {
     const id = `${this.run}-${++this.count}`;
     const isEarly = first < GOES_ON * RATE;
-    const earlier = isEarly ? this.before.find(({ causes }) => causes[cause] !== undefined) : undefined;
+    const earlier = isEarly ? this.before.find(({ cut, causes }) => cut && causes[cause] !== undefined) : undefined;
     const more = earlier ? { continues: earlier.id } : {};
     return (this.open = { id, run: this.run, first, past, causes: {}, zero: this.office.zero(), cut: false, ...more });
   }
