@@ -153,8 +153,8 @@ class Cabinet(NamedTuple):
         return [record for record in self.log if record["event"] == "incident"]
 
 
-def problems_of_folder(folder: Path, record: Record) -> Iterator[str]:
-    """What is wrong with a folder: whole, of that time, and its bits begin at a command."""
+def problems_of_folder(folder: Path, record: Record, rests: bool = False) -> Iterator[str]:
+    """What is wrong with a folder: whole, of that time, its bits from a command on, unless its run began at rest."""
     if not folder.is_dir():
         yield f"{folder.name} is not there"
         return
@@ -165,8 +165,7 @@ def problems_of_folder(folder: Path, record: Record) -> Iterator[str]:
         yield f"{folder.name} has {sorted(found)}"
     frames = [line for line in (folder / "listing.txt").read_text().splitlines() if " frame " in line]
     begins = [(line[0], line.split()[8:9]) for line in frames[:1]]
-    rests_from_the_start = not frames and record["place"] < 10 * RATE
-    if not rests_from_the_start and begins not in ([("1", ["0"])], [("1", ["1"])]):
+    if begins not in ([("1", ["0"])], [("1", ["1"])]) and not (rests and not frames):
         yield f"{folder.name} begins with {frames[:1]}"
     date = record["wall"][:10]
     if f"It begins on {date}" not in summary:
@@ -191,7 +190,9 @@ def judged(cabinet: Cabinet, runs: Sequence[Watched]) -> List[str]:
         if not any(f.begin - 2 * RATE < past and first < f.past + 2 * RATE for f in cabinet.faults):
             problems.append(f"false: {record}")
         folder = record["saved"] and cabinet.folder / "watch" / "incidents" / record["saved"]
-        problems += list(problems_of_folder(folder, record)) if folder else [f"not saved: {record}"]
+        began = first - record["place"]
+        rests = any(fault.kind == "rest" and fault.begin <= began < fault.past for fault in cabinet.faults)
+        problems += list(problems_of_folder(folder, record, rests)) if folder else [f"not saved: {record}"]
     ids = [record["id"] for record in cabinet.incidents]
     return problems + [f"{found} twice" for found in set(ids) if ids.count(found) > 1]
 
