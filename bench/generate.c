@@ -3,7 +3,7 @@
  *     generate BITS SEED KIND text|packed [LINE]
  *     generate dictionary TYPES
  *
- * BITS is the number of bits, of two lines that of pairs; LINE how many a line of text has, 80 unless given. The
+ * BITS is the number of bits, of two lines that of pairs of bits; LINE how many a line of text has, 80 unless given. The
  * kinds:
  *
  *     polling    commands to stations, answers, idle lines; one frame in twenty has one bit flipped
@@ -19,6 +19,7 @@
  *                hundred has one bit flipped. Then there are flags, or an idle line
  *     pairs      polling on two lines: commands on the first, answers on the second; each rests at 1
  *                while the other sends
+ *     arrivals   the same as bits in the order of arrival, one of each line in turn
  *     first      the first line of `pairs`, alone
  *     second     the second
  *
@@ -30,7 +31,7 @@
 #include <string.h>
 
 static uint64_t state, left;
-static int packed, two, alone, sender, fill, held;
+static int packed, two, alone, in_turn, sender, fill, held;
 static unsigned marks, line = 80, types;
 
 static uint32_t draw(uint32_t below) {
@@ -40,16 +41,10 @@ static uint32_t draw(uint32_t below) {
     return (uint32_t)((state >> 16) % below);
 }
 
-/* A bit of the line that sends; of two lines the other rests at 1. One of them may be written alone. */
-static void put_bit(int bit) {
-    int mark = two ? bit << sender | 2 >> sender : bit;
-    if (alone)
-        mark = mark >> (alone - 1) & 1;
-    if (left == 0)
-        return;
-    left--;
+/* A mark of a capture: of one line a bit, of two lines a pair, or a bit with its line. */
+static void put_mark(int mark) {
     if (!packed) {
-        putchar('0' + mark);
+        putchar(in_turn ? "01oi"[mark] : '0' + mark);
         if (++marks % line == 0)
             putchar('\n');
         return;
@@ -60,6 +55,19 @@ static void put_bit(int bit) {
         putchar(held);
         fill = held = 0;
     }
+}
+
+/* A bit of the line that sends; of two lines the other rests at 1. One of them may be written alone. */
+static void put_bit(int bit) {
+    int mark = two ? bit << sender | 2 >> sender : bit;
+    if (left == 0)
+        return;
+    left--;
+    if (in_turn) {
+        put_mark(mark & 1);
+        put_mark(2 | mark >> 1);
+    } else
+        put_mark(alone ? mark >> (alone - 1) & 1 : mark);
 }
 
 static void put_flag(void) {
@@ -253,15 +261,24 @@ static int put_some(const char *kind) {
     return 1;
 }
 
-/* Takes the kind apart: two lines or one of them, and the types of a dialogue. */
+/* Takes the kind apart: two lines, one of them or their bits in turn, and the types of a dialogue. */
 static void use_kind(const char *kind) {
     if (strcmp(kind, "first") == 0)
         alone = 1;
     else if (strcmp(kind, "second") == 0)
         alone = 2;
-    two = alone || strcmp(kind, "pairs") == 0;
+    in_turn = strcmp(kind, "arrivals") == 0;
+    two = alone || in_turn || strcmp(kind, "pairs") == 0;
     if (strncmp(kind, "dialogue", 8) == 0)
         use_types(kind + 8);
+}
+
+/* The head of a packed capture: its form, and how many marks it has. */
+static void put_head(void) {
+    uint64_t count = in_turn ? 2 * left : left;
+    fputs(in_turn ? "TS2BITS3" : two && !alone ? "TS2BITS2" : "TS2BITS1", stdout);
+    for (int i = 0; i < 8; i++)
+        putchar((int)(count >> 8 * i & 0xff));
 }
 
 int main(int argc, char **argv) {
@@ -280,11 +297,8 @@ int main(int argc, char **argv) {
     use_kind(argv[3]);
     if (argc == 6)
         line = (unsigned)strtoul(argv[5], NULL, 10);
-    if (packed) {
-        fputs(two && !alone ? "TS2BITS2" : "TS2BITS1", stdout);
-        for (int i = 0; i < 8; i++)
-            putchar((int)(left >> 8 * i & 0xff));
-    }
+    if (packed)
+        put_head();
     put_flag();
     while (left > 0)
         if (!put_some(argv[3])) {

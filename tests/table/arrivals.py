@@ -1,6 +1,8 @@
 """Rows of captures of two lines with a clock each: of `list --arrivals` and `check --arrivals`."""
 
-from .captures import CALL_AND_REPLY, LAST_ORIGIN, packed_pairs
+from typing import List, Tuple
+
+from .captures import CALL, CALL_AND_REPLY, FLAG, LAST_ORIGIN, REPLY, packed_pairs
 from .case import Case, fault
 from .checks import report
 from .pairs import PACKED_CALL
@@ -46,6 +48,40 @@ RESTS = [
         f"1 8 49 frame 108300fde5\n1 57 72 idle\n{lines}",
     )
     for name, rest, lines in RESTED
+]
+
+# How often a frame and a flag are sent on each line, 49 bits, behind a flag.
+FRAMES = 60
+
+LINES = [(FLAG + times * (frame.replace(" ", "") + FLAG)) for times, frame in ((FRAMES, CALL), (FRAMES, REPLY))]
+
+
+def drifting(first: int, second: int) -> Tuple[bytes, str]:
+    """The lines, where so many bits of the first come in the time of so many of the second, and the list of frames.
+
+    A bit of the second line stands at the place of the last bit of the first before it.
+    """
+    times = [(number / speed, line) for line, speed in enumerate((first, second)) for number in range(len(LINES[line]))]
+    marks, numbers = bytearray(), [0, 0]
+    places: List[int] = []
+    told: List[str] = []
+    for _, line in sorted(times):
+        number = numbers[line]
+        numbers[line] += 1
+        marks += b"01oi"[2 * line + int(LINES[line][number]) :][:1]
+        places += [max(numbers[0] - 1, 0)] if line else []
+        if number % 49 == 7 and number > 7:  # the last bit of a flag that closes a frame
+            begin, last = number - 48, number - 8
+            at = (places[begin], places[last]) if line else (begin, last)
+            told.append(f"{line + 1} {at[0]} {at[1] + 1} frame {('108300fde5', '108380f561')[line]}\n")
+    return bytes(marks), "".join(told)
+
+
+DRIFTS = [
+    Case(f"{FRAMES} frames on each line, {form}, clocks {name}", ["list", *words, "--kind", "frame"], change(marks), told)
+    for name, speeds in [("alike", (1, 1)), ("2 % apart", (50, 51)), ("as 2 to 3", (2, 3)), ("as 7 to 1", (7, 1))]
+    for marks, told in [drifting(*speeds)]
+    for form, words, change in [("text", ["--bits", "--arrivals"], bytes), ("packed", ["--arrivals"], packed)]
 ]
 
 FAULTS = [
@@ -95,6 +131,7 @@ ARRIVALS = [
     ],
     Case("with space", BY_CALLS, b" \t\r\n".join(bytes([mark]) for mark in GATED), GATED_LINES),
     *RESTS,
+    *DRIFTS,
     *FAULTS,
     Case("check", ["check", *BY_CALLS[1:]], GATED, CHECKED),
     Case("check: packed", ["check", *PACKED_BY_CALLS[1:]], packed(GATED), CHECKED),

@@ -14,13 +14,13 @@ use Rattle.bus_tap.specs.Arrival.{Arrival}
 use Rattle.bus_clocks.specs.Arrival.{arrived, decides}
 use Rattle.bus_clocks.specs.Clocks.{IsAfterArrivals, bits_taken, two_clocks}
 use Rattle.bus_clocks.specs.Laws.{ArrivalsGrow}
-use Rattle.bus_tap.specs.Rested.{IsRestAfter, comes_to_rest, rested, fill}
+use Rattle.bus_tap.specs.Rested.{comes_to_rest, rested, fill}
 use Rattle.bus_tap.proofs.RestLemmas.{rested-more}
 use Rattle.bus_clocks.proofs.RoomLemmas.{own-count}
 use Rattle.bus_text.specs.declared.fault.ToolFault.{ToolFault}
 use Rattle.bus_text.specs.declared.fault.ToolFault.TheVariants as fault
 use Rattle.bus_calls.specs.Captures.{arrival_of, form_of_arrivals}
-use Rattle.bus_calls.specs.Internal.Arrivals.{arrivals_kind, clocks_behind}
+use Rattle.bus_calls.specs.Internal.Arrivals.{RestsAfter, arrivals_kind, clocks_behind}
 use Rattle.bus_calls.specs.Internal.Kinds.{FedOn, KindLaws}
 use Rattle.bus_calls.specs.Internal.Watching.{FeedStopsWith, FeedAfter, WatchStopsWith, IsSound, WatchAfter}
 use Rattle.bus_calls.specs.declared.arrivals.ClockAnalyser.{ClockAnalyser}
@@ -117,19 +117,17 @@ module _ {C : Type 0} (view : CheckView C) where
       rw (analyser, reporter)
       (record { is_after = followed.is_after; counts = followed.counts; page = followed.page })
 
-  -- a symbol was taken, or not
-  pub symbol-taken : (start now : Option (List ℕ)) (w : CaptureRun (ClockAnalyser C)) (b : List (Bool × Bool))
+  -- symbols were taken, or not
+  pub symbols-taken : (start now : Option (List ℕ)) (w : CaptureRun (ClockAnalyser C)) (b : List (Bool × Bool))
       (ys : List Arrival) (r : Result (Unit {0}) ToolFault)
-      → IsRestAfter w.analyser.rest (map arrival_of b)
-      → rested w.analyser.rest.most (map arrival_of b) ≡ ys
-      → MatchResult r (λ _. WatchAfter (arrivals_kind view) start now w ys)
+      → RestsAfter w.analyser.rest b ys → MatchResult r (λ _. WatchAfter (arrivals_kind view) start now w ys)
       (λ f. WatchStopsWith (arrivals_kind view) start now w ys f)
       → MatchResult r (λ _. FeedAfter (arrivals_kind view) start now w b)
       (λ f. FeedStopsWith (arrivals_kind view) start now w b f)
-  symbol-taken start now w b ys (Ok u) rule is taken =
-      record { rule = rule; bits = subst (WatchAfter (arrivals_kind view) start now w) (sym is) taken }
-  symbol-taken start now w b ys (Err f) rule is taken =
-      subst (λ (zs : List Arrival). WatchStopsWith (arrivals_kind view) start now w zs f) (sym is) taken
+  symbols-taken start now w b ys (Ok u) stands taken =
+      record { rule = stands.after; bits = subst (WatchAfter (arrivals_kind view) start now w) (sym stands.rested) taken }
+  symbols-taken start now w b ys (Err f) stands taken =
+      subst (λ (zs : List Arrival). WatchStopsWith (arrivals_kind view) start now w zs f) (sym stands.rested) taken
 
   -- the first of some arrivals, and the others
   arrivals-behind : (b xs : List Arrival) (n : ℕ) → (b ++ take n xs) ++ drop n xs ≡ b ++ xs

@@ -25,13 +25,13 @@ module _ {A : Type 0} (capture : List ℕ → CaptureOf A) (body : ℕ → List 
     (law : (head xs : List ℕ) → length head ≡ 16 → capture (head ++ xs)
     ≡ headed (fault head) (body (head_bits head) xs)) where
   -- a good head and what follows it
-  headed-here : (left : ℕ) (xs : List ℕ) (parts : IsHeaded fault After left xs) →
+  pub headed-here : (left : ℕ) (xs : List ℕ) (parts : IsHeaded fault After left xs) →
       capture xs ≡ body (head_bits parts.head) parts.body
   headed-here left xs parts = ap capture parts.all ∙ law parts.head parts.body parts.long
       ∙ ap (λ f. headed f (body (head_bits parts.head) parts.body)) parts.good
 
   -- with some octets more
-  headed-more : (left : ℕ) (xs ys : List ℕ) (parts : IsHeaded fault After left xs) →
+  pub headed-more : (left : ℕ) (xs ys : List ℕ) (parts : IsHeaded fault After left xs) →
       capture (xs ++ ys) ≡ body (head_bits parts.head) (parts.body ++ ys)
   headed-more left xs ys parts =
       ap capture (ap (λ (zs : List ℕ). zs ++ ys) parts.all ∙ append_assoc parts.head parts.body ys)
@@ -49,6 +49,18 @@ module _ {A : Type 0} (capture : List ℕ → CaptureOf A) (body : ℕ → List 
       (body (head_bits parts.head) parts.body).bits ≡ [] → (capture head).bits ≡ []
   head-alone left head parts none = ap (λ (c : CaptureOf A). c.bits) (headed-here left head parts) ∙ none
 
+  -- more octets follow the same head
+  pub head-followed : (left later : ℕ) (xs ys : List ℕ) (parts : IsHeaded fault After left xs) →
+      After (head_bits parts.head) (parts.body ++ ys) later → IsHeaded fault After later (xs ++ ys)
+  head-followed left later xs ys parts after = record {
+    head = parts.head;
+    body = parts.body ++ ys;
+    all = ap (λ (zs : List ℕ). zs ++ ys) parts.all ∙ append_assoc parts.head parts.body ys;
+    long = parts.long;
+    good = parts.good;
+    after = after;
+  }
+
   -- more octets were taken
   pub octets-read : (left later : ℕ) (xs ys : List ℕ) (bits : List A)
       → ((n : ℕ) (zs : List ℕ) → After n zs left → After n (zs ++ ys) later
@@ -57,14 +69,7 @@ module _ {A : Type 0} (capture : List ℕ → CaptureOf A) (body : ℕ → List 
       × ((capture (xs ++ ys)).bits ≡ (capture xs).bits ++ bits)
   octets-read left later xs ys bits given parts =
       let is = given (head_bits parts.head) parts.body parts.after in (
-        record {
-          head = parts.head;
-          body = parts.body ++ ys;
-          all = ap (λ (zs : List ℕ). zs ++ ys) parts.all ∙ append_assoc parts.head parts.body ys;
-          long = parts.long;
-          good = parts.good;
-          after = is.0;
-        },
+        head-followed left later xs ys parts is.0,
         ap (λ (c : CaptureOf A). c.bits) (headed-more left xs ys parts) ∙ is.1
             ∙ ap (λ (b : List A). b ++ bits) (sym (ap (λ (c : CaptureOf A). c.bits) (headed-here left xs parts))),
       )

@@ -7,6 +7,7 @@ ghost use Rattle.bus_calls.specs.Internal.Watching.{WatchStopsWith, IsSame, IsSo
 ghost use Rattle.bus_tap.specs.Arrival.{Arrival};
 ghost use Rattle.bus_tap.specs.Rested.{fill};
 
+use crate::arrival_block::ArrivalBlock;
 use crate::capture_kind::CaptureKind;
 use crate::run::CaptureRun;
 use arrayvec::ArrayVec;
@@ -55,28 +56,6 @@ fn analyse_arrivals<C: Check, W: Write>(
         return Err(ToolFault::PlaceLimit);
     }
     Ok(())
-}
-
-/// An arrival and, where the second line comes to rest with it, fifteen 1s of that line; and how many these are.
-fn filled(arrival: Arrival, comes_to_rest: bool) -> ([Arrival; 16], usize)
-    ensures all { take result.1 result.0 ≡ arrival ∷ fill comes_to_rest }
-    ensures few { result.1 ≤ 16 }
-{
-    let mut arrivals = [(Line::Second, true); 16];
-    arrivals[0] = arrival;
-    (arrivals, if comes_to_rest { 16 } else { 1 })
-}
-
-/// A symbol as an arrival.
-fn arrival(symbol: (bool, bool)) -> Arrival
-    ensures { result ≡ arrival_of symbol }
-{
-    let (bit, is_second) = symbol;
-    if is_second {
-        (Line::Second, bit)
-    } else {
-        (Line::First, bit)
-    }
 }
 
 impl<C: Check> CaptureKind for ClockAnalyser<C> {
@@ -150,28 +129,35 @@ impl<C: Check> CaptureKind for ClockAnalyser<C> {
         run: &mut CaptureRun<Self>,
         w: &mut W,
     ) -> Result<(), ToolFault> {
-        let arrival = arrival(symbol);
-        let comes_to_rest = run.analyser.rest.push(arrival.0, arrival.1);
-        let (arrivals, count) = filled(arrival, comes_to_rest);
-        analyse_arrivals(&arrivals[..count], run, w)
+        let mut block = ArrivalBlock::new();
+        block.put(symbol, &mut run.analyser.rest);
+        analyse_arrivals(block.as_slice(), run, w)
     }
 
-    /// Arrivals are looked at one by one.
     fn analyse_text<W: Write>(
-        _octets: &[u8],
-        _run: &mut CaptureRun<Self>,
-        _w: &mut W,
+        octets: &[u8],
+        run: &mut CaptureRun<Self>,
+        w: &mut W,
     ) -> Result<usize, ToolFault> {
-        Ok(0)
+        Self::laws();
+        let mut block = ArrivalBlock::new();
+        let taken = block.put_text(octets, &mut run.analyser.rest);
+        analyse_arrivals(block.as_slice(), run, w)?;
+        Ok(taken)
     }
 
     fn analyse_packed<W: Write>(
-        _body: &mut PackedPairs,
-        _octets: &[u8],
-        _run: &mut CaptureRun<Self>,
-        _w: &mut W,
+        body: &mut PackedPairs,
+        octets: &[u8],
+        run: &mut CaptureRun<Self>,
+        w: &mut W,
     ) -> Result<usize, ToolFault> {
-        Ok(0)
+        arrivals_are_head_and_body();
+        Self::laws();
+        let mut block = ArrivalBlock::new();
+        let taken = block.put_packed(body, octets, &mut run.analyser.rest);
+        analyse_arrivals(block.as_slice(), run, w)?;
+        Ok(taken)
     }
 
     fn laws() {

@@ -2,6 +2,7 @@
 //! lines. A request names one of these calls, or the text of one frame, and its execution ends with a status.
 #![tactic(auto)]
 
+mod arrival_block;
 mod arrivals;
 mod capture_kind;
 mod check;

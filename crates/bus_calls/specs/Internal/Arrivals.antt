@@ -1,11 +1,11 @@
 -- What the proofs know of two lines with a clock each.
-use Rattle.std.specs.Prelude.{ℕ, Bool, map}
+use Rattle.std.specs.Prelude.{◌≡◌, ℕ, Bool, List, map}
 use Rattle.bus_bits.specs.Packed.{PairsAfter, arrival_head_fault}
 use Rattle.bus_fcs.specs.Check.{CheckView}
 use Rattle.bus_watch.specs.Watch.{Watch}
 use Rattle.bus_tap.specs.Arrival.{Arrival}
 use Rattle.bus_clocks.specs.Clocks.{IsAfterArrivals, bits_taken, two_clocks}
-use Rattle.bus_tap.specs.Rested.{IsRestAfter}
+use Rattle.bus_tap.specs.Rested.{IsRestAfter, RestState, rested}
 use Rattle.bus_calls.specs.Captures.{arrival_of, form_of_arrivals}
 use Rattle.bus_calls.specs.Internal.Headed.{IsHeaded}
 use Rattle.bus_calls.specs.Internal.Kinds.{KindView}
@@ -30,3 +30,8 @@ arrivals_kind view = record {
   is_fed = λ a xs. IsRestAfter a.rest (map arrival_of xs);
   is_body = λ left xs. IsHeaded arrival_head_fault PairsAfter left xs;
 }
+
+-- the rule of rest stands after these symbols, which give these arrivals
+pub record RestsAfter (r : RestState) (b : List (Bool × Bool)) (xs : List Arrival) : Type 0 where
+  pub after : IsRestAfter r (map arrival_of b)
+  pub rested : rested r.most (map arrival_of b) ≡ xs
