@@ -24,17 +24,20 @@ use Rattle.bus_pairing.proofs.SeenLemmas.{seen-more}
 use Rattle.bus_watch.specs.Internal.Decodes.{line_reports_of}
 use Rattle.bus_watch.proofs.AnalyserViewLemmas.{whole}
 use Rattle.bus_tap.specs.Arrival.{Arrival, own}
-use Rattle.bus_clocks.specs.Arrival.{place_of, at_places, decides, arrived}
-use Rattle.bus_clocks.specs.Clocks.{ClockState, PlacesState, KeepsPlaces, IsAfterArrivals, AdvancesArrivals}
+use Rattle.bus_tap.specs.Arrival.{place_of, at_places, decides, arrived}
+use Rattle.bus_clocks.specs.Clocks.{ClockState, IsAfterArrivals, AdvancesArrivals}
+use Rattle.bus_tap.specs.Places.{PlacesState, KeepsPlaces}
 use Rattle.bus_clocks.specs.Clocks.{arrival_reports}
 use Rattle.bus_clocks.specs.Clocks.{CountsOn}
-use Rattle.bus_clocks.specs.Internal.Pushes.{DecodesBit, OpensWith, Notes, IsLocated, AreLocated, IsLocatable}
-use Rattle.bus_clocks.specs.Internal.Pushes.{AdvancesConversationBy, FitsPast}
-use Rattle.bus_clocks.specs.Laws.{ArrivalsGrow}
+use Rattle.bus_clocks.specs.Internal.Pushes.{DecodesBit, OpensWith}
+use Rattle.bus_tap.specs.Places.{Notes, IsLocated, AreLocated, IsLocatable}
+use Rattle.bus_clocks.specs.Internal.Pushes.{AdvancesConversationBy}
+use Rattle.bus_tap.specs.Places.{FitsPast}
+use Rattle.bus_tap.specs.Laws.{ArrivalsGrow}
 use Rattle.bus_tap.proofs.ArrivalLemmas.{own-append, before-append, before-within}
-use Rattle.bus_clocks.proofs.ArrivalLemmas.{IsNear, report-near}
-use Rattle.bus_clocks.proofs.ArrivalLemmas.{decides-first, decides-second}
-use Rattle.bus_clocks.proofs.PlacesLemmas.{places-first, places-second, was-open, WasOpen, begun-within}
+use Rattle.bus_tap.proofs.ArrivedLemmas.{IsNear, report-near}
+use Rattle.bus_tap.proofs.ArrivedLemmas.{decides-first, decides-second}
+use Rattle.bus_tap.proofs.PlacesLemmas.{places-first, places-second, was-open, WasOpen, begun-within}
 
 -- an arrival leads from old to new; it decides these reports, at most one, of which this is seen
 pub record Pushes {C : Type 0} (view : CheckView C) (old : ClockState C) (x : Arrival)

@@ -1,5 +1,6 @@
 -- Definitions that the contracts cite.
 pub mod Arrival
+pub mod Places
 pub mod Laws
 pub mod Rested
 pub mod Sampled

@@ -14,10 +14,8 @@ use Rattle.bus_line.proofs.DueLemmas.{class-due}
 use Rattle.bus_line.proofs.DueStreamLemmas.{flag-fits, abort-fits, mark-fits, flag-not_abort}
 use Rattle.bus_line.proofs.ReportLemmas.{begun-it}
 use Rattle.bus_pairing.specs.declared.line.Line.TheVariants.{First, Second}
-use Rattle.bus_tap.specs.Arrival.{Arrival, own}
-use Rattle.bus_clocks.specs.Arrival.{place_of}
-use Rattle.bus_clocks.specs.Clocks.{PlacesState, KeepsPlaces}
-use Rattle.bus_clocks.specs.Internal.Pushes.{Notes}
+use Rattle.bus_tap.specs.Arrival.{Arrival, own, place_of}
+use Rattle.bus_tap.specs.Places.{PlacesState, KeepsPlaces, Notes}
 use Rattle.bus_tap.proofs.ArrivalLemmas.{own-append, before-append, before-now}
 
 -- marks stay when bits are added, and flags that fit were there

@@ -1,15 +1,15 @@
 //! The places of the second line's bits.
 
 ghost use Rattle.std.specs.Prelude.{◌≡◌, ◌+◌, ◌-◌, ◌%◌, ◌≤◌, ℕ, replicate, Some, slice_get};
-ghost use Rattle.bus_clocks.specs.Internal.Pushes.{AreLocated, FitsPast, IsLocatable, IsLocated, Notes};
+ghost use Rattle.bus_tap.specs.Places.{AreLocated, FitsPast, IsLocatable, IsLocated, Notes};
 
+use bus_bits::Span;
 use bus_line::{Event, EventKind};
-use bus_pairing::Span;
 use std::marker::Model;
 
 /// What is kept of the places of the second line's bits.
 #[derive(Drop)]
-pub(crate) struct BitPlaces {
+pub struct BitPlaces {
     /// The place at which a bit of the second line stands now: that of the last bit of the first line.
     reached: u64,
     /// The places of the last sixteen bits, that of bit `k` at `k % 16`. The last bit of what a bit decides is among
@@ -20,11 +20,11 @@ pub(crate) struct BitPlaces {
 }
 
 impl Model for BitPlaces {
-    ghost use Rattle.bus_clocks.specs.Clocks.{PlacesState};
+    ghost use Rattle.bus_tap.specs.Places.{PlacesState};
 
     ghost Value = { PlacesState };
 
-    ghost use Rattle.bus_clocks.specs.Internal.ClockView.{places_state, HasSixteen};
+    ghost use Rattle.bus_tap.specs.Internal.PlacesView.{places_state, HasSixteen};
 
     ghost view = { places_state };
 
@@ -33,7 +33,7 @@ impl Model for BitPlaces {
 
 impl BitPlaces {
     /// Of no bits.
-    pub(crate) fn new(origin: u64) -> Self
+    pub fn new(origin: u64) -> Self
         ensures { result ≡ record { reached = origin; recent = replicate 16 origin; opened = origin } }
     {
         BitPlaces {
@@ -44,14 +44,14 @@ impl BitPlaces {
     }
 
     /// The bit of the first line that has this place arrived.
-    pub(crate) fn reach(&mut self, place: u64)
+    pub fn reach(&mut self, place: u64)
         ensures { self.new ≡ record self.old { reached = place } }
     {
         self.reached = place;
     }
 
     /// Bit `k` of the second line arrived, with which a piece begins if `opens`.
-    pub(crate) fn note(&mut self, k: u64, opens: bool)
+    pub fn note(&mut self, k: u64, opens: bool)
         ensures { Notes self.old self.new k opens }
     {
         self.recent[(k % 16) as usize] = self.reached;
@@ -61,7 +61,7 @@ impl BitPlaces {
     }
 
     /// The open piece of a line that had so many bits.
-    pub(crate) fn open_span(&self, count: u64) -> Span
+    pub fn open_span(&self, count: u64) -> Span
         requires some { 1 ≤ count }
         requires fits { FitsPast self.now (count - 1) }
         ensures first { result.first ≡ self.now.opened }
@@ -74,7 +74,7 @@ impl BitPlaces {
     }
 
     /// What the last bit decided, its span in places.
-    pub(crate) fn located(&self, event: Event) -> Event
+    pub fn located(&self, event: Event) -> Event
         requires { IsLocatable self.now event }
         ensures { IsLocated self.now event result }
     {
@@ -93,7 +93,7 @@ impl BitPlaces {
     }
 
     /// The same, if it decided anything.
-    pub(crate) fn located_option(&self, event: Option<Event>) -> Option<Event>
+    pub fn located_option(&self, event: Option<Event>) -> Option<Event>
         requires { (e : Event) → event ≡ Some e → IsLocatable self.now e }
         ensures { AreLocated self.now event result }
     {
