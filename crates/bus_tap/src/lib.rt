@@ -17,6 +17,6 @@ pub use number::number_of;
 pub use places::BitPlaces;
 pub use rest::RestRule;
 pub use sampler::{Edges, Sampler};
-pub use tap::{SampleLimit, Taken, Tap};
+pub use tap::{ConsumedSamples, SampleLimit, Tap};
 pub use wires::{Wire, Wires};
 pub use words::{TapWords, WireLevel};
