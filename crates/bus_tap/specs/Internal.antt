@@ -3,4 +3,3 @@ pub mod RestView
 pub mod Held
 pub mod Tallies
 pub mod Taps
-pub mod PlacesView
