@@ -20,8 +20,8 @@ SIZES = {"u8": 1, "u16": 2, "u32": 4, "u64": 8, "usize": 8}
 C_TYPES = {"u8": "uint8_t", "u16": "uint16_t", "u32": "uint32_t", "u64": "uint64_t", "usize": "uint64_t"}
 
 # Files of the crates below with structs that cross to C.
-TAPPED = ["facts", "places", "words"]
-BELOW = ["crates/bus_line/src/decoder_words.rt", *(f"crates/bus_tap/src/{name}.rt" for name in TAPPED)]
+BELOW = ["crates/bus_line/src/decoder_words.rt"]
+BELOW += [f"crates/bus_tap/src/{name}.rt" for name in ("facts", "places", "words")]
 
 # Structs whose fields the header has among those of the struct that they are in, and what it calls some of these. The
 # last field of each ends where the struct does.
