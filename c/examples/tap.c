@@ -17,19 +17,15 @@
 static const char *const kinds[] = {"", "frame", "damaged", "overlong", "abort", "idle"};
 static const char *const causes[] = {"", "unstuffed", "short", "unaligned", "fcs"};
 
-/* Two lines. The first line's bits number the places; a bit of the second has that of the last one before it. */
 struct bus {
     struct port1_tap tap;
     struct port1_rest rest;
-    struct port1_line lines[2];
-    uint64_t reached;    /* the place of the first line's last bit */
-    uint64_t recent[16]; /* those of the second line's last bits, that of bit k at k % 16 */
-    uint64_t opened;     /* that of the bit with which its open piece began */
+    struct port1_clocks clocks;
 };
 
 /* Begins a line of the listing. */
 static void begin(unsigned line, uint64_t first, uint64_t past, const char *word) {
-    printf("%u %llu %llu %s", line + 1, (unsigned long long)first, (unsigned long long)past, word);
+    printf("%u %llu %llu %s", line, (unsigned long long)first, (unsigned long long)past, word);
 }
 
 static void print(unsigned line, const struct port1_line *from, const struct port1_report *report) {
@@ -44,45 +40,24 @@ static void print(unsigned line, const struct port1_line *from, const struct por
     putchar('\n');
 }
 
-/* Bit `k` of the second line has come, and has decided this; its place is noted, and the report told in places. */
-static int locate(struct bus *bus, uint64_t k, struct port1_report *report) {
-    uint64_t first = 0;
-    uint8_t has_begun = 0;
-    if (port1_line_open(&bus->lines[1], &has_begun, &first))
-        return 0;
-    bus->recent[k % 16] = bus->reached;
-    if (has_begun && first == k)
-        bus->opened = bus->reached;
-    if (report->kind != PORT1_NONE) {
-        report->first = report->kind == PORT1_IDLE ? bus->recent[report->first % 16] : bus->opened;
-        report->past = bus->recent[(report->past - 1) % 16] + 1;
-    }
-    return 1;
-}
-
-/* Takes a bit of a line, 0 or 1, and lists what it decides. */
-static int push(struct bus *bus, unsigned line, uint8_t bit) {
-    struct port1_line *to = &bus->lines[line];
+/* Takes a bit of a line, and lists what it decides. */
+static int push(struct port1_clocks *clocks, const struct port1_arrival *arrival) {
     struct port1_report report = {0, 0, 0, 0};
-    uint64_t k = to->place;
-    if (port1_line_push(to, bit, &report))
-        return 0;
-    if (line == 0)
-        bus->reached = k;
-    else if (!locate(bus, k, &report))
+    if (port1_clocks_push(clocks, arrival, &report))
         return 0;
     if (report.kind != PORT1_NONE)
-        print(line, to, &report);
+        print(arrival->line, arrival->line == 1 ? &clocks->first : &clocks->second, &report);
     return 1;
 }
 
 /* Takes a bit that arrives, and those that bring the second line to rest with it. */
 static int take(struct bus *bus, const struct port1_arrival *arrival) {
+    static const struct port1_arrival one = {2, 1};
     uint8_t rests = 0;
-    if (port1_rest_push(&bus->rest, arrival, &rests) || !push(bus, arrival->line - 1u, arrival->bit))
+    if (port1_rest_push(&bus->rest, arrival, &rests) || !push(&bus->clocks, arrival))
         return 0;
     for (int k = 0; rests && k < IDLE_ONES; k++)
-        if (!push(bus, 1, 1))
+        if (!push(&bus->clocks, &one))
             return 0;
     return 1;
 }
@@ -102,15 +77,11 @@ static int feed(struct bus *bus, const uint8_t *octets, uint64_t count) {
 }
 
 /* Lists the piece of a line that nothing has ended. */
-static void print_open(const struct bus *bus, unsigned line) {
-    uint64_t first = 0, past = bus->lines[line].place;
+static void print_open(const struct port1_clocks *clocks, unsigned line) {
+    uint64_t first = 0, past = 0;
     uint8_t has_begun = 0;
-    if (port1_line_open(&bus->lines[line], &has_begun, &first) || !has_begun)
-        return;
-    if (line == 0)
+    if (port1_clocks_open(clocks, line, &has_begun, &first, &past) == PORT1_OK && has_begun)
         begin(line, first, past, "open\n");
-    else
-        begin(line, bus->opened, bus->recent[(past - 1) % 16] + 1, "open\n");
 }
 
 static struct port1_wire wire(const char *word) {
@@ -129,15 +100,13 @@ int main(int argc, char **argv) {
     wires.first_data = wire(argv[2]);
     wires.second_clock = wire(argv[3]);
     wires.second_data = wire(argv[4]);
-    if (port1_tap_init(&bus.tap, &wires, 1, 0) || port1_rest_init(&bus.rest, SILENCE))
+    if (port1_tap_init(&bus.tap, &wires, 1, 0) || port1_rest_init(&bus.rest, SILENCE)
+        || port1_clocks_init(&bus.clocks, 256, 0))
         return 2;
-    for (unsigned line = 0; line < 2; line++)
-        if (port1_line_init(&bus.lines[line], 256, 0))
-            return 2;
     while ((count = fread(octets, 1, sizeof octets, stdin)) > 0)
         if (!feed(&bus, octets, count))
             return 2;
-    print_open(&bus, 0);
-    print_open(&bus, 1);
+    print_open(&bus.clocks, 1);
+    print_open(&bus.clocks, 2);
     return fflush(stdout) == 0 && !ferror(stdout) ? 0 : 2;
 }

@@ -22,6 +22,8 @@
  *     facts are those of crates/bus_tap/specs/Facts.antt;
  *   - after port1_rest_init, and as long as only port1_rest_push writes the rule, the second line comes to rest just
  *     where the definition (crates/bus_tap/specs/Rested.antt) says, for the arrivals so far;
+ *   - after port1_clocks_init, and as long as only port1_clocks_push writes the decoders, the reports are those of the
+ *     definition (crates/bus_tap/specs/Arrival.antt) for the arrivals so far: all of them, in order, each once;
  *   - where a call refuses, with PORT1_BAD_STATE, PORT1_BAD_ARGUMENT, PORT1_BAD_LENGTH or PORT1_NO_ROOM,
  *     nothing has changed but what is said there.
  *
@@ -357,6 +359,37 @@ uint32_t port1_rest_init(struct port1_rest *rest, uint64_t most);
  * changed. */
 uint32_t port1_rest_push(struct port1_rest *rest, const struct port1_arrival *arrival, uint8_t *rests);
 
+/* Decoders of two lines with a clock each: 864 octets. They hold no pointer, so they may be copied and moved. Read of
+ * both lines what struct port1_line says; write nothing. */
+struct port1_clocks {
+    struct port1_line first, second; /* the places of `second` count its own bits, from 0 */
+    uint64_t reached;                /* the place of the first line's last bit */
+    uint64_t recent[16], opened;
+};
+
+/* Makes decoders that took no bit, whatever the memory holds. It takes and returns what port1_line_init does; the first
+ * line's first bit has the place `origin`. */
+uint32_t port1_clocks_init(struct port1_clocks *clocks, uint64_t longest, uint64_t origin);
+
+/* Takes a bit that arrives. `*report` is what it decided on its line, whose `octets` then have the frame.
+ *
+ * The first line's bits number the places. A bit of the second line stands at the place of the last bit of the first
+ * line before it, and at the origin if there is none; so does its report, from the place of its first bit to past that
+ * of its last one. Reports come in the order in which port1_pair_take wants them.
+ *
+ * PORT1_PLACE_LIMIT: a bit of the first line would have place 2^60, or the second line had 2^60 bits.
+ * PORT1_BAD_ARGUMENT: just where the line is neither 1 nor 2. PORT1_BAD_STATE: the memory does not hold two decoders.
+ * Where it does not return PORT1_OK, nothing has changed. */
+uint32_t port1_clocks_push(struct port1_clocks *clocks, const struct port1_arrival *arrival,
+                           struct port1_report *report);
+
+/* Says whether a piece has begun on line 1 or 2 that nothing has ended yet: `*has_begun` is then 1, `*first` the place
+ * of its first bit, and `*past` the place just past its last one; else `*has_begun` is 0 and both are as they were.
+ * PORT1_BAD_ARGUMENT: just where `line` is neither 1 nor 2. PORT1_BAD_STATE: the memory does not hold two decoders.
+ * Nothing has changed. */
+uint32_t port1_clocks_open(const struct port1_clocks *clocks, uint32_t line, uint8_t *has_begun, uint64_t *first,
+                           uint64_t *past);
+
 /* The layout that the library was compiled with. Where the language has no assert of its own, an array of a negative
  * size is the error. */
 #if defined(__cplusplus) && __cplusplus >= 201103L
@@ -466,6 +499,12 @@ PORT1_SIZE(rest, 24);
 PORT1_PLACE(rest, most, 0);
 PORT1_PLACE(rest, silent, 8);
 PORT1_PLACE(rest, ones, 16);
+PORT1_SIZE(clocks, 864);
+PORT1_PLACE(clocks, first, 0);
+PORT1_PLACE(clocks, second, 360);
+PORT1_PLACE(clocks, reached, 720);
+PORT1_PLACE(clocks, recent, 728);
+PORT1_PLACE(clocks, opened, 856);
 #undef PORT1_PLACE
 #undef PORT1_SIZE
 #undef PORT1_ASSERT

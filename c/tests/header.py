@@ -20,11 +20,12 @@ SIZES = {"u8": 1, "u16": 2, "u32": 4, "u64": 8, "usize": 8}
 C_TYPES = {"u8": "uint8_t", "u16": "uint16_t", "u32": "uint32_t", "u64": "uint64_t", "usize": "uint64_t"}
 
 # Files of the crates below with structs that cross to C.
-BELOW = ["crates/bus_line/src/decoder_words.rt", "crates/bus_tap/src/facts.rt", "crates/bus_tap/src/words.rt"]
+BELOW = ["crates/bus_line/src/decoder_words.rt"]
+BELOW += [f"crates/bus_tap/src/{name}.rt" for name in ("facts", "places", "words")]
 
 # Structs whose fields the header has among those of the struct that they are in, and what it calls some of these. The
 # last field of each ends where the struct does.
-PARTS = ["DecoderWords", "LentFrame", "TapWords"]
+PARTS = ["DecoderWords", "LentFrame", "TapWords", "BitPlaces"]
 RENAMED = {"len": "count", "register": "check"}
 
 STRUCT = re.compile(r"^((?:#\[[^\n]*\]\n)+)pub struct (\w+) \{\n(.*?)^\}", re.MULTILINE | re.DOTALL)

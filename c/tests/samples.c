@@ -1,5 +1,6 @@
-/* Calls of the C library on samples, and what each is to do: what c/include/port1.h says of taps and of the rule of
- * rest. Each that does otherwise is a line on standard output. It is compiled as C99, C11 and C++. */
+/* Calls of the C library on samples, and what each is to do: what c/include/port1.h says of taps, of the rule of rest
+ * and of two lines with a clock each. Each that does otherwise is a line on standard output. It is compiled as C99, C11
+ * and C++. */
 #include "want.h"
 
 static uint8_t octets[9];
@@ -178,6 +179,103 @@ static void rest_of_a_line(void) {
     WANT(memcmp(&rest, &before, sizeof rest) == 0);
 }
 
+/* Call and answer, each between two flags, and the octets of the answer. */
+static const char call[] = "01111110" "00001000110000010000000010111110110100111" "01111110";
+static const char answer[] = "01111110" "00001000110000010000000110101111100000110" "01111110";
+static const uint8_t answered[] = {0x10, 0x83, 0x80, 0xf5, 0x61};
+static struct port1_clocks clocks;
+static struct port1_report frames[2];
+
+/* A bit arrives. A frame that it ends is kept. */
+static void arrive(uint8_t line, int bit) {
+    struct port1_arrival arrival;
+    struct port1_report report = {7, 8, 9, 10};
+    arrival.line = line;
+    arrival.bit = (uint8_t)bit;
+    WANT(port1_clocks_push(&clocks, &arrival, &report) == PORT1_OK && report.kind <= PORT1_IDLE);
+    if (report.kind == PORT1_FRAME)
+        frames[line - 1] = report;
+}
+
+/* Bits of the first line arrive, which sends the call and then ones. */
+static void arrive_first(unsigned count) {
+    for (; count > 0; count--) {
+        uint64_t k = clocks.first.place - clocks.first.origin;
+        arrive(1, k >= sizeof call - 1 || call[k] == '1');
+    }
+}
+
+/* A bit of the second line stands at the place of the last bit of the first line before it. */
+static void clocks_places(void) {
+    static const struct {
+        uint64_t origin;
+        unsigned before, between; /* bits of the first line before the answer, and before each further bit of it */
+        uint64_t first, past;
+    } rows[] = {{0, 60, 1, 68, 109}, {1000, 60, 1, 1068, 1109}, {0, 66, 0, 65, 66}, {9, 57, 3, 92, 213}};
+    for (size_t k = 0; k < sizeof rows / sizeof *rows; k++) {
+        memset(&clocks, 0xa5, sizeof clocks);
+        WANT(port1_clocks_init(&clocks, 256, rows[k].origin) == PORT1_OK);
+        arrive_first(rows[k].before);
+        for (size_t i = 0; i < sizeof answer - 1; i++) {
+            arrive_first(rows[k].between);
+            arrive(2, answer[i] == '1');
+        }
+        WANT(frames[0].first == rows[k].origin + 8 && frames[0].past == rows[k].origin + 49);
+        WANT(frames[1].first == rows[k].first && frames[1].past == rows[k].past);
+        WANT(clocks.second.count == 5 && memcmp(clocks.second.octets, answered, 5) == 0);
+    }
+}
+
+/* Before the first line's first bit the second's stand at the origin; open pieces are told in places. */
+static void clocks_open(void) {
+    uint64_t first = 5, past = 6;
+    uint8_t has_begun = 9;
+    WANT(port1_clocks_init(&clocks, 256, 40) == PORT1_OK);
+    WANT(port1_clocks_open(&clocks, 2, &has_begun, &first, &past) == PORT1_OK);
+    WANT(has_begun == 0 && first == 5 && past == 6);
+    for (size_t i = 0; i < 10; i++)
+        arrive(2, answer[i] == '1');
+    WANT(port1_clocks_open(&clocks, 2, &has_begun, &first, &past) == PORT1_OK);
+    WANT(has_begun == 1 && first == 40 && past == 41);
+    arrive_first(20);
+    arrive(2, 0);
+    WANT(port1_clocks_open(&clocks, 2, &has_begun, &first, &past) == PORT1_OK && first == 40 && past == 60);
+    WANT(port1_clocks_open(&clocks, 1, &has_begun, &first, &past) == PORT1_OK && first == 48 && past == 60);
+}
+
+/* What the calls refuse, and that nothing changes then; places of any content do no harm. */
+static void clocks_refusals(void) {
+    static const struct {
+        struct port1_arrival arrival;
+        uint32_t status, zeros;
+    } rows[] = {{{0, 1}, PORT1_BAD_ARGUMENT, 0}, {{3, 1}, PORT1_BAD_ARGUMENT, 0}, {{1, 1}, PORT1_PLACE_LIMIT, 0},
+                {{1, 1}, PORT1_BAD_STATE, 1},    {{2, 1}, PORT1_BAD_STATE, 1},    {{1, 1}, PORT1_BAD_STATE, 2},
+                {{2, 1}, PORT1_BAD_STATE, 2}};
+    for (size_t k = 0; k < sizeof rows / sizeof *rows; k++) {
+        struct port1_report report = {7, 8, 9, 10}, untold = report;
+        struct port1_clocks before;
+        uint64_t first = 5, past = 6;
+        uint8_t has_begun = 9;
+        WANT(port1_clocks_init(&clocks, 256, LIMIT) == PORT1_OK);
+        if (rows[k].zeros)
+            memset(rows[k].zeros == 1 ? &clocks.first : &clocks.second, 0, sizeof clocks.first);
+        before = clocks;
+        WANT(port1_clocks_push(&clocks, &rows[k].arrival, &report) == rows[k].status);
+        WANT(memcmp(&clocks, &before, sizeof clocks) == 0 && memcmp(&report, &untold, sizeof report) == 0);
+        if (rows[k].status == PORT1_PLACE_LIMIT)
+            continue;
+        WANT(port1_clocks_open(&clocks, rows[k].arrival.line, &has_begun, &first, &past) == rows[k].status);
+        WANT(has_begun == 9 && first == 5 && past == 6);
+    }
+    WANT(port1_clocks_init(&clocks, 2, 0) == PORT1_BAD_LENGTH);
+    WANT(port1_clocks_init(&clocks, 3, LIMIT + 1) == PORT1_PLACE_LIMIT && clocks.first.longest == 256);
+    WANT(port1_clocks_init(&clocks, 256, 0) == PORT1_OK);
+    memset(&clocks.reached, 0xff, sizeof clocks - offsetof(struct port1_clocks, reached));
+    for (size_t i = 0; i < sizeof answer - 1; i++)
+        arrive(2, answer[i] == '1');
+    WANT(frames[1].first == UINT64_MAX && frames[1].past == UINT64_MAX);
+}
+
 int main(void) {
     tap_bits();
     tap_facts();
@@ -185,5 +283,8 @@ int main(void) {
     tap_refusals();
     any_state();
     rest_of_a_line();
+    clocks_places();
+    clocks_open();
+    clocks_refusals();
     return wrong;
 }

@@ -277,27 +277,48 @@ if decoder.open is not None:
     print(decoder.open, decoder.place, "open")
 """
 
-# Bits of one line as text, as `port1 list --bits --dict` lists them, the names of the dictionary aside.
+# Bits as text, of one line or as they arrive on two, as `port1 list --bits --dict` lists them, the names of the
+# dictionary aside.
 PAIRED = """import json, sys
 from port1 import *
+from port1.taps import Arrival, RestRule, TwoClocks
 entries = {ftype: Entry(*entry) for ftype, *entry in json.loads(sys.argv[1])}
-decoder, pairing = LineDecoder(max(3 + entry.length for entry in entries.values())), Pairing(entries)
+longest = max((3 + entry.length for entry in entries.values()), default=256)
+is_two, pairing = sys.argv[2:] == ["arrivals"], Pairing(entries)
+decoder = TwoClocks(longest) if is_two else LineDecoder(longest)
 ends = {Standing.UNKNOWN: " unknown", Standing.WRONG_LENGTH: " length"}
-for report in filter(None, map(decoder.push, map(int, sys.stdin.read()))):
-    seen = pairing.take(report)
+def show(line, *words):
+    print(*([line] if is_two else []), *words)
+def bits():
+    rest = RestRule()
+    for mark in sys.stdin.read():
+        line, bit = divmod("01oi".index(mark), 2)
+        yield line, bit
+        if is_two and rest.push(Arrival(line + 1, bit)):
+            yield from [(1, 1)] * 15
+for line, bit in bits():
+    report = decoder.push(Arrival(line + 1, bit) if is_two else bit)
+    if report is None:
+        continue
+    seen = pairing.take(report, line + 1 if is_two else 0)
     about = f" station {seen.station} type {seen.ftype}" + ends.get(seen.standing, "")
     about = f" control {seen.control}" if seen.standing is Standing.OTHER_CONTROL else about
     about = " untyped" if seen.standing is Standing.UNTYPED else about
-    print(f"{report}{about if seen.standing else ''}")
+    show(line + 1, f"{report}{about if seen.standing and entries else ''}")
     if seen.verdict:
-        print(seen.verdict)
-    if seen.is_stray:
-        print(report.first, report.past, "stray", "station", seen.station, "type", seen.ftype)
-if decoder.open is not None:
-    print(decoder.open, decoder.place, "open")
+        show(1, seen.verdict)
+    if seen.is_stray and entries:
+        show(line + 1, report.first, report.past, "stray", "station", seen.station, "type", seen.ftype)
+if is_two:
+    opened = [(line, decoder.open(line)) for line in (1, 2)]
+else:
+    opened = [(1, None if decoder.open is None else (decoder.open, decoder.place))]
+for line, span in opened:
+    if span:
+        show(line, *span, "open")
 if pairing.waiting:
     first, past, station, ftype = pairing.waiting
-    print(first, past, "pending", "station", station, "type", ftype)
+    show(1, first, past, "pending", "station", station, "type", ftype)
 """
 
 PAIRED_REFUSED = """from port1 import *
@@ -496,14 +517,15 @@ def pairing_in_python(folder: Path) -> List[str]:
 
 
 def vectors_in_python(folder: Path) -> List[str]:
-    """It lists the captures of one line that the tests of all languages read."""
+    """It lists the captures of one line, and of two with a clock each, that the tests of all languages read."""
     module = moved(folder) / "lib" / "python"
     problems = []
     for vector in VECTORS:
-        if vector.kind != "one line":
+        if vector.kind == "two lines":
             continue
-        if vector.dictionary:
-            got = python(PAIRED, [json.dumps(vector.entries)], vector.symbols.encode(), module)
+        if vector.dictionary or vector.kind == "arrivals":
+            words = [json.dumps(vector.entries), *(["arrivals"] if vector.kind == "arrivals" else [])]
+            got = python(PAIRED, words, vector.symbols.encode(), module)
         else:
             got = python(PRINTED, ["7"], packed(vector.symbols), module)
         wanted = re.sub(r"( type \d+) (?!unknown$|length$)\w+$", r"\1", vector.listing, flags=re.MULTILINE)

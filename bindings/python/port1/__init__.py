@@ -318,6 +318,23 @@ def refusal(status: int) -> Fault:
     return Fault(f"the library refuses with status {status}")
 
 
+def decoder_words(longest: int, origin: int) -> Tuple[ctypes.c_uint64, ctypes.c_uint64]:
+    """The longest frame and the origin of a decoder, as the library gets them."""
+    if not SHORTEST_LONGEST <= longest <= LONGEST:
+        raise OutOfRange(f"the longest frame is of {SHORTEST_LONGEST} to {LONGEST} octets, not {longest}")
+    if not 0 <= origin <= PLACES:
+        raise OutOfRange(f"the origin is 0 to 2^60, not {origin}")
+    return ctypes.c_uint64(longest), ctypes.c_uint64(origin)
+
+
+def reported(found: ReportState, line: LineState) -> Report:
+    """A report of a line, which has the octets of a frame."""
+    kind = Kind(found.kind)
+    if kind is Kind.FRAME:
+        return Report(kind, found.first, found.past, None, bytes(line.octets[: line.count]))
+    return Report(kind, found.first, found.past, Cause(found.cause) if found.cause else None)
+
+
 class LineDecoder:
     """Finds the frames, damage, aborts and idle lines in the bits of one line.
 
@@ -329,10 +346,7 @@ class LineDecoder:
     # each time: a pointer goes by `byref`, a small number as an int.
 
     def __init__(self, longest: int = LONGEST, origin: int = 0):
-        if not SHORTEST_LONGEST <= longest <= LONGEST:
-            raise OutOfRange(f"the longest frame is of {SHORTEST_LONGEST} to {LONGEST} octets, not {longest}")
-        if not 0 <= origin <= PLACES:
-            raise OutOfRange(f"the origin is 0 to 2^60, not {origin}")
+        given = decoder_words(longest, origin)
         library = loaded()
         self._state = LineState()
         self._told = ReportState()
@@ -342,7 +356,7 @@ class LineDecoder:
         self._feed = library.port1_line_feed
         self._feed_high_first = library.port1_line_feed_high_first
         self._open = library.port1_line_open
-        status = library.port1_line_init(self._line, ctypes.c_uint64(longest), ctypes.c_uint64(origin))
+        status = library.port1_line_init(self._line, *given)
         if status != OK:
             raise refusal(status)
 
@@ -394,10 +408,7 @@ class LineDecoder:
 
     def _reported(self) -> Report:
         """The report of the last call."""
-        found, kind = self._told, Kind(self._told.kind)
-        if kind is Kind.FRAME:
-            return Report(kind, found.first, found.past, None, bytes(self._state.octets[: self._state.count]))
-        return Report(kind, found.first, found.past, Cause(found.cause) if found.cause else None)
+        return reported(self._told, self._state)
 
     @property
     def longest(self) -> int:

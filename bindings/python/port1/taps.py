@@ -1,10 +1,14 @@
-"""Bits of one line or two from the samples of a logic analyser, and the rule by which a silent line comes to rest.
+"""Bits of one line or two from the samples of a logic analyser, their reports, and the rule by which a line comes to
+rest.
 
-    from port1.taps import RestRule, Tap, Wire
+    from port1.taps import Tap, TwoClocks, Wire
 
     tap = Tap(first=(Wire(0), Wire(1)), second=(Wire(2, is_inverted=True), Wire(3)), hold=1)
-    for line, bit in tap.feed(octets):
-        push(line, bit)
+    clocks = TwoClocks()
+    for arrival in tap.feed(octets):
+        report = clocks.push(arrival)
+        if report is not None:
+            print(arrival.line, report, pairing.take(report, arrival.line).verdict)
 
 Line 1 is the controller's, line 2 that of the stations. Where a line's clock rises, a bit of it arrives: the level of
 its data just before; of two bits in one sample line 1's comes first. An inverted clock has its falling edges taken.
@@ -13,9 +17,10 @@ its data just before; of two bits in one sample line 1's comes first. An inverte
 import ctypes
 from typing import Any, List, NamedTuple, Optional, Tuple
 
-from . import OK, PLACE_LIMIT, Octets, OutOfRange, PlaceLimit, held_octets, loaded, refusal
+from . import LONGEST, OK, PLACE_LIMIT, LineState, Octets, OutOfRange, PlaceLimit, Report, ReportState
+from . import decoder_words, held_octets, limit, loaded, refusal, reported
 
-__all__ = ["Arrival", "Gap", "LineFacts", "Occurrences", "RestRule", "Tap", "Wire"]
+__all__ = ["Arrival", "Gap", "LineFacts", "Occurrences", "RestRule", "Tap", "TwoClocks", "Wire"]
 
 # Bits of a sample, octets that it may have, and how many arrivals a call has room for.
 WIRES = 64
@@ -137,12 +142,24 @@ class RestState(ctypes.Structure):
     _fields_ = [(name, ctypes.c_uint64) for name in ("most", "silent", "ones")]
 
 
+class ClocksState(ctypes.Structure):
+    """struct port1_clocks."""
+
+    _fields_ = [
+        ("first", LineState),
+        ("second", LineState),
+        ("reached", ctypes.c_uint64),
+        ("recent", ctypes.c_uint64 * 16),
+        ("opened", ctypes.c_uint64),
+    ]
+
+
 # The structures by their names in C, and their sizes there.
 STRUCTURES = {
     **{"port1_wire": (WireState, 4), "port1_wires": (WiresState, 16), "port1_arrival": (ArrivalState, 2)},
     **{"port1_occurrences": (OccurrencesState, 24), "port1_gap": (GapState, 16), "port1_rest": (RestState, 24)},
     **{"port1_line_facts": (LineFactsState, 144), "port1_wire_level": (WireLevelState, 8)},
-    **{"port1_tap": (TapState, 360)},
+    **{"port1_tap": (TapState, 360), "port1_clocks": (ClocksState, 864)},
 }
 
 
@@ -230,6 +247,49 @@ class Tap:
         return LineFacts(*map(occurrences, counted), gap, occurrences(facts.jumps), *levels)
 
 
+def arrival_state(arrival: Arrival) -> ArrivalState:
+    line, bit = arrival
+    if line not in (1, 2) or bit not in (0, 1):
+        raise OutOfRange(f"a line is 1 or 2 and a bit 0 or 1, not {line} and {bit}")
+    return ArrivalState(line, bit)
+
+
+class TwoClocks:
+    """Decodes two lines with a clock each, with the reports of both in places of line 1, as `Pairing` wants them.
+
+    longest, origin: as of LineDecoder; `origin` is the place of line 1's first bit.
+    """
+
+    def __init__(self, longest: int = LONGEST, origin: int = 0):
+        given = decoder_words(longest, origin)
+        self._library = loaded()
+        self._state, self._report = ClocksState(), ReportState()
+        status = self._library.port1_clocks_init(ctypes.byref(self._state), *given)
+        if status != OK:
+            raise refusal(status)
+
+    def push(self, arrival: Arrival) -> Optional[Report]:
+        """Takes a bit that arrives, and returns the report that it decides on its line."""
+        given = arrival_state(arrival)
+        pointers = (ctypes.byref(part) for part in (self._state, given, self._report))
+        status = self._library.port1_clocks_push(*pointers)
+        if status:
+            raise limit() if status == PLACE_LIMIT else refusal(status)
+        line = self._state.first if given.line == 1 else self._state.second
+        return reported(self._report, line) if self._report.kind else None
+
+    def open(self, line: int) -> Optional[Tuple[int, int]]:
+        """Of a piece of line 1 or 2 that nothing has ended yet, the place of its first bit and that past its last."""
+        if line not in (1, 2):
+            raise OutOfRange(f"a line is 1 or 2, not {line}")
+        has_begun, first, past = ctypes.c_uint8(0), ctypes.c_uint64(0), ctypes.c_uint64(0)
+        pointers = (ctypes.byref(part) for part in (has_begun, first, past))
+        status = self._library.port1_clocks_open(ctypes.byref(self._state), line, *pointers)
+        if status:
+            raise refusal(status)
+        return (first.value, past.value) if has_begun.value else None
+
+
 class RestRule:
     """Brings line 2 to rest where its clock has stopped: after `silence` bits of line 1 without one of its own."""
 
@@ -244,11 +304,8 @@ class RestRule:
 
     def push(self, arrival: Arrival) -> bool:
         """Takes a bit that arrives; whether fifteen ones of line 2 arrive right after it, which are not pushed here."""
-        line, bit = arrival
-        if line not in (1, 2) or bit not in (0, 1):
-            raise OutOfRange(f"a line is 1 or 2 and a bit 0 or 1, not {line} and {bit}")
         rests = ctypes.c_uint8(0)
-        given = ArrivalState(line, bit)
+        given = arrival_state(arrival)
         status = self._library.port1_rest_push(ctypes.byref(self._state), ctypes.byref(given), ctypes.byref(rests))
         if status != OK:
             raise refusal(status)

@@ -10,10 +10,9 @@ use Rattle.bus_pairing.specs.LineReport.{LineReport}
 use Rattle.bus_pairing.specs.Seen.{SeenReport, seen}
 use Rattle.bus_pairing.proofs.SeenLemmas.{seen-more}
 use Rattle.bus_watch.specs.Watch.{AdvancesWatchShown}
-use Rattle.bus_tap.specs.Arrival.{Arrival}
-use Rattle.bus_clocks.specs.Arrival.{arrived, decides}
+use Rattle.bus_tap.specs.Arrival.{Arrival, arrived, decides}
 use Rattle.bus_clocks.specs.Clocks.{IsAfterArrivals, bits_taken, two_clocks}
-use Rattle.bus_clocks.specs.Laws.{ArrivalsGrow}
+use Rattle.bus_tap.specs.Laws.{ArrivalsGrow}
 use Rattle.bus_tap.specs.Rested.{comes_to_rest, rested, fill}
 use Rattle.bus_tap.proofs.RestLemmas.{rested-more}
 use Rattle.bus_clocks.proofs.RoomLemmas.{own-count}

@@ -15,7 +15,7 @@ use Rattle.bus_pairing.specs.Shown.{begun_span}
 use Rattle.bus_pairing.specs.declared.line.Line.TheVariants.{First, Second}
 use Rattle.bus_pairing.specs.declared.pending.Pending.{Pending}
 use Rattle.bus_tap.specs.Arrival.{Arrival, own}
-use Rattle.bus_clocks.specs.Arrival.{arrived, begun_places}
+use Rattle.bus_tap.specs.Arrival.{arrived, begun_places}
 use Rattle.bus_tap.specs.Rested.{rested}
 use Rattle.bus_text.specs.Listing.{Line, ending_lines, pair_ending_lines}
 use Rattle.bus_text.specs.declared.fault.ToolFault.{ToolFault}

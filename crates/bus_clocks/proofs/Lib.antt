@@ -1,5 +1,4 @@
 pub mod ArrivalLemmas
-pub mod PlacesLemmas
 pub mod RoomLemmas
 pub mod PushLemmas
 pub mod ApartLemmas

@@ -1,20 +1,13 @@
 -- An arrival leads an analyser on.
-use Rattle.std.proofs.Common.{◌≡◌, ℕ, ◌+◌, ◌-◌, ◌%◌, ◌^◌, ◌≤◌, ◌==◌, Bool, true, false, if◌then◌else◌, List, []}
-use Rattle.std.proofs.Common.{◌∷◌, ◌++◌, length, Option, Some, None, refl, sym, ap, ◌∙◌, subst, arith, append-nil}
-use Rattle.std.proofs.Common.{length-append, ◌⊎◌, inl, inr}
-use Rattle.std.specs.List.{slice_get}
+use Rattle.std.proofs.Common.{◌≡◌, ◌+◌, ◌≤◌, ◌^◌, ℕ, Bool, List, [], ◌∷◌, ◌++◌, Option, Some, None, refl, sym, ap}
+use Rattle.std.proofs.Common.{◌∙◌, subst, arith, append-nil, length}
 use Rattle.std.specs.Option.{option_map, option_to_list}
-use Rattle.std.proofs.lemmas.Bool.{cases_lt, ne_eqb, eq-eqb}
 use Rattle.bus_fcs.specs.Check.{CheckView}
 use Rattle.bus_line.specs.After.{After}
-use Rattle.bus_line.specs.Due.{due_at, begun}
 use Rattle.bus_line.specs.Laws.{DueIsIt, FrameIsSpelled}
-use Rattle.bus_line.specs.Report.{Report, Kind, moved}
 use Rattle.bus_line.specs.Internal.LineState.{LineState}
-use Rattle.bus_line.specs.Shown.{kind_with, reported}
+use Rattle.bus_line.specs.Shown.{reported}
 use Rattle.bus_line.specs.declared.event.Event.{Event}
-use Rattle.bus_line.specs.declared.event.EventKind.{EventKind}
-use Rattle.bus_line.specs.declared.event.EventKind.TheVariants as event
 use Rattle.bus_dictionary.specs.Dictionary.{longest_of}
 use Rattle.bus_pairing.specs.LineReport.{LineReport}
 use Rattle.bus_pairing.specs.Seen.{SeenReport, seen}
@@ -23,33 +16,34 @@ use Rattle.bus_pairing.specs.declared.line.Line.TheVariants.{First, Second}
 use Rattle.bus_pairing.proofs.SeenLemmas.{seen-more}
 use Rattle.bus_watch.specs.Internal.Decodes.{line_reports_of}
 use Rattle.bus_watch.proofs.AnalyserViewLemmas.{whole}
-use Rattle.bus_tap.specs.Arrival.{Arrival, own}
-use Rattle.bus_clocks.specs.Arrival.{place_of, at_places, decides, arrived}
-use Rattle.bus_clocks.specs.Clocks.{ClockState, PlacesState, KeepsPlaces, IsAfterArrivals, AdvancesArrivals}
-use Rattle.bus_clocks.specs.Clocks.{arrival_reports}
-use Rattle.bus_clocks.specs.Clocks.{CountsOn}
-use Rattle.bus_clocks.specs.Internal.Pushes.{DecodesBit, OpensWith, Notes, IsLocated, AreLocated, IsLocatable}
-use Rattle.bus_clocks.specs.Internal.Pushes.{AdvancesConversationBy, FitsPast}
-use Rattle.bus_clocks.specs.Laws.{ArrivalsGrow}
-use Rattle.bus_tap.proofs.ArrivalLemmas.{own-append, before-append, before-within}
-use Rattle.bus_clocks.proofs.ArrivalLemmas.{IsNear, report-near}
-use Rattle.bus_clocks.proofs.ArrivalLemmas.{decides-first, decides-second}
-use Rattle.bus_clocks.proofs.PlacesLemmas.{places-first, places-second, was-open, WasOpen, begun-within}
+use Rattle.bus_tap.specs.Arrival.{Arrival, arrived}
+use Rattle.bus_tap.specs.Laws.{ArrivalsGrow}
+use Rattle.bus_tap.specs.Lines.{LinesState, AreAfter, PushesLines, DecodesBit}
+use Rattle.bus_tap.specs.Places.{AreLocated}
+use Rattle.bus_tap.specs.declared.places.BitPlaces.{BitPlaces}
+use Rattle.bus_tap.proofs.LinesLemmas.{PushesSecond, lines-first, lines-second}
+use Rattle.bus_clocks.specs.Clocks.{ClockState, IsAfterArrivals, AdvancesArrivals, arrival_reports, CountsOn}
+use Rattle.bus_clocks.specs.Internal.Pushes.{AdvancesConversationBy}
 
--- an arrival leads from old to new; it decides these reports, at most one, of which this is seen
+-- the decoders of an analyser, with what it keeps of places
+abbrev pub lines_of : {C : Type 0} → ClockState C → LinesState C
+lines_of a = record { first = a.first; second = a.second; places = a.places }
+
+pub lines-after : {C : Type 0} {view : CheckView C} {a : ClockState C} {xs : List Arrival} →
+    IsAfterArrivals view a xs → AreAfter view (lines_of a) xs
+lines-after reached = record {
+  first = reached.first;
+  second = reached.second;
+  origin = reached.origin;
+  longest = reached.longest_second ∙ sym reached.longest;
+  places = reached.places;
+}
+
+-- an arrival leads from old to new; it decides these reports, of which this is seen
 pub record Pushes {C : Type 0} (view : CheckView C) (old : ClockState C) (x : Arrival)
     (decided : List LineReport) (found : Option SeenReport) (new : ClockState C) : Type 0 where
-  pub first : (xs : List Arrival) → IsAfterArrivals view old xs → After view new.first (own First (xs ++ x ∷ []))
-  pub second : (xs : List Arrival) → IsAfterArrivals view old xs → After view new.second (own Second (xs ++ x ∷ []))
-  pub places : (xs : List Arrival) → IsAfterArrivals view old xs
-      → KeepsPlaces old.first.origin new.places (xs ++ x ∷ [])
-  pub decides : (xs : List Arrival) → IsAfterArrivals view old xs
-      → decides old.first.origin (longest_of old.conversation.dictionary) xs x ≡ decided
+  pub lines : PushesLines view (lines_of old) x decided (lines_of new)
   pub enters : AdvancesConversationBy old.conversation decided found new.conversation
-  pub origin : new.first.origin ≡ old.first.origin
-  pub origin_second : new.second.origin ≡ old.second.origin
-  pub longest : new.first.longest ≡ old.first.longest
-  pub longest_second : new.second.longest ≡ old.second.longest
   pub counts : CountsOn old x new
 
 place-more : {C : Type 0} (old new : ClockState C) (x : Arrival) → CountsOn old x new →
@@ -75,26 +69,30 @@ sees-arrival view old new x decided found grow pushes =
     let grown : (xs : List Arrival) → IsAfterArrivals view old xs
     → arrival_reports old (xs ++ x ∷ []) ≡ arrival_reports old xs ++ decided =
     λ xs reached. grow old.first.origin (longest_of old.conversation.dictionary) xs x
-    ∙ ap (λ hs. arrival_reports old xs ++ hs) (pushes.decides xs reached) in
+    ∙ ap (λ hs. arrival_reports old xs ++ hs)
+    (rw (← reached.longest) (pushes.lines.decides xs (lines-after reached))) in
     let same : (ys : List Arrival) → arrival_reports new ys ≡ arrival_reports old ys = λ ys.
-    ap (λ o. arrived o (longest_of new.conversation.dictionary) ys) pushes.origin
+    ap (λ o. arrived o (longest_of new.conversation.dictionary) ys) pushes.lines.origin
     ∙ ap (λ d. arrived old.first.origin (longest_of d) ys) enters.dictionary in
     record {
-      is_after = λ xs reached. record {
-        first = pushes.first xs reached;
-        second = pushes.second xs reached;
-        origin = pushes.origin_second ∙ reached.origin;
-        longest = pushes.longest ∙ reached.longest ∙ ap longest_of (sym enters.dictionary);
-        longest_second = pushes.longest_second ∙ reached.longest_second ∙ ap longest_of (sym enters.dictionary);
-        places = rw (pushes.origin) (pushes.places xs reached);
-        conversation = rw (same (xs ++ x ∷ []), grown xs reached) (enters.keeps
-            (arrival_reports old xs) reached.conversation);
-      };
+      is_after = λ xs reached.
+          let after = pushes.lines.after xs (lines-after reached) in
+          let longest = pushes.lines.longest ∙ (reached.longest ∙ ap longest_of (sym enters.dictionary)) in
+          record {
+            first = after.first;
+            second = after.second;
+            origin = after.origin;
+            longest = longest;
+            longest_second = after.longest ∙ longest;
+            places = after.places;
+            conversation = rw (same (xs ++ x ∷ []), grown xs reached) (enters.keeps
+                (arrival_reports old xs) reached.conversation);
+          };
       seen = λ xs reached. ap (seen old.conversation.dictionary) (grown xs reached)
           ∙ enters.seen (arrival_reports old xs) reached.conversation;
       dictionary = enters.dictionary;
       depth = enters.depth;
-      origin = pushes.origin;
+      origin = pushes.lines.origin;
       place = place-more old new x pushes.counts;
     }
 
@@ -124,7 +122,7 @@ whole-decoded {old = old} {new = new} {bit = bit} due spelled decodes b after os
     rw same (whole old.longest old.origin (b ++ bit ∷ []) (length b) new.octets e due spelled
     (rw is at (decodes.answer b after)))
 
-pub whole-located : (p : PlacesState) (o l : Option Event) (os : List ℕ) → AreLocated p o l →
+pub whole-located : (p : BitPlaces) (o l : Option Event) (os : List ℕ) → AreLocated p o l →
     ((e : Event) → o ≡ Some e → IsWhole e.kind os) → (k : Event) → l ≡ Some k → IsWhole k.kind os
 whole-located p None l os located each k is = absurd (let clash = sym located ∙ is in cc)
 whole-located p (Some e) l os located each k is =
@@ -142,290 +140,23 @@ pub push-first : {C : Type 0} (view : CheckView C) (old new : ClockState C) (bit
     new.conversation →
     new.second ≡ old.second → new.places ≡ record old.places { reached = old.first.place } →
     Pushes view old (First, bit) (line_reports_of (Some First) (option_map (reported new.first.octets) e)) found new
-push-first view old new bit e found decodes enters second places =
-    let led = decodes.advances.decides.leads in
-    let more : List Arrival = (First, bit) ∷ [] in
-    record {
-      first = λ xs reached. rw (own-append First xs more) (led.after (own First xs) reached.first);
-      second = λ xs reached.
-          rw (own-append Second xs more, append-nil (own Second xs), second) reached.second;
-      places = λ xs reached.
-          rw (places) (places-first old.first.origin old.first.place old.places xs bit reached.places
-          reached.first.has_taken.place);
-      decides = λ xs reached.
-          decides-first old.first.origin (longest_of old.conversation.dictionary) xs bit
-          ∙ ap (line_reports_of (Some First))
-          (sym (rw (← reached.longest) (decodes.answer (own First xs) reached.first)));
-      enters = enters;
-      origin = led.origin;
-      origin_second = ap (λ d. d.origin) second;
-      longest = led.longest;
-      longest_second = ap (λ d. d.longest) second;
-      counts = counts-first old new bit led.place (ap (λ d. d.place) second);
-    }
-
-pub none-is : {X Y : Type 0} (f : X → Y) (o : Option X) → None ≡ option_map f o → o ≡ None
-none-is f None is = refl
-none-is f (Some x) is = absurd (cc)
-
-pub some-is : {X Y : Type 0} (f : X → Y) (o : Option X) (y : Y) → Some y ≡ option_map f o →
-    (x : X) × (o ≡ Some x) × (y ≡ f x)
-some-is f None y is = absurd (cc)
-some-is f (Some x) y is = (x, refl, cc)
-
--- decoder and places after a bit of the second line
-pub record PushesSecond {C : Type 0} (view : CheckView C) (old : ClockState C) (bit : Bool) (e : Option Event)
-    (number : ℕ) (opens : Bool) (second : LineState C) (places : PlacesState) : Type 0 where
-  pub decodes : DecodesBit view old.second bit e second
-  pub at_place : number ≡ old.second.place
-  pub notes : Notes old.places places number opens
-  pub begins : OpensWith view second number opens
-
-module _ {C : Type 0} {view : CheckView C} {old : ClockState C} {bit : Bool} {e : Option Event} {number : ℕ}
-    {opens : Bool} {second : LineState C} {places : PlacesState}
-    (pushed : PushesSecond view old bit e number opens second places)
-    (xs : List Arrival) (reached : IsAfterArrivals view old xs) where
-  at-number : number ≡ length (own Second xs)
-  at-number = omega (arith, pushed.at_place, reached.second.has_taken.place, reached.origin)
-
-  notes-at : Notes old.places places (length (own Second xs)) opens
-  notes-at = subst (λ k. Notes old.places places k opens) at-number pushed.notes
-
-  opening-at : ((opens ≡ true) × (begun (own Second xs ++ bit ∷ []) ≡ Some (length (own Second xs))))
-      ⊎ ((opens ≡ false) × (begun (own Second xs ++ bit ∷ []) ≡ Some (length (own Second xs)) → ⊥))
-  opening-at = pushed.begins (own Second xs) bit
-      (pushed.decodes.advances.decides.leads.after (own Second xs) reached.second)
-      (pushed.decodes.advances.decides.leads.origin ∙ reached.origin) at-number
-
-  places-kept : KeepsPlaces old.first.origin places (xs ++ (Second, bit) ∷ [])
-  places-kept = places-second old.first.origin old.places places xs bit opens reached.places notes-at opening-at
-
-  count-at : length (own Second (xs ++ (Second, bit) ∷ [])) ≡ length (own Second xs) + 1
-  count-at = omega (
-    arith,
-    ap length (own-append Second xs ((Second, bit) ∷ [])),
-    length-append (own Second xs) (bit ∷ []),
-  )
-
--- what is due at the bit, and where
-record IsDue (longest : ℕ) (b : List Bool) (bit : Bool) (os : List ℕ) (e : Event) : Type 0 where
-  pub report : Report
-  pub due : due_at longest (b ++ bit ∷ []) (length b) ≡ Some report
-  pub kind : kind_with os e.kind ≡ report.kind
-  pub first : e.span.first ≡ report.first
-  pub past : e.span.past ≡ report.past
-  pub near : IsNear (length b) report
-  pub decided : ((report.kind ≡ Kind.Idle) × (length b ≤ report.first + 14)) ⊎ WasOpen b bit report
-
-is-due : (longest origin : ℕ) (b : List Bool) (bit : Bool) (os : List ℕ) (e : Event) → DueIsIt → origin ≡ 0 →
-    Some (reported os e) ≡ option_map (moved origin) (due_at longest (b ++ bit ∷ []) (length b)) →
-    IsDue longest b bit os e
-is-due longest origin b bit os e it zero answer =
-    let found = some-is (moved origin) _ (reported os e) answer in
-    let report = (it longest (b ++ bit ∷ []) (length b) found.0).1 found.1 in
-    record {
-      report = found.0;
-      due = found.1;
-      kind = ap (λ (s : Report). s.kind) found.2;
-      first = omega (arith, ap (λ (s : Report). s.first) found.2, zero);
-      past = omega (arith, ap (λ (s : Report). s.past) found.2, zero);
-      near = subst (λ n. IsNear n found.0) report.1 (report-near longest (b ++ bit ∷ []) found.0 report.0);
-      decided = was-open longest b bit found.0 report.0 report.1;
-    }
-
-kind-idle : (os : List ℕ) (k : EventKind) → kind_with os k ≡ Kind.Idle → k ≡ event.Idle
-kind-idle os event.Frame is = absurd (cc)
-kind-idle os (event.Damaged cause) is = absurd (cc)
-kind-idle os event.Overlong is = absurd (cc)
-kind-idle os event.Abort is = absurd (cc)
-kind-idle os event.Idle is = refl
-
-pub same-number : (x y : ℕ) → Some x ≡ Some y → x ≡ y
-same-number x y is = cc
-
-module _ {C : Type 0} {view : CheckView C} {old : ClockState C} {bit : Bool} {e : Event} {number : ℕ}
-    {opens : Bool} {second : LineState C} {places : PlacesState} (it : DueIsIt)
-    (pushed : PushesSecond view old bit (Some e) number opens second places)
-    (xs : List Arrival) (reached : IsAfterArrivals view old xs) where
-  due-now : IsDue old.second.longest (own Second xs) bit second.octets e
-  due-now = is-due old.second.longest old.second.origin (own Second xs) bit second.octets e it reached.origin
-      (pushed.decodes.answer (own Second xs) reached.second)
-
-  -- the place of its last bit
-  last-place : slice_get places.recent ((e.span.past - 1) % 16)
-      ≡ Some (old.first.origin + place_of (xs ++ (Second, bit) ∷ []) (due-now.report.past - 1))
-  last-place =
-      let d = due-now in
-      let count = count-at pushed xs reached in
-      ap (λ k. slice_get places.recent ((k - 1) % 16)) d.past
-      ∙ (places-kept pushed xs reached).recent (d.report.past - 1) (omega (arith, d.near.within, d.near.some, count))
-      (omega (arith, d.near.near, d.near.some, count))
-
-  -- that of its first
-  opened-place : WasOpen (own Second xs) bit due-now.report →
-      places.opened ≡ old.first.origin + place_of (xs ++ (Second, bit) ∷ []) due-now.report.first
-  opened-place was =
-      let r = due-now.report in
-      elim (opening-at pushed xs reached) [
-        | inl opened_now ↦ absurd (was.none opened_now.1)
-        | inr other ↦
-            (notes-at pushed xs reached).opened
-            ∙ (ap (λ b. if b then old.places.reached else old.places.opened) other.0
-            ∙ (reached.places.opened r.first was.opened
-            ∙ ap (λ m. old.first.origin + (m - 1)) (sym (before-append r.first xs ((Second, bit) ∷ [])
-            (begun-within (own Second xs) r.first was.opened)))))
-      ]
-
-  first-place : (l : Event) → IsLocated places e l →
-      l.span.first ≡ old.first.origin + place_of (xs ++ (Second, bit) ∷ []) due-now.report.first
-  first-place l located =
-      let d = due-now in
-      let count = count-at pushed xs reached in
-      elim d.decided [
-        | inl is ↦
-            located.idle (old.first.origin + place_of (xs ++ (Second, bit) ∷ []) d.report.first)
-            (kind-idle second.octets e.kind (d.kind ∙ is.0))
-            (ap (λ k. slice_get places.recent (k % 16)) d.first
-            ∙ (places-kept pushed xs reached).recent d.report.first
-            (omega (arith, d.near.some, d.near.within, count)) (omega (arith, is.1, count)))
-        | inr was ↦
-            located.piece (λ idle. was.kind (sym d.kind ∙ ap (kind_with second.octets) idle)) ∙ opened-place was
-      ]
-
-  -- the report in places
-  located-is : (l : Event) → IsLocated places e l → reported second.octets l
-      ≡ moved old.first.origin (at_places (xs ++ (Second, bit) ∷ []) due-now.report)
-  located-is l located =
-      let d = due-now in
-      let kind : kind_with second.octets l.kind ≡ d.report.kind = ap (kind_with second.octets) located.kind ∙ d.kind in
-      let past : l.span.past
-      ≡ old.first.origin + (place_of (xs ++ (Second, bit) ∷ []) (d.report.past - 1) + 1) =
-      located.past _ last-place ∙ omega arith in
-      let first = first-place l located in
-      rw (kind, past, first) refl
-
-  -- it has bits, and no place is greater than that of the first line's last bit
-  pub locatable : old.first.place ≤ 2 ^ 60 → IsLocatable places e
-  locatable bound = record {
-    some = omega (arith, due-now.past, due-now.near.some);
-    fits = λ p is.
-        let more : List Arrival = (Second, bit) ∷ [] in
-        let k = due-now.report.past - 1 in
-        omega (
-          arith,
-          same-number p (old.first.origin + place_of (xs ++ more) k) (sym is ∙ last-place),
-          before-within k (xs ++ more),
-          ap length (own-append First xs more ∙ append-nil (own First xs)),
-          reached.first.has_taken.place,
-          bound,
-        );
-  }
-
--- what a bit of the second line decides, in places
-decides-located : {C : Type 0} {view : CheckView C} {old : ClockState C} {bit : Bool} {number : ℕ} {opens : Bool}
-    {second : LineState C} {places : PlacesState} (e l : Option Event) → DueIsIt →
-    PushesSecond view old bit e number opens second places → AreLocated places e l → (xs : List Arrival) →
-    IsAfterArrivals view old xs → decides old.first.origin old.second.longest xs (Second, bit)
-    ≡ line_reports_of (Some Second) (option_map (reported second.octets) l)
-decides-located {old = old} {bit = bit} {second = second} None l it pushed located xs reached =
-    decides-second old.first.origin old.second.longest xs bit
-    ∙ ap (λ o. line_reports_of (Some Second)
-    (option_map (λ r. moved old.first.origin (at_places (xs ++ (Second, bit) ∷ []) r)) o))
-    (none-is (moved old.second.origin) _ (pushed.decodes.answer (own Second xs) reached.second))
-    ∙ ap (λ o. line_reports_of (Some Second) (option_map (reported second.octets) o)) (sym located)
-decides-located {old = old} {bit = bit} {second = second} (Some e) l it pushed located xs reached =
-    decides-second old.first.origin old.second.longest xs bit
-    ∙ ap (λ o. line_reports_of (Some Second)
-    (option_map (λ r. moved old.first.origin (at_places (xs ++ (Second, bit) ∷ []) r)) o))
-    (due-now it pushed xs reached).due
-    ∙ (ap (λ s. line_reports_of (Some Second) (Some s)) (sym (located-is it pushed xs reached located.0 located.2))
-    ∙ ap (λ o. line_reports_of (Some Second) (option_map (reported second.octets) o)) (sym located.1))
+push-first view old new bit e found decodes enters second places = record {
+  lines = lines-first view (lines_of old) (lines_of new) bit e decodes second places;
+  enters = enters;
+  counts = counts-first old new bit decodes.advances.decides.leads.place (ap (λ d. d.place) second);
+}
 
 -- a bit of the second line
 pub push-second : {C : Type 0} (view : CheckView C) (old new : ClockState C) (bit : Bool) (e l : Option Event)
-    (number : ℕ) (opens : Bool) (found : Option SeenReport) → DueIsIt →
-    PushesSecond view old bit e number opens new.second new.places → AreLocated new.places e l →
+    (number : ℕ) (opens : Bool) (found : Option SeenReport) → old.first.place ≤ 2 ^ 60 →
+    PushesSecond view (lines_of old) bit e number opens new.second new.places → AreLocated new.places e l →
     AdvancesConversationBy old.conversation (line_reports_of (Some Second) (option_map
     (reported new.second.octets) l)) found
     new.conversation →
     new.first ≡ old.first →
     Pushes view old (Second, bit) (line_reports_of (Some Second) (option_map (reported new.second.octets) l)) found new
-push-second view old new bit e l number opens found it pushed located enters first =
-    let led = pushed.decodes.advances.decides.leads in
-    let more : List Arrival = (Second, bit) ∷ [] in
-    record {
-      first = λ xs reached. rw (own-append First xs more, append-nil (own First xs), first) reached.first;
-      second = λ xs reached. rw (own-append Second xs more) (led.after (own Second xs) reached.second);
-      places = places-kept pushed;
-      decides = λ xs reached. rw (← reached.longest_second) (decides-located e l it pushed located xs reached);
-      enters = enters;
-      origin = ap (λ d. d.origin) first;
-      origin_second = led.origin;
-      longest = ap (λ d. d.longest) first;
-      longest_second = led.longest;
-      counts = counts-second old new bit led.place (ap (λ d. d.place) first);
-    }
-
--- whether a piece begins with a bit, by where one has begun
-pub begins-some : (o : Option ℕ) (origin first n number : ℕ) → Some first ≡ option_map (λ f. origin + f) o →
-    origin ≡ 0 → number ≡ n →
-    (((first == number) ≡ true) × (o ≡ Some n)) ⊎ (((first == number) ≡ false) × (o ≡ Some n → ⊥))
-begins-some None origin first n number is zero at = absurd (cc)
-begins-some (Some f) origin first n number is zero at =
-    let here : first ≡ f = same-number first (origin + f) is ∙ omega (arith, zero) in
-    elim (cases_lt f n) [
-      | inl below ↦ inr (
-        ne_eqb first number (λ same. omega (arith, same, here, at, below)),
-        λ same. omega (arith, same-number f n same, below),
-      )
-      | inr keeps_up ↦ elim (cases_lt n f) [
-        | inl above ↦ inr (
-          ne_eqb first number (λ same. omega (arith, same, here, at, above)),
-          λ same. omega (arith, same-number f n same, above),
-        )
-        | inr exact ↦
-            (let same : f ≡ n = omega (arith, keeps_up, exact) in
-            inl (eq-eqb first number (omega (arith, same, here, at)), ap Some same))
-      ]
-    ]
-
-pub begins-none : (o : Option ℕ) (origin n : ℕ) → None ≡ option_map (λ f. origin + f) o → o ≡ Some n → ⊥
-begins-none None origin n is same = absurd (cc)
-begins-none (Some f) origin n is same = absurd (cc)
-
--- where the open piece of the second line stands, and the last of its bits, of which there are so many
-pub record OpenPlaces (origin : ℕ) (p : PlacesState) (xs : List Arrival) (count : ℕ) : Type 0 where
-  pub first : ℕ
-  pub begun_at : begun (own Second xs) ≡ Some first
-  pub opened : p.opened ≡ origin + place_of xs first
-  pub some : 1 ≤ count
-  pub last : slice_get p.recent ((count - 1) % 16) ≡ Some (origin + place_of xs (length (own Second xs) - 1))
-
-pub open-places : {C : Type 0} (view : CheckView C) (a : ClockState C) (xs : List Arrival) (first count : ℕ) →
-    IsAfterArrivals view a xs → Some first ≡ option_map (λ k. a.second.origin + k) (begun (own Second xs)) →
-    count ≡ a.second.place → OpenPlaces a.first.origin a.places xs count
-open-places view a xs first count reached is at =
-    let found = some-is (λ k. a.second.origin + k) (begun (own Second xs)) first is in
-    let some = begun-within (own Second xs) found.0 found.1 in
-    let same : count ≡ length (own Second xs) = omega (arith, at, reached.second.has_taken.place, reached.origin) in
-    record {
-      first = found.0;
-      begun_at = found.1;
-      opened = reached.places.opened found.0 found.1;
-      some = omega (arith, same, some);
-      last = ap (λ n. slice_get a.places.recent ((n - 1) % 16)) same
-          ∙ reached.places.recent (length (own Second xs) - 1) (omega (arith, some)) (omega arith);
-    }
-
-pub open-fits : {C : Type 0} (view : CheckView C) (a : ClockState C) (xs : List Arrival) (count : ℕ) →
-    IsAfterArrivals view a xs → a.first.place ≤ 2 ^ 60 → OpenPlaces a.first.origin a.places xs count →
-    FitsPast a.places (count - 1)
-open-fits view a xs count reached bound at = λ p is.
-    let k = length (own Second xs) - 1 in
-    omega (
-      arith,
-      same-number p (a.first.origin + place_of xs k) (sym is ∙ at.last),
-      before-within k xs,
-      reached.first.has_taken.place,
-      bound,
-    )
+push-second view old new bit e l number opens found bound pushed located enters first = record {
+  lines = lines-second view (lines_of old) (lines_of new) bit e l number opens bound pushed located first;
+  enters = enters;
+  counts = counts-second old new bit pushed.decodes.advances.decides.leads.place (ap (λ d. d.place) first);
+}

@@ -14,7 +14,7 @@ use Rattle.bus_watch.specs.Laws.{StepsWithinFour, StepsWithinThree}
 use Rattle.bus_tap.specs.Arrival.{Arrival, own}
 use Rattle.bus_clocks.specs.Clocks.{ClockState, IsAfterArrivals}
 use Rattle.bus_clocks.specs.Ledger.{IsClockLedger}
-use Rattle.bus_clocks.specs.Laws.{ArrivalsGrow}
+use Rattle.bus_tap.specs.Laws.{ArrivalsGrow}
 use Rattle.bus_clocks.proofs.RoomLemmas.{own-count}
 use Rattle.bus_clocks.proofs.SumLemmas.{sum-arrived}
 

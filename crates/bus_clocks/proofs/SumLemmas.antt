@@ -11,10 +11,10 @@ use Rattle.bus_pairing.specs.LineReport.{LineReport, line_report}
 use Rattle.bus_pairing.specs.declared.line.Line.{Line}
 use Rattle.bus_pairing.specs.declared.line.Line.TheVariants.{First, Second}
 use Rattle.bus_tap.specs.Arrival.{Arrival, own}
-use Rattle.bus_clocks.specs.Arrival.{at_places, decides, arrived}
-use Rattle.bus_clocks.specs.Laws.{ArrivalsGrow}
+use Rattle.bus_tap.specs.Arrival.{at_places, decides, arrived}
+use Rattle.bus_tap.specs.Laws.{ArrivalsGrow}
 use Rattle.bus_tap.proofs.ArrivalLemmas.{own-append, one-by-one}
-use Rattle.bus_clocks.proofs.ArrivalLemmas.{decides-first, decides-second}
+use Rattle.bus_tap.proofs.ArrivedLemmas.{decides-first, decides-second}
 
 -- of a number that a report has whatever its places
 module _ (f : Report → ℕ) (same : (kind : Kind) (a b c d : ℕ) →

@@ -21,7 +21,7 @@ use Rattle.bus_watch.specs.declared.fault.RunFault.{RunFault}
 use Rattle.bus_watch.specs.declared.fault.RunFault.TheVariants.{New, Feed}
 use Rattle.bus_watch.specs.declared.pair.usage.PairUsage.{PairUsage}
 use Rattle.bus_tap.specs.Arrival.{Arrival, own}
-use Rattle.bus_clocks.specs.Arrival.{at_places, arrived}
+use Rattle.bus_tap.specs.Arrival.{at_places, arrived}
 use Rattle.bus_clocks.specs.Clocks.{ClockState, IsAfterArrivals, two_clocks}
 use Rattle.bus_clocks.specs.Ledger.{IsClockLedger}
 

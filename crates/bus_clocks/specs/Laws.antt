@@ -1,5 +1,5 @@
 -- Laws over the definitions.
-use Rattle.std.specs.Prelude.{◌≡◌, ℕ, Bool, List, [], ◌∷◌, ◌++◌, map}
+use Rattle.std.specs.Prelude.{◌≡◌, ℕ, Bool, List, [], ◌∷◌, map}
 use Rattle.std.specs.List.{flat_map}
 use Rattle.bus_fcs.specs.Check.{CheckView}
 use Rattle.bus_line.specs.Due.{reports, placed}
@@ -7,8 +7,7 @@ use Rattle.bus_line.specs.Report.{moved}
 use Rattle.bus_pairing.specs.LineReport.{merged, of_side}
 use Rattle.bus_pairing.specs.declared.line.Line.TheVariants.{First, Second}
 use Rattle.bus_watch.specs.Laws.{IsAnyCut}
-use Rattle.bus_tap.specs.Arrival.{Arrival, own}
-use Rattle.bus_clocks.specs.Arrival.{at_places, arrived, decides}
+use Rattle.bus_tap.specs.Arrival.{Arrival, own, at_places, arrived}
 use Rattle.bus_clocks.specs.Clocks.{two_clocks}
 
 -- pairs of bits as they arrive with one clock for both: first a bit of the first line, then one of the second
@@ -19,11 +18,6 @@ in_turn ps = flat_map (λ p. (First, p.0) ∷ (Second, p.1) ∷ []) ps
 abbrev pub InTurnIsMerged : Type 0
 InTurnIsMerged = (origin longest : ℕ) (ps : List (Bool × Bool)) →
     arrived origin longest (in_turn ps) ≡ merged origin longest ps
-
--- an arrival adds what it decides
-abbrev pub ArrivalsGrow : Type 0
-ArrivalsGrow = (origin longest : ℕ) (xs : List Arrival) (x : Arrival) →
-    arrived origin longest (xs ++ x ∷ []) ≡ arrived origin longest xs ++ decides origin longest xs x
 
 -- the reports of either line are those of its own bits; those of the second stand in places
 abbrev pub LinesApart : Type 0

@@ -1,5 +1,4 @@
 -- Definitions that the contracts cite.
-pub mod Arrival
 pub mod Clocks
 pub mod Laws
 pub mod Ledger

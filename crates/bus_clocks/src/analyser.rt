@@ -8,7 +8,8 @@ ghost use Rattle.std.specs.Borrow.{sem};
 ghost use Rattle.std.specs.Io.BufRead.{Rests};
 ghost use Rattle.bus_bits.specs.Limits.{most_places};
 ghost use Rattle.bus_tap.specs.Arrival.{Arrival};
-ghost use Rattle.bus_clocks.specs.Internal.Pushes.{OpensWith, DecodesBit, AdvancesConversationBy};
+ghost use Rattle.bus_tap.specs.Lines.{OpensWith, DecodesBit};
+ghost use Rattle.bus_clocks.specs.Internal.Pushes.{AdvancesConversationBy};
 ghost use Rattle.bus_line.specs.Limits.{most_octets};
 ghost use Rattle.bus_line.specs.Shown.{reported};
 ghost use Rattle.bus_line.specs.After.{After};
@@ -18,13 +19,13 @@ ghost use Rattle.bus_watch.specs.Internal.Decodes.{line_reports_of, told_on};
 ghost use Rattle.bus_pairing.specs.declared.line.Line.TheVariants.{First, Second};
 
 use crate::laws::{any_cut_of_arrivals, arrivals_are};
-use crate::places::BitPlaces;
 use bus_bits::Spent;
 use bus_dictionary::Dictionary;
 use bus_fcs::Check;
 use bus_line::laws::{frame_is_spelled, reports_are, reports_grow, settled_places};
 use bus_line::{Event, LineDecoder, LineFault, PlaceLimit};
 use bus_pairing::{Conversation, Counts, Line, PairEnding, PairKept, Seen, Span};
+use bus_tap::BitPlaces;
 use bus_watch::laws::{seen_grows, steps_are_bounded};
 use bus_watch::{NewFault, PairUsage};
 use std::alloc::Global;
@@ -109,7 +110,7 @@ fn enter(conversation: &mut Conversation, line: Line, event: Option<Event>, octe
 impl<C: Check> TwoClockAnalyser<C> {
     ghost use Rattle.bus_clocks.specs.contracts.analyser.TwoClockAnalyser.{the_row};
     ghost use Rattle.bus_tap.specs.Arrival.{own};
-    ghost use Rattle.bus_clocks.specs.Arrival.{begun_places};
+    ghost use Rattle.bus_tap.specs.Arrival.{begun_places};
     ghost use Rattle.bus_clocks.specs.Clocks.{IsAfterArrivals, AdvancesArrivals, arrival_reports, seen_after_arrivals};
     ghost use Rattle.bus_clocks.specs.Clocks.{decoder_on};
     ghost use Rattle.bus_clocks.specs.Clocks.{CountsOn};

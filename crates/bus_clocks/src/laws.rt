@@ -1,6 +1,7 @@
 //! Laws over the definitions.
 
-ghost use Rattle.bus_clocks.specs.Laws.{InTurnIsMerged, ArrivalsGrow, LinesApart, AnyCutOfArrivals};
+ghost use Rattle.bus_clocks.specs.Laws.{InTurnIsMerged, LinesApart, AnyCutOfArrivals};
+ghost use Rattle.bus_tap.specs.Laws.{ArrivalsGrow};
 ghost use Rattle.bus_tap.specs.Laws.{CountedIsIt, RestLeavesFirst, SameSamplesBringNothing};
 
 use bus_fcs::Check;

@@ -7,7 +7,6 @@
 mod analyser;
 mod feed;
 pub mod laws;
-mod places;
 mod run;
 mod scan;
 

@@ -1,5 +1,8 @@
 pub mod EachLemmas
 pub mod ArrivalLemmas
+pub mod ArrivedLemmas
+pub mod PlacesLemmas
+pub mod LinesLemmas
 pub mod RestLemmas
 pub mod SampledLemmas
 pub mod SameSampleLemmas

@@ -1,7 +1,7 @@
 -- Laws over the definitions.
 use Rattle.std.specs.Prelude.{◌≡◌, ◌↔◌, ℕ, ◌+◌, Bool, List, [], ◌∷◌, ◌++◌, replicate}
 use Rattle.bus_pairing.specs.declared.line.Line.TheVariants.{First}
-use Rattle.bus_tap.specs.Arrival.{Arrival, own}
+use Rattle.bus_tap.specs.Arrival.{Arrival, own, arrived, decides}
 use Rattle.bus_tap.specs.Rested.{rested}
 use Rattle.bus_tap.specs.Sampled.{Channel, IsCounted, counted_level, sampled}
 
@@ -19,3 +19,8 @@ CountedIsIt = (hold : ℕ) (channel : Channel) (ss : List ℕ) (i : ℕ) (l : Bo
 abbrev pub SameSamplesBringNothing : Type 0
 SameSamplesBringNothing = (hold s : ℕ) (ss ts : List ℕ) →
     sampled hold ((ss ++ replicate (hold + 1) s) ++ s ∷ ts) ≡ sampled hold ((ss ++ replicate (hold + 1) s) ++ ts)
+
+-- an arrival adds what it decides
+abbrev pub ArrivalsGrow : Type 0
+ArrivalsGrow = (origin longest : ℕ) (xs : List Arrival) (x : Arrival) →
+    arrived origin longest (xs ++ x ∷ []) ≡ arrived origin longest xs ++ decides origin longest xs x

@@ -1,5 +1,7 @@
 -- Definitions that the contracts cite.
 pub mod Arrival
+pub mod Places
+pub mod Lines
 pub mod Laws
 pub mod Rested
 pub mod Sampled

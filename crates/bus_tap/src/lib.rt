@@ -5,6 +5,7 @@
 mod facts;
 pub mod laws;
 mod number;
+mod places;
 mod rest;
 mod sampler;
 mod tap;
@@ -13,8 +14,9 @@ mod words;
 
 pub use facts::{Gap, Levels, LineFacts, Occurrences, TapFacts};
 pub use number::number_of;
+pub use places::BitPlaces;
 pub use rest::RestRule;
 pub use sampler::{Edges, Sampler};
-pub use tap::{SampleLimit, Taken, Tap};
+pub use tap::{ConsumedSamples, SampleLimit, Tap};
 pub use wires::{Wire, Wires};
 pub use words::{TapWords, WireLevel};

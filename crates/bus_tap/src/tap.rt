@@ -23,7 +23,7 @@ pub struct SampleLimit;
 
 /// What some samples brought.
 #[derive(Clone, Copy, Debug, PartialEq, Eq)]
-pub struct Taken {
+pub struct ConsumedSamples {
     /// How many samples were taken.
     pub samples: u64,
     /// The bits that arrived with the last of them.
@@ -140,7 +140,7 @@ impl Tap {
     /// However many they are, it takes no more than a few steps for each sample that a level has to stand.
     ///
     /// Refuses more samples than 2^60 as [`SampleLimit`], with nothing changed.
-    pub fn consume(&mut self, sample: u8, count: u64) -> Result<Taken, SampleLimit>
+    pub fn consume(&mut self, sample: u8, count: u64) -> Result<ConsumedSamples, SampleLimit>
         ensures limit { IsErr result ↔ (most_places < self.old.samples + count) }
         ensures unchanged { OnErr result (self.new ≡ self.old) }
         ensures fits { self.new.samples ≤ most_places }
@@ -153,20 +153,20 @@ impl Tap {
         for taken in 0..count {
             if self.is_settled(sample) {
                 self.pass(sample, count - taken);
-                return Ok(Taken {
+                return Ok(ConsumedSamples {
                     samples: count,
                     edges: Edges::NONE,
                 });
             }
             let edges = self.step(sample);
             if !edges.is_none() {
-                return Ok(Taken {
+                return Ok(ConsumedSamples {
                     samples: taken + 1,
                     edges,
                 });
             }
         }
-        Ok(Taken {
+        Ok(ConsumedSamples {
             samples: count,
             edges: Edges::NONE,
         })

@@ -62,10 +62,10 @@ pub extern "C" fn port1_line_push(line: &mut Port1Line, bit: u8, report: &mut Po
     if !line.is_sound() {
         return BAD_STATE;
     }
-    let Ok(told) = line.push(bit != 0) else {
+    let Ok(event) = line.decode(bit != 0) else {
         return PLACE_LIMIT;
     };
-    *report = told;
+    *report = Port1Report::of(event);
     OK
 }
 
@@ -163,7 +163,7 @@ pub extern "C" fn port1_line_open(line: &Port1Line, has_begun: &mut u8, first: &
     if !line.is_sound() {
         return BAD_STATE;
     }
-    match line.words.begun() {
+    match line.begun() {
         Some(place) => {
             *has_begun = 1;
             *first = place;

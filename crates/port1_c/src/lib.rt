@@ -5,6 +5,8 @@ mod arrival;
 mod bits;
 mod call_bits;
 mod calls;
+mod clocking;
+mod clocks;
 mod entry;
 pub mod laws;
 mod lent_frame;
@@ -26,6 +28,8 @@ pub use arrival::Port1Arrival;
 pub use calls::{
     port1_line_feed, port1_line_feed_high_first, port1_line_init, port1_line_open, port1_line_push,
 };
+pub use clocking::{port1_clocks_init, port1_clocks_open, port1_clocks_push};
+pub use clocks::Port1Clocks;
 pub use entry::Port1Entry;
 pub use lent_frame::LentFrame;
 pub use line::Port1Line;

@@ -1,15 +1,21 @@
 //! A decoder in a caller's memory.
 
-ghost use Rattle.std.specs.Prelude.{◌≡◌, ◌-◌, ◌*◌, ◌≤◌, ◌<◌, ◌↔◌, IsErr, IfOk, IsTrue, OnErr, ◌∷◌, [], length};
+ghost use Rattle.std.specs.Prelude.{◌≡◌, ◌+◌, ◌-◌, ◌*◌, ◌≤◌, ◌<◌, ◌↔◌, List, Bool, IsErr, IfOk, IsTrue, OnErr, length};
+ghost use Rattle.std.specs.Option.{option_map};
 ghost use Rattle.bus_bits.specs.Bits.{bits_from};
 ghost use Rattle.bus_bits.specs.Limits.{most_places};
-ghost use Rattle.port1_c.specs.Line.{AdvancesLine, IsCoded, Sound, DecidesLine, held};
+ghost use Rattle.bus_fcs.specs.Folded.{by_tables};
+ghost use Rattle.bus_line.specs.Due.{begun};
+ghost use Rattle.bus_pairing.specs.Shown.{begun_span};
+ghost use Rattle.bus_tap.specs.Lines.{DecodesBit, OpensWith};
+ghost use Rattle.port1_c.specs.Line.{AdvancesLine, IsCoded, Sound, LineAfter, held};
 
 use crate::bits::Told;
 use crate::lent_frame::LentFrame;
 use crate::report::Port1Report;
+use bus_bits::Span;
 use bus_fcs::OctetCheck;
-use bus_line::{DecoderWords, PlaceLimit};
+use bus_line::{DecoderWords, Event, PlaceLimit};
 
 /// A decoder between two calls. Its layout is that of `c/include/port1.h`.
 #[repr(C)]
@@ -62,23 +68,47 @@ impl Port1Line {
         }
     }
 
-    /// Takes a bit, and tells what it decides.
+    /// Takes a bit. Returns what it decides.
     #[inline(always)]
-    pub(crate) fn push(&mut self, bit: bool) -> Result<Port1Report, PlaceLimit>
+    pub(crate) fn decode(&mut self, bit: bool) -> Result<Option<Event>, PlaceLimit>
         requires sound { Sound self.old }
         ensures limit { IsErr result ↔ (most_places ≤ self.old.words.place) }
         ensures kept { OnErr result (self.new ≡ self.old) }
-        ensures coded { IfOk result IsCoded }
-        ensures decides { IfOk result (λ r. DecidesLine (held self.old) (bit ∷ []) r (held self.new)) }
+        ensures decides { IfOk result (λ event. DecodesBit by_tables (held self.old) bit event (held self.new)) }
         ensures sound { Sound self.new }
     {
         let mut check = OctetCheck::with_register(self.frame.register);
-        match self.words.push(&mut check, &mut self.frame, bit) {
-            Ok(event) => {
-                self.frame.register = check.register();
-                Ok(Port1Report::of(event))
-            }
-            Err(PlaceLimit) => Err(PlaceLimit),
+        let event = self.words.push(&mut check, &mut self.frame, bit)?;
+        self.frame.register = check.register();
+        Ok(event)
+    }
+
+    /// The first place of a piece that has begun and is not ended yet.
+    pub(crate) fn begun(&self) -> Option<u64>
+        requires { Sound self.now }
+        ensures { (b : List Bool) → LineAfter self.now b →
+            result ≡ option_map (λ first. self.now.words.origin + first) (begun b) }
+    {
+        self.words.begun()
+    }
+
+    /// The piece that has begun, up to the place of the next bit.
+    pub(crate) fn begun_span(&self) -> Option<Span>
+        requires { Sound self.now }
+        ensures { (b : List Bool) → LineAfter self.now b → result ≡ begun_span self.now.words.origin b }
+    {
+        let past = self.words.place;
+        self.begun().map(|first| Span { first, past })
+    }
+
+    /// Whether a piece begins with the last bit, which has this number.
+    pub(crate) fn begins(&self, number: u64) -> bool
+        requires { Sound self.now }
+        ensures { OpensWith by_tables (held self.now) number result }
+    {
+        match self.begun() {
+            Some(first) => first == number,
+            None => false,
         }
     }
 }

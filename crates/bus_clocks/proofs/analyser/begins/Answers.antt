@@ -1,6 +1,6 @@
 use Rattle.std.proofs.Common.{◌∷◌, ◌++◌, [], length, inr, refl}
 use Rattle.bus_line.specs.Due.{begun}
-use Rattle.bus_clocks.proofs.PushLemmas.{begins-some, begins-none}
+use Rattle.bus_tap.proofs.LinesLemmas.{begins-some, begins-none}
 use Rattle.bus_clocks.proofs.analyser.begins.Goals as goal
 
 pub returns-in-Some : goal.returns-in-Some

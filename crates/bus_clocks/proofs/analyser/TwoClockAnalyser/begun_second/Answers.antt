@@ -2,36 +2,22 @@ use Rattle.std.proofs.Common.{◌≡◌, ◌+◌, ◌-◌, length, refl, ◌∙�
 use Rattle.bus_line.specs.Due.{begun}
 use Rattle.bus_pairing.specs.declared.line.Line.TheVariants.{Second}
 use Rattle.bus_tap.specs.Arrival.{own}
-use Rattle.bus_clocks.specs.Arrival.{place_of}
+use Rattle.bus_tap.specs.Arrival.{place_of}
 use Rattle.bus_clocks.specs.Internal.ClockView.{clock_state}
-use Rattle.bus_clocks.proofs.PushLemmas.{none-is, open-places, open-fits}
+use Rattle.bus_tap.proofs.LinesLemmas.{none-is, open-places}
+use Rattle.bus_clocks.proofs.PushLemmas.{lines_of, lines-after}
 use Rattle.bus_clocks.proofs.analyser.TwoClockAnalyser.begun_second.Goals as goal
-
-pub open_span-requires-clause-some : goal.open_span-requires-clause-some
-open_span-requires-clause-some g c =
-    let xs = c.self.invariant.arrivals in
-    let reached = c.self.invariant.reached in
-    (open-places g.C.Check.check (clock_state c.self.inside) xs c.in-Some.field-0 c.place.result reached
-    (rw (c.in-Some.is) at (c.begun.ensures.after (own Second xs) reached.second)) c.place.ensures.value).some
-
-pub open_span-requires-clause-fits : goal.open_span-requires-clause-fits
-open_span-requires-clause-fits g c =
-    let xs = c.self.invariant.arrivals in
-    let reached = c.self.invariant.reached in
-    open-fits g.C.Check.check (clock_state c.self.inside) xs c.place.result reached
-    (omega (arith, c.place-place.ensures.value, c.place-place.ensures.fits))
-    (open-places g.C.Check.check (clock_state c.self.inside) xs c.in-Some.field-0 c.place.result reached
-    (rw (c.in-Some.is) at (c.begun.ensures.after (own Second xs) reached.second)) c.place.ensures.value)
 
 pub returns-in-Some : goal.returns-in-Some
 returns-in-Some g c = λ xs reached.
     let inside = rw (← c.self.view_is) at reached in
-    let at = open-places g.C.Check.check (clock_state c.self.inside) xs c.in-Some.field-0 c.place.result inside
-    (rw (c.in-Some.is) at (c.begun.ensures.after (own Second xs) inside.second)) c.place.ensures.value in
+    let at = open-places g.C.Check.check (lines_of (clock_state c.self.inside)) xs c.in-Some.field-0 c.place.result
+    (lines-after inside) (rw (c.in-Some.is) at (c.begun.ensures.after (own Second xs) inside.second))
+    c.place.ensures.value (omega (arith, c.place-place.ensures.value, c.place-place.ensures.fits)) in
     let first = c.open_span.ensures.first ∙ at.opened in
     let past : c.open_span.result.past
     ≡ c.self.inside.first.origin + (place_of xs (length (own Second xs) - 1) + 1) =
-    omega (arith, c.open_span.ensures.past _ at.last) in
+    omega (arith, c.open_span.ensures.past _ at.last at.fits) in
     rw (← c.self.view_is, at.begun_at, ← first, ← past) refl
 
 pub returns-in-None : goal.returns-in-None

@@ -5,24 +5,10 @@ use Rattle.bus_watch.specs.Internal.Decodes.{told_on}
 use Rattle.bus_tap.specs.Arrival.{own}
 use Rattle.bus_clocks.specs.Clocks.{AdvancesArrivals}
 use Rattle.bus_clocks.specs.Internal.ClockView.{clock_state}
-use Rattle.bus_clocks.proofs.PushLemmas.{PushesSecond, push-second, locatable, sees-arrival, whole-decoded}
-use Rattle.bus_clocks.proofs.PushLemmas.{whole-located}
+use Rattle.bus_clocks.proofs.PushLemmas.{push-second, sees-arrival, whole-decoded, whole-located}
 use Rattle.bus_clocks.proofs.RoomLemmas.{room-arrivals}
 use Rattle.bus_clocks.proofs.analyser.TwoClockAnalyser.push_second.Given.{Over}
 use Rattle.bus_clocks.proofs.analyser.TwoClockAnalyser.push_second.Goals as goal
-
-pub located_option-event-requires : goal.located_option-event-requires
-located_option-event-requires g c = λ e is.
-    let pushed : PushesSecond g.C.Check.check (clock_state c.self.inside) c.args.bit c.in_ok-event.event
-    c.place-number.result c.begins-opens.result c.decode.new.decoder c.note.new.self =
-    record {
-      decodes = c.in_ok-event.ensures.decodes;
-      at_place = c.place-number.ensures.value;
-      notes = c.note.ensures;
-      begins = c.begins-opens.ensures;
-    } in
-    locatable c.reports_are.ensures.due (rw is at pushed) c.self.invariant.arrivals c.self.invariant.reached
-    (omega (arith, c.place-place.ensures.value, c.place-place.ensures.fits))
 
 pub enter-requires-clause-whole : goal.enter-requires-clause-whole
 enter-requires-clause-whole g c =
@@ -54,7 +40,7 @@ sees g c =
     (push-second g.C.Check.check (clock_state c.self.inside) _ c.args.bit c.in_ok-event.event
     c.located_option-event.result c.place-number.result c.begins-opens.result
     (told_on (Some Second) c.decode.new.decoder.octets c.enter.result c.enter.new.conversation.last)
-    c.reports_are.ensures.due
+    (omega (arith, c.place-place.ensures.value, c.place-place.ensures.fits))
     (record {
       decodes = c.in_ok-event.ensures.decodes;
       at_place = c.place-number.ensures.value;

@@ -1,39 +1,27 @@
 //! The places of the second line's bits.
 
-ghost use Rattle.std.specs.Prelude.{◌≡◌, ◌+◌, ◌-◌, ◌%◌, ◌≤◌, ℕ, replicate, Some, slice_get};
-ghost use Rattle.bus_clocks.specs.Internal.Pushes.{AreLocated, FitsPast, IsLocatable, IsLocated, Notes};
+ghost use Rattle.std.specs.Prelude.{◌≡◌, ◌-◌, replicate};
+ghost use Rattle.bus_tap.specs.Places.{AreLocated, IsLocated, IsPast, Notes};
 
+use bus_bits::Span;
 use bus_line::{Event, EventKind};
-use bus_pairing::Span;
-use std::marker::Model;
 
-/// What is kept of the places of the second line's bits.
+/// What is kept of the places of the second line's bits. The layout is C's.
+#[repr(C)]
 #[derive(Drop)]
-pub(crate) struct BitPlaces {
+pub struct BitPlaces {
     /// The place at which a bit of the second line stands now: that of the last bit of the first line.
-    reached: u64,
+    pub reached: u64,
     /// The places of the last sixteen bits, that of bit `k` at `k % 16`. The last bit of what a bit decides is among
     /// them; so is the first one, unless it opened the piece.
-    recent: [u64; 16],
+    pub recent: [u64; 16],
     /// The place of the first bit of the open piece.
-    opened: u64,
-}
-
-impl Model for BitPlaces {
-    ghost use Rattle.bus_clocks.specs.Clocks.{PlacesState};
-
-    ghost Value = { PlacesState };
-
-    ghost use Rattle.bus_clocks.specs.Internal.ClockView.{places_state, HasSixteen};
-
-    ghost view = { places_state };
-
-    ghost invariant = { HasSixteen };
+    pub opened: u64,
 }
 
 impl BitPlaces {
     /// Of no bits.
-    pub(crate) fn new(origin: u64) -> Self
+    pub fn new(origin: u64) -> Self
         ensures { result ≡ record { reached = origin; recent = replicate 16 origin; opened = origin } }
     {
         BitPlaces {
@@ -44,14 +32,14 @@ impl BitPlaces {
     }
 
     /// The bit of the first line that has this place arrived.
-    pub(crate) fn reach(&mut self, place: u64)
+    pub fn reach(&mut self, place: u64)
         ensures { self.new ≡ record self.old { reached = place } }
     {
         self.reached = place;
     }
 
     /// Bit `k` of the second line arrived, with which a piece begins if `opens`.
-    pub(crate) fn note(&mut self, k: u64, opens: bool)
+    pub fn note(&mut self, k: u64, opens: bool)
         ensures { Notes self.old self.new k opens }
     {
         self.recent[(k % 16) as usize] = self.reached;
@@ -60,41 +48,43 @@ impl BitPlaces {
         }
     }
 
+    /// The place past that of bit `k`, which is one of the last sixteen.
+    fn past(&self, k: u64) -> u64
+        ensures { IsPast self.now k result }
+    {
+        self.recent[(k % 16) as usize].saturating_add(1)
+    }
+
     /// The open piece of a line that had so many bits.
-    pub(crate) fn open_span(&self, count: u64) -> Span
-        requires some { 1 ≤ count }
-        requires fits { FitsPast self.now (count - 1) }
+    pub fn open_span(&self, count: u64) -> Span
         ensures first { result.first ≡ self.now.opened }
-        ensures past { (p : ℕ) → slice_get self.now.recent ((count - 1) % 16) ≡ Some p → result.past ≡ p + 1 }
+        ensures past { IsPast self.now (count - 1) result.past }
     {
         Span {
             first: self.opened,
-            past: self.recent[((count - 1) % 16) as usize] + 1,
+            past: self.past(count.saturating_sub(1)),
         }
     }
 
     /// What the last bit decided, its span in places.
-    pub(crate) fn located(&self, event: Event) -> Event
-        requires { IsLocatable self.now event }
+    pub fn located(&self, event: Event) -> Event
         ensures { IsLocated self.now event result }
     {
         let first = match event.kind {
             EventKind::Idle => self.recent[(event.span.first % 16) as usize],
             _ => self.opened,
         };
-        let last = self.recent[((event.span.past - 1) % 16) as usize];
         Event {
             kind: event.kind,
             span: Span {
                 first,
-                past: last + 1,
+                past: self.past(event.span.past.saturating_sub(1)),
             },
         }
     }
 
     /// The same, if it decided anything.
-    pub(crate) fn located_option(&self, event: Option<Event>) -> Option<Event>
-        requires { (e : Event) → event ≡ Some e → IsLocatable self.now e }
+    pub fn located_option(&self, event: Option<Event>) -> Option<Event>
         ensures { AreLocated self.now event result }
     {
         match event {

@@ -14,10 +14,10 @@ use Rattle.bus_line.proofs.DueLemmas.{class-due}
 use Rattle.bus_line.proofs.DueStreamLemmas.{flag-fits, abort-fits, mark-fits, flag-not_abort}
 use Rattle.bus_line.proofs.ReportLemmas.{begun-it}
 use Rattle.bus_pairing.specs.declared.line.Line.TheVariants.{First, Second}
-use Rattle.bus_tap.specs.Arrival.{Arrival, own}
-use Rattle.bus_clocks.specs.Arrival.{place_of}
-use Rattle.bus_clocks.specs.Clocks.{PlacesState, KeepsPlaces}
-use Rattle.bus_clocks.specs.Internal.Pushes.{Notes}
+use Rattle.bus_tap.specs.Arrival.{Arrival, own, place_of}
+use Rattle.bus_tap.specs.Places.{KeepsPlaces, Notes}
+use Rattle.bus_tap.specs.Lines.{BeginsAt}
+use Rattle.bus_tap.specs.declared.places.BitPlaces.{BitPlaces}
 use Rattle.bus_tap.proofs.ArrivalLemmas.{own-append, before-append, before-now}
 
 -- marks stay when bits are added, and flags that fit were there
@@ -108,7 +108,7 @@ was-open longest b bit _ (aborted p m piece end) at =
 was-open longest b bit _ (idle a end) at = inl (refl, omega (arith, at))
 
 -- a bit of the first line
-pub places-first : (origin place : ℕ) (p : PlacesState) (xs : List Arrival) (bit : Bool) → KeepsPlaces origin p xs →
+pub places-first : (origin place : ℕ) (p : BitPlaces) (xs : List Arrival) (bit : Bool) → KeepsPlaces origin p xs →
     place ≡ origin + length (own First xs) →
     KeepsPlaces origin (record p { reached = place }) (xs ++ (First, bit) ∷ [])
 places-first origin place p xs bit kept at =
@@ -130,15 +130,13 @@ places-first origin place p xs bit kept at =
           ∙ ap (λ n. origin + (n - 1)) (sym (before-append k xs more (begun-within (own Second xs) k was)));
     }
 
-now-place : (origin : ℕ) (p : PlacesState) (xs : List Arrival) (bit : Bool) → KeepsPlaces origin p xs →
+now-place : (origin : ℕ) (p : BitPlaces) (xs : List Arrival) (bit : Bool) → KeepsPlaces origin p xs →
     p.reached ≡ origin + place_of (xs ++ (Second, bit) ∷ []) (length (own Second xs))
 now-place origin p xs bit kept = kept.reached ∙ ap (λ n. origin + (n - 1)) (sym (before-now xs bit))
 
-pub places-second : (origin : ℕ) (p q : PlacesState) (xs : List Arrival) (bit opens : Bool) → KeepsPlaces origin p xs →
+pub places-second : (origin : ℕ) (p q : BitPlaces) (xs : List Arrival) (bit opens : Bool) → KeepsPlaces origin p xs →
     Notes p q (length (own Second xs)) opens →
-    ((opens ≡ true) × (begun (own Second xs ++ bit ∷ []) ≡ Some (length (own Second xs))))
-    ⊎ ((opens ≡ false) × (begun (own Second xs ++ bit ∷ []) ≡ Some (length (own Second xs)) → ⊥)) →
-    KeepsPlaces origin q (xs ++ (Second, bit) ∷ [])
+    BeginsAt opens (own Second xs) bit → KeepsPlaces origin q (xs ++ (Second, bit) ∷ [])
 places-second origin p q xs bit opens kept notes opening =
     let more : List Arrival = (Second, bit) ∷ [] in
     let n = length (own Second xs) in
