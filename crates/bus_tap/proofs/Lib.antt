@@ -2,6 +2,7 @@ pub mod EachLemmas
 pub mod ArrivalLemmas
 pub mod ArrivedLemmas
 pub mod PlacesLemmas
+pub mod LocatedLemmas
 pub mod LinesLemmas
 pub mod RestLemmas
 pub mod SampledLemmas

@@ -7,14 +7,13 @@ use Rattle.std.specs.Bool.{beq}
 use Rattle.bus_pairing.specs.declared.line.Line.{Line}
 use Rattle.bus_pairing.specs.declared.line.Line.TheVariants.{First, Second}
 use Rattle.bus_tap.specs.Facts.{AreFacts, AreFactsOf, AreLevels, places_where, changes, changes_high, bit_samples}
-use Rattle.bus_tap.specs.Sampled.{Channel, clock_of, data_of, counted_level, rises, sampled, bits_of_edges}
+use Rattle.bus_tap.specs.Sampled.{Channel, clock_of, data_of, counted_level, rises, sampled}
 use Rattle.bus_tap.specs.Sampled.{SamplerState, HeldState, IsHeldAfter, IsAfterSamples, edge}
 use Rattle.bus_tap.specs.Internal.Tallies.{where_is}
-use Rattle.bus_tap.specs.Internal.Held.{IsHeldAt, IsSettled, next_state, no_edges, clock_state, data_state}
+use Rattle.bus_tap.specs.Internal.Held.{IsHeldAt, IsSettled, next_state, clock_state, data_state}
 use Rattle.std.specs.Prelude.{Option, MatchOption}
 use Rattle.bus_tap.specs.Arrival.{Arrival}
 use Rattle.bus_tap.specs.Tapped.{TapState, AdvancesTap}
-use Rattle.bus_tap.specs.declared.sampler.Edges.{Edges}
 use Rattle.bus_tap.specs.declared.facts.Levels.{Levels}
 use Rattle.bus_tap.specs.declared.facts.LineFacts.{LineFacts}
 use Rattle.bus_tap.proofs.EachLemmas.{each-more, length-more}

@@ -4,7 +4,8 @@ use Rattle.bus_pairing.specs.declared.line.Line.TheVariants.{Second}
 use Rattle.bus_tap.specs.Arrival.{own}
 use Rattle.bus_tap.specs.Arrival.{place_of}
 use Rattle.bus_clocks.specs.Internal.ClockView.{clock_state}
-use Rattle.bus_tap.proofs.LinesLemmas.{none-is, open-places}
+use Rattle.bus_tap.proofs.LinesLemmas.{open-places}
+use Rattle.bus_tap.proofs.LocatedLemmas.{none-is}
 use Rattle.bus_clocks.proofs.PushLemmas.{lines_of, lines-after}
 use Rattle.bus_clocks.proofs.analyser.TwoClockAnalyser.begun_second.Goals as goal
 

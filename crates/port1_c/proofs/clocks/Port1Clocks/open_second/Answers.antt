@@ -3,7 +3,8 @@ use Rattle.bus_fcs.specs.Folded.{by_tables}
 use Rattle.bus_line.specs.Due.{begun}
 use Rattle.bus_pairing.specs.declared.line.Line.TheVariants.{Second}
 use Rattle.bus_tap.specs.Arrival.{own, place_of}
-use Rattle.bus_tap.proofs.LinesLemmas.{none-is, open-places}
+use Rattle.bus_tap.proofs.LinesLemmas.{open-places}
+use Rattle.bus_tap.proofs.LocatedLemmas.{none-is}
 use Rattle.port1_c.specs.Clocks.{lines_told}
 use Rattle.port1_c.proofs.clocks.Port1Clocks.open_second.Goals as goal
 
