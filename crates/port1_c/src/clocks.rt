@@ -1,6 +1,6 @@
 //! Two lines with a clock each, in a caller's memory.
 
-ghost use Rattle.std.specs.Prelude.{◌≡◌, ◌+◌, ◌≤◌, ◌↔◌, List, Bool, ◌∷◌, [], IsErr, IfOk, OnErr, IsTrue};
+ghost use Rattle.std.specs.Prelude.{◌≡◌, ◌≤◌, ◌↔◌, List, IsErr, IfOk, OnErr, IsTrue};
 ghost use Rattle.bus_bits.specs.Limits.{most_places};
 ghost use Rattle.bus_fcs.specs.Folded.{by_tables};
 ghost use Rattle.bus_pairing.specs.Shown.{begun_span};
