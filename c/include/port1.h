@@ -374,8 +374,8 @@ uint32_t port1_clocks_init(struct port1_clocks *clocks, uint64_t longest, uint64
 /* Takes a bit that arrives. `*report` is what it decided on its line, whose `octets` then have the frame.
  *
  * The first line's bits number the places. A bit of the second line stands at the place of the last bit of the first
- * line before it, and at the origin if there is none; so does its report, from the place of its first bit to past that
- * of its last one. Reports come in the order in which port1_pair_take wants them.
+ * line before it, and at the origin if there is none. A report of the second line goes from the place of its first bit
+ * to past that of its last one. Reports come in the order in which port1_pair_take wants them.
  *
  * PORT1_PLACE_LIMIT: a bit of the first line would have place 2^60, or the second line had 2^60 bits.
  * PORT1_BAD_ARGUMENT: just where the line is neither 1 nor 2. PORT1_BAD_STATE: the memory does not hold two decoders.

@@ -546,15 +546,16 @@ def encoder_in_python(folder: Path) -> List[str]:
 # Samples of two octets each, in pieces; after a bit with which line 2 comes to rest stands a `-`.
 TAPPED = """
 import sys
-from port1.taps import RestRule, Tap, Wire
+from port1.taps import Arrival, RestRule, Tap, TwoClocks, Wire
 tap, rest = Tap((Wire(9, True), Wire(1)), (Wire(2), Wire(12)), hold=1), RestRule(3)
 octets, size = sys.stdin.buffer.read(), int(sys.argv[1])
 for at in range(0, len(octets), size):
     for arrival in tap.feed(octets[at : at + size], 2):
         print(end="01oi"[2 * arrival.line - 2 + arrival.bit] + "-" * rest.push(arrival))
 print("", tap.samples, *(facts.bits.count for facts in tap.facts), tap.push(514, 9), tap.push(2, 2))
-wires = Wire(64), Wire(0)
-for wrong in [lambda: tap.feed(b"abc", 2), lambda: tap.push(1 << 64), lambda: Tap(wires), lambda: RestRule(-1)]:
+wires, clocks = (Wire(64), Wire(0)), TwoClocks()
+for wrong in [lambda: tap.feed(b"abc", 2), lambda: tap.push(1 << 64), lambda: Tap(wires), lambda: RestRule(-1),
+              lambda: TwoClocks(2), lambda: clocks.push(Arrival(3, 1)), lambda: clocks.open(0)]:
     try:
         wrong()
     except ValueError as fault:
@@ -565,6 +566,9 @@ TAPPED_REFUSES = """3 octets are no samples of 2 octets, which may be 1 to 8
 a sample is 0 to 2^64 - 1, and stands so often at most, not 18446744073709551616, 1 times
 a wire is a bit of a sample, 0 to 63, not 64
 a silence is 0 to 2^64 - 1 bits, not -1
+the longest frame is of 3 to 256 octets, not 2
+a line is 1 or 2 and a bit 0 or 1, not 3 and 1
+a line is 1 or 2, not 0
 """
 
 

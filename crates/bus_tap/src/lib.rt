@@ -1,5 +1,5 @@
-//! Bits of two lines with a clock each from the samples of a recording, what is counted in these, and the rule by which
-//! the second line comes to rest.
+//! Bits of two lines with a clock each from the samples of a recording, what is counted in these, the places of the
+//! second line's bits, and the rule by which that line comes to rest.
 #![tactic(auto)]
 
 mod facts;

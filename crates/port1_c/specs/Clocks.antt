@@ -1,5 +1,5 @@
 -- What a C caller's memory says of two lines with a clock each.
-use Rattle.std.specs.Prelude.{◌≡◌, ◌==◌, ℕ, List, [], ◌∷◌, map, Option, Some, None, if◌then◌else◌}
+use Rattle.std.specs.Prelude.{◌==◌, ℕ, List, map, Option, Some, None, if◌then◌else◌}
 use Rattle.std.specs.Option.{option_map, option_to_list}
 use Rattle.bus_bits.specs.declared.span.Span.{Span}
 use Rattle.bus_fcs.specs.declared.octet_check.OctetCheck.{OctetCheck}

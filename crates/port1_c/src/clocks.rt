@@ -1,6 +1,6 @@
 //! Two lines with a clock each, in a caller's memory.
 
-ghost use Rattle.std.specs.Prelude.{◌≡◌, ◌+◌, ◌≤◌, ◌↔◌, List, Bool, ◌∷◌, [], IsErr, IfOk, OnErr, IsTrue};
+ghost use Rattle.std.specs.Prelude.{◌≡◌, ◌≤◌, ◌↔◌, List, IsErr, IfOk, OnErr, IsTrue};
 ghost use Rattle.bus_bits.specs.Limits.{most_places};
 ghost use Rattle.bus_fcs.specs.Folded.{by_tables};
 ghost use Rattle.bus_pairing.specs.Shown.{begun_span};
@@ -20,15 +20,15 @@ use bus_tap::BitPlaces;
 #[repr(C)]
 #[derive(Drop)]
 pub struct Port1Clocks {
-    /// The first line's.
+    /// The first line.
     pub first: Port1Line,
-    /// The second line's, by its own bits.
+    /// The second line, whose places count its own bits, from 0.
     pub second: Port1Line,
-    /// Places are those of the first line's bits.
+    /// The places of the second line's bits among those of the first.
     pub places: BitPlaces,
 }
 
-/// A line takes a bit. Returns what it decides. Both lines share this one copy of the decoder's code.
+/// A line takes a bit. Returns what it decides. Both lines share this copy of the decoder's code.
 #[inline(never)]
 fn decode(line: &mut Port1Line, bit: bool) -> Result<Option<Event>, PlaceLimit>
     requires sound { Sound line.old }
