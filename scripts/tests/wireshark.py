@@ -113,20 +113,48 @@ TWO_LINES_PACKETS = [
 SAID = ["frame.packet_flags_direction", "frame.time_epoch", "frame.comment"]
 
 
-def pcap_octet_by_octet(folder: Path) -> List[str]:
-    """A file with the link type and the packets that were asked for."""
-    path = folder / "x.pcap"
-    got = ran(["list-to-pcap", RATE, str(path)], b"8 49 frame 108300fde5\n153608 153649 frame 108380f561\n")
-    if got.returncode != 0:
-        return [got.stderr.decode()]
-    octets = path.read_bytes()
-    head = struct.unpack("<IHHiIII", octets[:24])
+# The longest frame that a dictionary can have, without its check.
+LONGEST = "1083" + "5a" * 254
+
+# Packets as they are in a capture file: when, in microseconds, their octets, and of how many these are a part.
+Packets = List[Tuple[int, str, int]]
+
+
+def packets_of_pcap(octets: bytes) -> Tuple[int, Packets]:
+    """The link type of a pcap file, and its packets."""
     packets, at = [], 24
     while at < len(octets):
-        seconds, micros, kept, _ = struct.unpack("<IIII", octets[at : at + 16])
-        packets.append((seconds, micros, octets[at + 16 : at + 16 + kept].hex()))
+        seconds, micros, kept, whole = struct.unpack("<IIII", octets[at : at + 16])
+        packets.append((seconds * 10**6 + micros, octets[at + 16 : at + 16 + kept].hex(), whole))
         at += 16 + kept
-    return compared((head[6], packets), (SDLC, [(0, 52, "108300"), (1, 52, "108380")]))
+    return struct.unpack("<IHHiIII", octets[:24])[6], packets
+
+
+def packets_of_pcapng(octets: bytes) -> Tuple[int, Packets]:
+    """The same of a pcapng file of one interface (draft-ietf-opsawg-pcapng)."""
+    link, packets, at = 0, [], 0
+    while at < len(octets):
+        kind, length = struct.unpack("<II", octets[at : at + 8])
+        body = octets[at + 8 : at + length - 4]
+        if kind == 1:
+            (link,) = struct.unpack("<H", body[:2])
+        elif kind == 6:
+            _, high, low, kept, whole = struct.unpack("<IIIII", body[:20])
+            packets.append((high << 32 | low, body[20 : 20 + kept].hex(), whole))
+        at += length
+    return link, packets
+
+
+def files_octet_by_octet(folder: Path) -> List[str]:
+    """Files of both forms with the link type and the packets that were asked for, also long ones."""
+    listing = f"8 49 frame 108300fde5\n153608 153649 frame 108380f561\n307200 309300 frame {LONGEST}fde5\n"
+    wanted = (SDLC, [(52, "108300", 3), (1000052, "108380", 3), (2000000, LONGEST, 256)])
+    problems = []
+    for name, read in [("x.pcap", packets_of_pcap), ("x.pcapng", packets_of_pcapng)]:
+        got = ran(["list-to-pcap", RATE, folder / name], listing.encode())
+        is_made = got.returncode == 0 and not got.stderr
+        problems += compared(read((folder / name).read_bytes()), wanted) if is_made else [got.stderr.decode()]
+    return problems
 
 
 def pcap_in_tshark(folder: Path) -> List[str]:
@@ -439,7 +467,7 @@ def dissector_of_a_listing(folder: Path) -> List[str]:
 
 
 TESTS = [
-    pcap_octet_by_octet,
+    files_octet_by_octet,
     pcap_in_tshark,
     pcapng_of_two_lines,
     pcapng_of_the_same_places,
