@@ -20,6 +20,17 @@ test("a whole listing has no warning, with a line end at its end or without", as
   }
 });
 
+test("a listing of more than one read of 4 MiB, whole and cut off within a line", async () => {
+  const lines = Array.from({ length: 220_000 }, (_, at) => `${100 * at} ${100 * at + 15} idle\n`);
+  const text = lines.join("");
+  assert.ok(text.length > 2 ** 22);
+  for (const [file, sorts] of [[text, []], [`${text}22000000 220000`, ["cut"]]]) {
+    const { listing, fault, warnings } = await readText(file);
+    assert.deepEqual([fault, warnings.map(({ sort }) => sort)], [null, sorts]);
+    assert.deepEqual([listing.length, listing.textOf(0, listing.length) === text], [lines.length, true]);
+  }
+});
+
 for (const cut of [1, 5, 9]) {
   test(`a listing that is cut off ${cut} octets into a line`, async () => {
     const found = await readText(LINES.join("") + LINES[49].slice(0, cut));
