@@ -157,6 +157,27 @@ def files_octet_by_octet(folder: Path) -> List[str]:
     return problems
 
 
+# Seconds since 1970 at 08:00 UTC on 27 November 2026: 20784 days, 8 hours.
+MORNING = 20784 * 86400 + 8 * 3600
+
+
+def times_of_day(_: Path) -> List[str]:
+    """With --begin times are seconds since 1970; without a zone they are of this computer's."""
+    rows = [
+        ("2026-11-27T08:00:00Z", 8, f"{MORNING}.000052"),
+        ("2026-11-27T09:30+01:30", 8, f"{MORNING}.000052"),
+        ("2026-11-27T03:00:00", 8, f"{MORNING}.000052"),
+        ("2026-11-27T08:00:00.999Z", 2 * 153600 + 154, f"{MORNING + 3}.000002"),
+    ]
+    environment = {**os.environ, "TZ": "America/New_York"}
+    problems = []
+    for begin, first, time in rows:
+        listing = f"{first} {first + 41} frame 108300fde5\n"
+        got = ran(["list-to-pcap", RATE, "--text", "--begin", begin], listing.encode(), env=environment)
+        problems += compared(got.stdout.decode(), f"{time}\n000000 10 83 00\n")
+    return problems
+
+
 def pcap_in_tshark(folder: Path) -> List[str]:
     """The real tshark reads the addresses and control octets that went in."""
     needs("tshark")
@@ -254,7 +275,7 @@ def wrong_calls(folder: Path) -> List[str]:
 ODD = """version = 1
 [[frame]]
 type = 0
-name = 'q"u\\o]]%s%n'
+name = 'q"1\\2]]%5s%n'
 length = 0
 [[frame]]
 type = 9
@@ -290,6 +311,8 @@ FRAMES = [
     (0, "10830901"),
     (0, "108305"),
     (0, ""),
+    (0, "118380"),
+    (0, "11837f"),
 ]
 
 
@@ -337,7 +360,7 @@ def dissector_fields(folder: Path) -> List[str]:
     head = {"port1.station": "16", "port1.control": "0x83"}
     other = {"port1.station": "17", "port1.control": "0x83"}
     got = layers(folder, dissected(folder))
-    zero, nine = 'q"u\\o]]%s%n', "Gr[n]-4"
+    zero, nine = 'q"1\\2]]%5s%n', "Gr[n]-4"
     bits = [f"port1.bit.{name}" for name in ("_", "__2", "__3", "1")]
     typed = {**head, "port1.type": "9", "port1.name": nine}
     wanted = {
@@ -360,8 +383,8 @@ def dissector_names(folder: Path) -> List[str]:
     """Names with quotes, backslashes, percent signs and other scripts stand as they are."""
     text = tshark(folder, [*dissected(folder), "-O", "port1"])
     wanted = [
-        'NEMA TS 2 Port 1, station 16 type 0 q"u\\o]]%s%n',
-        'Type: q"u\\o]]%s%n (0)',
+        'NEMA TS 2 Port 1, station 16 type 0 q"1\\2]]%5s%n',
+        'Type: q"1\\2]]%5s%n (0)',
         "Name: Gr[n]-4",
         '.... ...1 = ": True',
         ".... ..1. = \\: True",
@@ -374,12 +397,12 @@ def dissector_names(folder: Path) -> List[str]:
 # Filters, and the packets that pass them, counted from 1.
 FILTERS = {
     "port1.type == 0 && port1.station == 16": [4, 10],
-    "port1.station == 17": [7, 8, 11],
+    "port1.station == 17": [7, 8, 11, 16, 17],
     'port1.name == "Walk"': [7, 9],
     'port1.standing == "length"': [13],
-    'port1.standing == "unknown"': [14],
+    'port1.standing == "unknown"': [14, 16, 17],
     'port1.standing == "control"': [3, 12],
-    "port1.type >= 128": [8, 11],
+    "port1.type >= 128": [8, 11, 16],
     "port1 && !port1.type": [1, 2, 3, 12],
     "port1.data[0] == 0x05": [5],
     "port1.bit.a_b == 1": [7, 8],
@@ -421,6 +444,8 @@ def dissector_ways(folder: Path) -> List[str]:
         9: ["station 16", "Port 1", "controller"],
         10: ["controller", "Port 1", "station 17"],
         11: ["controller", "Port 1", "station 16"],
+        15: ["station 17", "Port 1", "controller"],
+        16: ["controller", "Port 1", "station 17"],
     }
     return [problem for number, row in wanted.items() for problem in compared(rows[number], row)]
 
@@ -468,6 +493,7 @@ def dissector_of_a_listing(folder: Path) -> List[str]:
 
 TESTS = [
     files_octet_by_octet,
+    times_of_day,
     pcap_in_tshark,
     pcapng_of_two_lines,
     pcapng_of_the_same_places,
