@@ -18,7 +18,7 @@ const TIMES = [
   { clock: new Clock(RATE, { text: NOON, late: 0 }), place: 1536, stretch: RATE, wanted: "12:00:00.010" },
   { clock: new Clock(RATE, { text: NOON, late: 0 }), place: 24, stretch: 153.6, wanted: "12:00:00.000156" },
   { clock: new Clock(RATE, { text: NIGHT, late: 0 }), place: 1.25 * RATE, stretch: RATE, wanted: "2026-11-28 00:00:00.000" },
-  { clock: new Clock(RATE, { text: NOON, late: 0 }), place: 1.005 * RATE, stretch: RATE, wanted: "12:00:01.005" },
+  { clock: new Clock(RATE, { text: NOON, late: 0 }), place: 154_368, stretch: RATE, wanted: "12:00:01.005" },
   { clock: new Clock(RATE, { text: FINE, late: 0 }), place: 0, stretch: 153.6, wanted: "12:00:00.123459" },
   { clock: LATE, place: RATE, stretch: RATE / 1000, wanted: "12:00:01.000500" },
   { clock: new Clock(RATE, { text: "2026-11-27T23:00:00-05:00", late: 0 }), place: 0, stretch: RATE, wanted: "23:00:00.000" },

@@ -369,7 +369,7 @@ def edges_told(recorded: "Recorded") -> str:
 
 
 def problems_of(recorded: "Recorded", what: str, rate: int) -> List[str]:
-    """What is wrong with a recording that can be told right: other bits, and warnings that nothing calls for."""
+    """What is wrong with a recording that can be told right: other bits, and other warnings than are due."""
     bits, warnings, others = outcome_of(recorded.samples, rate)
     due = [] if recorded.second else ["2 has no edges"]
     # Data that never changes is told of, also where it is at rest for all of a short recording.
@@ -377,7 +377,7 @@ def problems_of(recorded: "Recorded", what: str, rate: int) -> List[str]:
     due += [f"{2 * at + 1} never changes" for at, sent in enumerate(lines_of) if len(sent) >= 16 and is_flat(recorded, 2 * at + 1)]
     problems = [] if bits == arrivals_of(recorded) else [f"{what}: other bits"]
     problems += [] if others == [edges_told(recorded)] else [f"{what}: {others}"]
-    return problems + [f"{what}: {text}" for text in warnings if text not in due]
+    return problems + ([] if sorted(warnings) == sorted(due) else [f"{what}: wanted {due}, got {warnings}"])
 
 
 def is_flat(recorded: "Recorded", channel: int) -> bool:

@@ -9,9 +9,9 @@ from pathlib import Path
 from typing import List, NamedTuple, Sequence, Tuple
 
 from needs import Skipped, needs
+from table.vectors import VECTORS
 from tests.case import CALL, DICTIONARY, REPLY, SCRIPTS, SECONDS, TOP, WINDOWS
 from tests.case import Run, Word, listed, plain, random_bits
-from table.vectors import VECTORS
 
 RUNS: List[Run] = []
 

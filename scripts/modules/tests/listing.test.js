@@ -97,8 +97,9 @@ test("a reply is timed where its answer is the line before", () => {
   const listing = readAll("0 40 frame 1083000000\n90 131 frame 1083800000\n0 40 answered station 16 type 0\n", 1000);
   assert.equal(listing.row(2).replyBits, 50);
   assert.equal(listing.row(1).replyBits, null);
-  for (const octets of ["1183800000", "1083810000", "1083000000", "1013800000"]) {
-    const other = readAll(`90 131 frame ${octets}\n0 40 answered station 16 type 0\n`, 1000);
-    assert.equal(other.row(1).replyBits, null, octets);
+  const frames = ["1183800000", "1083810000", "1083000000", "1013800000"].map((octets) => `frame ${octets}`);
+  for (const text of [...frames, "stray station 16 type 128"]) {
+    const other = readAll(`90 131 ${text}\n0 40 answered station 16 type 0\n`, 1000);
+    assert.equal(other.row(1).replyBits, null, text);
   }
 });
