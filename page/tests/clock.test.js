@@ -8,6 +8,8 @@ const RATE = 153600;
 
 const [NOON, NIGHT] = ["2026-11-27T12:00:00Z", "2026-11-27T23:59:58.750Z"];
 
+const FINE = "2026-11-27T12:00:00.123459Z";
+
 /** Of a recording that began late in a run: the day is that of its beginning. */
 const LATE = new Clock(RATE, { text: NOON, late: 3 * 86400 + 0.0005 });
 
@@ -16,6 +18,8 @@ const TIMES = [
   { clock: new Clock(RATE, { text: NOON, late: 0 }), place: 1536, stretch: RATE, wanted: "12:00:00.010" },
   { clock: new Clock(RATE, { text: NOON, late: 0 }), place: 24, stretch: 153.6, wanted: "12:00:00.000156" },
   { clock: new Clock(RATE, { text: NIGHT, late: 0 }), place: 1.25 * RATE, stretch: RATE, wanted: "2026-11-28 00:00:00.000" },
+  { clock: new Clock(RATE, { text: NOON, late: 0 }), place: 154_368, stretch: RATE, wanted: "12:00:01.005" },
+  { clock: new Clock(RATE, { text: FINE, late: 0 }), place: 0, stretch: 153.6, wanted: "12:00:00.123459" },
   { clock: LATE, place: RATE, stretch: RATE / 1000, wanted: "12:00:01.000500" },
   { clock: new Clock(RATE, { text: "2026-11-27T23:00:00-05:00", late: 0 }), place: 0, stretch: RATE, wanted: "23:00:00.000" },
 ];
@@ -23,6 +27,14 @@ const TIMES = [
 for (const { clock, place, stretch, wanted } of TIMES) {
   test(`place ${place} is ${wanted}`, () => assert.equal(clock.moment(place, stretch), wanted));
 }
+
+test("each 5 ms, which are 768 bits, are a whole number of milliseconds", () => {
+  const clock = new Clock(RATE, { text: NOON, late: 0 });
+  for (let at = 0; at < 12000; at += 1) {
+    const digits = clock.at(768 * at).slice(-6);
+    assert.equal(digits, String((5000 * at) % 1_000_000).padStart(6, "0"), `${768 * at}`);
+  }
+});
 
 test("the listing has no date, and the head has", () => {
   const clock = new Clock(RATE, { text: NIGHT, late: 0 });

@@ -364,18 +364,20 @@ def one_cause_one_sentence(_: Path) -> List[str]:
 
 
 def windows_of_a_dictionary(folder: Path) -> List[str]:
-    """Without a window nothing can be late: all is well only where each type that is answered has one."""
+    """Without a window nothing can be late: all is well only where each type that is answered has one. Version 1 of
+    dictionaries has none."""
     listing, dictionary = rounds_of(20).octets(), folder / "windows.toml"
-    head = 'version = 2\n[[frame]]\ntype = 1\nname = "call"\nlength = 0\nanswered = true\n'
+    head = '[[frame]]\ntype = 1\nname = "call"\nlength = 0\nanswered = true\n'
     answer = '[[frame]]\ntype = 129\nname = "reply"\nlength = 0\n'
     problems = []
-    for window, wanted in [
-        ("window = 460\n", "Nothing is wrong: nothing is damaged, missing, spoilt or late,"),
-        ("", "No reply was judged late: the dictionary has no window."),
+    for version, window, wanted in [
+        (2, "window = 460\n", "Nothing is wrong: nothing is damaged, missing, spoilt or late,"),
+        (2, "", "No reply was judged late: the dictionary has no window."),
+        (1, "window = 460\n", "No reply was judged late: the dictionary has no window."),
     ]:
-        dictionary.write_text(head + window + answer, encoding="ascii")
+        dictionary.write_text(f"version = {version}\n{head}{window}{answer}", encoding="ascii")
         told = summary_of(listing, "--dictionary", str(dictionary))
-        problems += [] if wanted in told else [f"{window!r}: {told}"]
+        problems += [] if wanted in told else [f"{version}, {window!r}: {told}"]
     return problems
 
 

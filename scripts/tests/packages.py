@@ -11,6 +11,7 @@ from pathlib import Path
 from typing import Dict, Iterator, List, NamedTuple, Optional, Sequence, Tuple
 
 from needs import Skipped, needs
+from table.captures import FLAG, IDLE, sent
 from table.samples import ROWS
 from table.vectors import VECTORS
 from tests.case import CALL, ONE_CALL, REPLY, SECONDS, TOP
@@ -438,9 +439,12 @@ def orders(generator: random.Random, count: int) -> str:
 
 
 def encoded(text: str) -> str:
-    words = [os.environ["PORT1"], "encode"]
-    ran = subprocess.run(words, input=text.encode(), stdout=subprocess.PIPE, check=True, timeout=SECONDS)
-    return "".join(ran.stdout.decode().split())
+    """The bits of such lines, by the definition: one flag closes a frame and opens the next."""
+    bits = ""
+    for name, _, octets in (line.partition(" ") for line in text.splitlines()):
+        opening = "" if bits.endswith(FLAG) else FLAG
+        bits += {"flag": FLAG, "idle": IDLE}.get(name) or f"{opening}{sent(bytes.fromhex(octets))}{FLAG}"
+    return bits
 
 
 def captures() -> Dict[str, str]:
@@ -534,7 +538,7 @@ def vectors_in_python(folder: Path) -> List[str]:
 
 
 def encoder_in_python(folder: Path) -> List[str]:
-    """It sends what `port1 encode` does."""
+    """It sends the bits of flags, idle lines and frames, also of the longest after seven bits."""
     module = moved(folder) / "lib" / "python"
     problems = []
     for text in [*(orders(random.Random(seed), 500) for seed in range(4)), longest_frames()]:

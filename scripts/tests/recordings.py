@@ -2,11 +2,12 @@
 
 import os
 import random
+import re
 import subprocess
 import zipfile
 from itertools import product
 from pathlib import Path
-from typing import Any, Iterator, List, NamedTuple, Sequence, Tuple
+from typing import Any, Iterator, List, NamedTuple, Optional, Sequence, Tuple
 
 from needs import needs, needs_module
 from tests.case import CALL, SCRIPTS, TOP, Run, lines, plain, ran, written_by
@@ -258,6 +259,21 @@ RUNS = [
         f"{SCRIPT}: a has 3 edges\n{SCRIPT}: warning: the edges of a jump: samples may have been lost (at sample 120)\n",
     ),
     Run(
+        "a rate in place of the one that a dump tells: its times are as many bits, of which a hundred have no edge",
+        [SCRIPT, "--samplerate=153600", "a", "d"],
+        b"$timescale 1us $end\n" + WIRES + b"#0 0a 0b 1d #10 1a #15 0a #20 1a #25 0a #120 1a\n",
+        b"111\n",
+        f"{SCRIPT}: a has 3 edges\n{SCRIPT}: warning: a stops (for 0.000651 s from 0.000130 s on)\n",
+    ),
+    Run(
+        "places of a dump that begins late",
+        [SCRIPT, "a", "d"],
+        WIRES + b"#7000 0a 0b 1d #7010 1a #7015 0a #7020 1a #7025 0a #7120 1a\n",
+        b"111\n",
+        f"{SCRIPT}: a has 3 edges\n"
+        f"{SCRIPT}: warning: the edges of a jump: samples may have been lost (at sample 7120)\n",
+    ),
+    Run(
         "a timescale of no length",
         [SCRIPT, "a", "d"],
         b"$timescale 0us $end\n" + WIRES + b"#0 0a 1d #10 1a #15 0a #20 1a\n",
@@ -331,27 +347,37 @@ def session_of_sigrok(folder: Path) -> List[str]:
 
 
 class Outcome(NamedTuple):
-    """What became of a recording: its bits, and the warnings."""
+    """What became of a recording: its bits, the warnings, and the other lines."""
 
     bits: str
     warnings: List[str]
+    others: List[str]
 
 
 def outcome_of(samples: "np.ndarray", rate: int, *options: str) -> Outcome:
     got = ran([SCRIPT, *CHANNELS, f"--samplerate={rate}", *options], samples.tobytes())
     told = [line.partition(WARNING) for line in got.stderr.decode().splitlines()]
-    return Outcome(plain(got.stdout.decode()), [text for _, warning, text in told if warning])
+    warnings = [text for _, warning, text in told if warning]
+    return Outcome(plain(got.stdout.decode()), warnings, [text for text, warning, _ in told if not warning])
+
+
+def edges_told(recorded: "Recorded") -> str:
+    """How many edges there are: as many as bits were sent."""
+    counts = [len(recorded.first[1]), sum(len(bits) for _, bits in recorded.second)]
+    texts = [f"{2 * at} has {count} {'edge' if count == 1 else 'edges'}" for at, count in enumerate(counts)]
+    return f"{SCRIPT}: {', '.join(texts)}"
 
 
 def problems_of(recorded: "Recorded", what: str, rate: int) -> List[str]:
-    """What is wrong with a recording that can be told right: other bits, and warnings that nothing calls for."""
-    bits, warnings = outcome_of(recorded.samples, rate)
+    """What is wrong with a recording that can be told right: other bits, and other warnings than are due."""
+    bits, warnings, others = outcome_of(recorded.samples, rate)
     due = [] if recorded.second else ["2 has no edges"]
     # Data that never changes is told of, also where it is at rest for all of a short recording.
     lines_of = [recorded.first[1], "".join(some for _, some in recorded.second)]
     due += [f"{2 * at + 1} never changes" for at, sent in enumerate(lines_of) if len(sent) >= 16 and is_flat(recorded, 2 * at + 1)]
     problems = [] if bits == arrivals_of(recorded) else [f"{what}: other bits"]
-    return problems + [f"{what}: {text}" for text in warnings if text not in due]
+    problems += [] if others == [edges_told(recorded)] else [f"{what}: {others}"]
+    return problems + ([] if sorted(warnings) == sorted(due) else [f"{what}: wanted {due}, got {warnings}"])
 
 
 def is_flat(recorded: "Recorded", channel: int) -> bool:
@@ -400,12 +426,26 @@ def lonely_places(levels: "np.ndarray", generator: Any, count: int) -> "np.ndarr
     return generator.choice(middles, count, replace=False)
 
 
+class Told(NamedTuple):
+    """A warning that is due, with {} for each of its times, and these times in seconds."""
+
+    form: str
+    times: Sequence[float] = ()
+
+    def is_in(self, text: str) -> bool:
+        """Whether a text is this warning. A time is that of the bit, which is 6.5 microseconds long."""
+        found = re.fullmatch(re.escape(self.form).replace(r"\{\}", r"(\d+\.\d{6})"), text)
+        return found is not None and all(abs(float(told) - due) < 2e-6 for told, due in zip(found.groups(), self.times))
+
+
 class Doubtful(NamedTuple):
-    """A recording that can't be right, or not for certain, what is to be told, and what mends it, if anything."""
+    """A recording that can't be right, or not for certain, what is to be told, and which options mend it, if any do;
+    and with which options it is read."""
 
     name: str
-    warnings: Sequence[str]
+    warnings: Sequence[Told]
     samples: "np.ndarray"
+    mends: Optional[Sequence[str]] = None
     options: Sequence[str] = ()
 
 
@@ -419,6 +459,26 @@ def held(samples: "np.ndarray", channels: Sequence[int], begin: int, end: int) -
 
 def inverted(samples: "np.ndarray", *channels: int) -> "np.ndarray":
     return samples ^ np.uint8(sum(1 << channel for channel in channels))
+
+
+def rises_of(samples: "np.ndarray", channel: int) -> "np.ndarray":
+    """The samples in which a channel has gone high."""
+    return np.flatnonzero(np.diff((samples >> channel & 1).astype(np.int8)) == 1) + 1
+
+
+def stop_of(samples: "np.ndarray", rate: int) -> Told:
+    """Where the first clock rises no more for longest."""
+    rises = rises_of(samples, 0)
+    at = int(np.argmax(np.diff(rises)))
+    return Told("0 stops (for {} s from {} s on)", [(rises[at + 1] - rises[at]) / rate, rises[at] / rate])
+
+
+def jumps_of(samples: "np.ndarray", rate: int) -> Told:
+    """How often, and where first, a distance of two rises of the first clock is another than the one before."""
+    rises = rises_of(samples, 0)
+    jumps = np.flatnonzero(np.abs(np.diff(np.diff(rises))) > rate / cabinet.RATE / 3)
+    text = "the edges of 0 jump: samples may have been lost"
+    return Told(f"{text} ({len(jumps)} times, first at {{}} s)", [rises[jumps[0] + 2] / rate])
 
 
 def at_rest_in_the_end(rate: int) -> "Recorded":
@@ -435,33 +495,40 @@ def doubtful(rate: int) -> Iterator[Doubtful]:
     samples, (edges, _), _ = at_rest_in_the_end(rate)
     txc, txd, rxc, rxd = range(4)
     ends = len(samples)
-    yield Doubtful("no first clock", ["0 has no edges"], held(samples, [txc], 0, ends))
-    yield Doubtful("no second clock", ["2 has no edges"], held(samples, [rxc], 0, ends))
-    yield Doubtful("no first data", ["1 never changes"], held(samples, [txd], 0, ends))
-    yield Doubtful("no second data", ["3 never changes"], held(samples, [rxd], 0, ends))
-    yield Doubtful("a stop", ["0 stops (for 0.02600"], np.insert(samples, edges[3000], [samples[edges[3000]]] * (26 * rate // 1000)))
-    yield Doubtful("a stop at the end", ["0 stops, and does not go on until the recording ends (at"], held(samples, [txc], edges[3000], ends))
+    yield Doubtful("no first clock", [Told("0 has no edges")], held(samples, [txc], 0, ends))
+    yield Doubtful("no second clock", [Told("2 has no edges")], held(samples, [rxc], 0, ends))
+    yield Doubtful("no first data", [Told("1 never changes")], held(samples, [txd], 0, ends))
+    yield Doubtful("no second data", [Told("3 never changes")], held(samples, [rxd], 0, ends))
+    stopped = np.insert(samples, edges[3000], [samples[edges[3000]]] * (26 * rate // 1000))
+    yield Doubtful("a stop", [stop_of(stopped, rate)], stopped)
+    ended = held(samples, [txc], edges[3000], ends)
+    told = Told("0 stops, and does not go on until the recording ends (at {} s)", [rises_of(ended, 0)[-1] / rate])
+    yield Doubtful("a stop at the end", [told], ended)
     lost = np.delete(samples, np.arange(edges[3000], edges[3000] + 9 * rate // 1_000_000))
-    yield Doubtful("samples lost", ["the edges of 0 jump: samples may have been lost ("], lost)
-    for name, clocks, options in [("both", [txc, rxc], ["--falling"]), ("first", [txc], ["--invert=0"])]:
-        told = [f"the data changes at the edge of {clock} that is taken: try it with --falling" for clock in clocks]
-        yield Doubtful(f"edges of {name}", told, inverted(samples, *clocks), options)
-    told = ["1 rests at 0: if the two wires of its pair are exchanged, say --invert 1"]
-    yield Doubtful("a pair exchanged", told, inverted(samples, txd), ["--invert=1"])
+    yield Doubtful("samples lost", [jumps_of(lost, rate)], lost)
+    wrong_edge = "the data changes at the edge of {} that is taken: try it {} --falling"
+    for name, clocks, mends in [("both", [txc, rxc], ["--falling"]), ("first", [txc], ["--invert=0"])]:
+        warnings = [Told(wrong_edge.format(clock, "with")) for clock in clocks]
+        yield Doubtful(f"edges of {name}", warnings, inverted(samples, *clocks), mends)
+    warnings = [Told(wrong_edge.format(clock, "without")) for clock in (txc, rxc)]
+    yield Doubtful("falling edges in vain", warnings, samples, [], ["--falling"])
+    told = Told("1 rests at 0: if the two wires of its pair are exchanged, say --invert 1")
+    yield Doubtful("a pair exchanged", [told], inverted(samples, txd), ["--invert=1"])
 
 
 def doubts(_: Path) -> List[str]:
-    """Where the result can't be right for certain, the script says so, once; and with the right option it is."""
+    """Where the result can't be right for certain, the script says so, once, with count and time, and nothing else; and
+    with the right option it is."""
     needs_module("numpy")
     problems = []
     rate = 4_000_000
     truth = arrivals_of(at_rest_in_the_end(rate))
-    for name, wanted, samples, options in doubtful(rate):
-        told = outcome_of(samples, rate).warnings
-        if not told or any(not text.startswith(tuple(wanted)) for text in told) or len(told) != len(set(told)):
-            problems.append(f"{name}: {told}")
-        if options and outcome_of(samples, rate, *options) != (truth, []):
-            problems.append(f"{name}: {options} gives {outcome_of(samples, rate, *options).warnings}")
+    for name, wanted, samples, mends, options in doubtful(rate):
+        told = outcome_of(samples, rate, *options).warnings
+        if len(told) != len(wanted) or not all(due.is_in(text) for due, text in zip(wanted, told)):
+            problems.append(f"{name}: wanted {wanted}, got {told}")
+        if mends is not None and outcome_of(samples, rate, *mends)[:2] != (truth, []):
+            problems.append(f"{name}: {mends} gives {outcome_of(samples, rate, *mends).warnings}")
     return problems
 
 
@@ -470,8 +537,9 @@ def one_clock_for_two(_: Path) -> List[str]:
     needs_module("numpy")
     recorded = recorded_of(Cabinet(3, 80, False, 4_000_000, polls=8))
     got = ran([SCRIPT, "0", "1", "3", "--samplerate=4M"], recorded.samples.tobytes()).stderr.decode()
-    wanted = "3 does not change with the clock: it has a clock of its own, whose channel is to be named"
-    return [] if f"{WARNING}{wanted}\n" in got else [got]
+    told = "3 does not change with the clock: it has a clock of its own, whose channel is to be named"
+    wanted = f"{SCRIPT}: 0 has {len(recorded.first[1])} edges\n{SCRIPT}: {WARNING}{told}\n"
+    return [] if got == wanted else [f"wanted {wanted!r}, got {got!r}"]
 
 
 def beyond_one_read(folder: Path) -> List[str]:

@@ -9,6 +9,7 @@ from pathlib import Path
 from typing import List, NamedTuple, Sequence, Tuple
 
 from needs import Skipped, needs
+from table.vectors import VECTORS
 from tests.case import CALL, DICTIONARY, REPLY, SCRIPTS, SECONDS, TOP, WINDOWS
 from tests.case import Run, Word, listed, plain, random_bits
 
@@ -116,9 +117,14 @@ def annotations(folder: Path, samples: bytes, options: str) -> List[Shown]:
 def expected(line: Wave, dictionary: str, side: str) -> List[Shown]:
     """What is to be shown of a line, by the listing of its bits and the samples of its edges."""
     options = ["--dict", dictionary] if dictionary else []
+    return shown_of(listed(line.bits.encode(), ["--bits", *options]).stdout.decode(), line, side)
+
+
+def shown_of(listing: str, line: Wave, side: str) -> List[Shown]:
+    """What is to be shown of a line with this listing."""
     shown = []
-    for listing in listed(line.bits.encode(), ["--bits", *options]).stdout.decode().splitlines():
-        first, past, text = listing.split(" ", 2)
+    for report in listing.splitlines():
+        first, past, text = report.split(" ", 2)
         kind = text.split()[0]
         if kind in PIECES:
             # The fifteenth one tells that the line is idle, so no bit past it is there yet.
@@ -215,6 +221,23 @@ def pieces_of_one_line(folder: Path) -> List[str]:
     wanted = expected(line, DICTIONARY, CONTROLLER)
     got = annotations(folder, recording(line, REST), CHANNELS + dictionary_in(folder, DICTIONARY))
     return kinds_missing(wanted, ALL_KINDS) + differences(side_of(got, CONTROLLER), wanted)
+
+
+# Of examples/vectors/captures.json: each kind of piece, each standing of a frame, and what is encoded.
+CAPTURES = [("one line", "all kinds"), ("one line", "all heads"), ("one line", "what is encoded")]
+
+
+def pieces_of_vectors(folder: Path) -> List[str]:
+    """The pieces of captures whose listings are written by hand."""
+    built(folder)
+    problems = []
+    for vector in [vector for vector in VECTORS if (vector.kind, vector.name) in CAPTURES]:
+        line = wave(vector.symbols + "1" * 20)
+        wanted = shown_of(vector.listing, line, CONTROLLER)
+        got = annotations(folder, recording(line, REST), CHANNELS + dictionary_in(folder, vector.dictionary))
+        problems += [f"{vector.name}: {text}" for text in differences(side_of(got, CONTROLLER)[: len(wanted)], wanted)]
+        problems += [] if len(wanted) > 2 else [f"{vector.name}: the listing has {len(wanted)} pieces"]
+    return problems
 
 
 def falling_edge(folder: Path) -> List[str]:
@@ -439,8 +462,9 @@ def piece_longer_than_what_is_kept(folder: Path) -> List[str]:
     line = wave(call + "0" * 300_000 + call + "1" * 20 + call, period=4, change=2)
     wanted = expected(line, DICTIONARY, CONTROLLER)
     got = annotations(folder, recording(line, REST), CHANNELS + dictionary_in(folder, DICTIONARY))
-    lengths = [one.end - one.begin for one in wanted]
-    return differences(side_of(got, CONTROLLER), wanted) + ([] if max(lengths) > 10**6 else ["no long piece"])
+    # From the flag that ends the call to the next one.
+    piece = Shown(line.rises[57], line.rises[300_057], CONTROLLER + BESIDE_FRAMES, "overlong")
+    return differences(side_of(got, CONTROLLER), wanted) + ([] if piece in got else [f"there is no {piece}: {got}"])
 
 
 def answer_after(ones: int, count: int) -> str:
@@ -590,6 +614,7 @@ def without_a_terminal(_: Path) -> List[str]:
 
 TESTS = [
     pieces_of_one_line,
+    pieces_of_vectors,
     falling_edge,
     data_that_changes_with_the_edge,
     without_dictionary,

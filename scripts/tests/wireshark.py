@@ -113,20 +113,70 @@ TWO_LINES_PACKETS = [
 SAID = ["frame.packet_flags_direction", "frame.time_epoch", "frame.comment"]
 
 
-def pcap_octet_by_octet(folder: Path) -> List[str]:
-    """A file with the link type and the packets that were asked for."""
-    path = folder / "x.pcap"
-    got = ran(["list-to-pcap", RATE, str(path)], b"8 49 frame 108300fde5\n153608 153649 frame 108380f561\n")
-    if got.returncode != 0:
-        return [got.stderr.decode()]
-    octets = path.read_bytes()
-    head = struct.unpack("<IHHiIII", octets[:24])
+# The longest frame that a dictionary can have, without its check.
+LONGEST = "1083" + "5a" * 254
+
+# Packets as they are in a capture file: when, in microseconds, their octets, and of how many these are a part.
+Packets = List[Tuple[int, str, int]]
+
+
+def packets_of_pcap(octets: bytes) -> Tuple[int, Packets]:
+    """The link type of a pcap file, and its packets."""
     packets, at = [], 24
     while at < len(octets):
-        seconds, micros, kept, _ = struct.unpack("<IIII", octets[at : at + 16])
-        packets.append((seconds, micros, octets[at + 16 : at + 16 + kept].hex()))
+        seconds, micros, kept, whole = struct.unpack("<IIII", octets[at : at + 16])
+        packets.append((seconds * 10**6 + micros, octets[at + 16 : at + 16 + kept].hex(), whole))
         at += 16 + kept
-    return compared((head[6], packets), (SDLC, [(0, 52, "108300"), (1, 52, "108380")]))
+    return struct.unpack("<IHHiIII", octets[:24])[6], packets
+
+
+def packets_of_pcapng(octets: bytes) -> Tuple[int, Packets]:
+    """The same of a pcapng file of one interface (draft-ietf-opsawg-pcapng)."""
+    link, packets, at = 0, [], 0
+    while at < len(octets):
+        kind, length = struct.unpack("<II", octets[at : at + 8])
+        body = octets[at + 8 : at + length - 4]
+        if kind == 1:
+            (link,) = struct.unpack("<H", body[:2])
+        elif kind == 6:
+            _, high, low, kept, whole = struct.unpack("<IIIII", body[:20])
+            packets.append((high << 32 | low, body[20 : 20 + kept].hex(), whole))
+        at += length
+    return link, packets
+
+
+def files_octet_by_octet(folder: Path) -> List[str]:
+    """Files of both forms with the link type and the packets that were asked for, also long ones."""
+    listing = f"8 49 frame 108300fde5\n153608 153649 frame 108380f561\n307200 309300 frame {LONGEST}fde5\n"
+    wanted = (SDLC, [(52, "108300", 3), (1000052, "108380", 3), (2000000, LONGEST, 256)])
+    problems = []
+    for name, read in [("x.pcap", packets_of_pcap), ("x.pcapng", packets_of_pcapng)]:
+        got = ran(["list-to-pcap", RATE, folder / name], listing.encode())
+        is_made = got.returncode == 0 and not got.stderr
+        problems += compared(read((folder / name).read_bytes()), wanted) if is_made else [got.stderr.decode()]
+    return problems
+
+
+# Seconds since 1970 at 08:00 UTC on 27 November 2026: 20784 days, 8 hours.
+MORNING = 20784 * 86400 + 8 * 3600
+
+
+def times_of_day(_: Path) -> List[str]:
+    """With --begin times are seconds since 1970; without a zone they are of this computer's."""
+    rows = [
+        ("2026-11-27T08:00:00Z", 8, f"{MORNING}.000052"),
+        ("2026-11-27T09:30+01:30", 8, f"{MORNING}.000052"),
+        ("2026-11-27T03:00:00", 8, f"{MORNING}.000052"),
+        ("2026-11-27T08:00:00.123459Z", 8, f"{MORNING}.123511"),
+        ("2026-11-27T08:00:00.999Z", 2 * 153600 + 154, f"{MORNING + 3}.000002"),
+    ]
+    environment = {**os.environ, "TZ": "America/New_York"}
+    problems = []
+    for begin, first, time in rows:
+        listing = f"{first} {first + 41} frame 108300fde5\n"
+        got = ran(["list-to-pcap", RATE, "--text", "--begin", begin], listing.encode(), env=environment)
+        problems += compared(got.stdout.decode(), f"{time}\n000000 10 83 00\n")
+    return problems
 
 
 def pcap_in_tshark(folder: Path) -> List[str]:
@@ -226,7 +276,7 @@ def wrong_calls(folder: Path) -> List[str]:
 ODD = """version = 1
 [[frame]]
 type = 0
-name = 'q"u\\o]]%s%n'
+name = 'q"1\\2]]%5s%n'
 length = 0
 [[frame]]
 type = 9
@@ -262,6 +312,8 @@ FRAMES = [
     (0, "10830901"),
     (0, "108305"),
     (0, ""),
+    (0, "118380"),
+    (0, "11837f"),
 ]
 
 
@@ -309,7 +361,7 @@ def dissector_fields(folder: Path) -> List[str]:
     head = {"port1.station": "16", "port1.control": "0x83"}
     other = {"port1.station": "17", "port1.control": "0x83"}
     got = layers(folder, dissected(folder))
-    zero, nine = 'q"u\\o]]%s%n', "Gr[n]-4"
+    zero, nine = 'q"1\\2]]%5s%n', "Gr[n]-4"
     bits = [f"port1.bit.{name}" for name in ("_", "__2", "__3", "1")]
     typed = {**head, "port1.type": "9", "port1.name": nine}
     wanted = {
@@ -332,8 +384,8 @@ def dissector_names(folder: Path) -> List[str]:
     """Names with quotes, backslashes, percent signs and other scripts stand as they are."""
     text = tshark(folder, [*dissected(folder), "-O", "port1"])
     wanted = [
-        'NEMA TS 2 Port 1, station 16 type 0 q"u\\o]]%s%n',
-        'Type: q"u\\o]]%s%n (0)',
+        'NEMA TS 2 Port 1, station 16 type 0 q"1\\2]]%5s%n',
+        'Type: q"1\\2]]%5s%n (0)',
         "Name: Gr[n]-4",
         '.... ...1 = ": True',
         ".... ..1. = \\: True",
@@ -346,12 +398,12 @@ def dissector_names(folder: Path) -> List[str]:
 # Filters, and the packets that pass them, counted from 1.
 FILTERS = {
     "port1.type == 0 && port1.station == 16": [4, 10],
-    "port1.station == 17": [7, 8, 11],
+    "port1.station == 17": [7, 8, 11, 16, 17],
     'port1.name == "Walk"': [7, 9],
     'port1.standing == "length"': [13],
-    'port1.standing == "unknown"': [14],
+    'port1.standing == "unknown"': [14, 16, 17],
     'port1.standing == "control"': [3, 12],
-    "port1.type >= 128": [8, 11],
+    "port1.type >= 128": [8, 11, 16],
     "port1 && !port1.type": [1, 2, 3, 12],
     "port1.data[0] == 0x05": [5],
     "port1.bit.a_b == 1": [7, 8],
@@ -393,6 +445,8 @@ def dissector_ways(folder: Path) -> List[str]:
         9: ["station 16", "Port 1", "controller"],
         10: ["controller", "Port 1", "station 17"],
         11: ["controller", "Port 1", "station 16"],
+        15: ["station 17", "Port 1", "controller"],
+        16: ["controller", "Port 1", "station 17"],
     }
     return [problem for number, row in wanted.items() for problem in compared(rows[number], row)]
 
@@ -439,7 +493,8 @@ def dissector_of_a_listing(folder: Path) -> List[str]:
 
 
 TESTS = [
-    pcap_octet_by_octet,
+    files_octet_by_octet,
+    times_of_day,
     pcap_in_tshark,
     pcapng_of_two_lines,
     pcapng_of_the_same_places,

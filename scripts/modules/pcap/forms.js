@@ -17,7 +17,7 @@ const MOST_REMARKS = 8;
  * @param {Clock} clock
  */
 export function timeOf({ row: { first } }, { rate, zero }) {
-  const micros = Math.floor(((first % rate) * 1e6) / rate + 1000 * (zero % 1000));
+  const micros = Math.floor(((first % rate) * 1e6) / rate + Math.round(1000 * (zero % 1000)));
   return [Math.floor(first / rate) + Math.floor(zero / 1000) + Math.floor(micros / 1e6), micros % 1e6];
 }
 

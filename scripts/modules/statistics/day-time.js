@@ -1,8 +1,11 @@
 import { Fault } from "../fault.js";
 
-const FORM = /^\d{4}-\d\d-\d\dT\d\d:\d\d(?::\d\d(?:\.\d+)?)?(Z|[+-]\d\d:\d\d)?$/;
+const FORM = /^(\d{4}-\d\d-\d\dT\d\d:\d\d(?::\d\d)?)((?<=:\d\d:\d\d)\.\d+)?(Z|[+-]\d\d:\d\d)?$/;
 
 const MINUTE = 60000;
+
+/** What a number of seconds may lack of a whole microsecond that it stands for, in microseconds: a bit has 6.5. */
+const LACKING = 0.005;
 
 /**
  * How far a zone is ahead of UTC, in milliseconds; with no zone, that of this computer at some time.
@@ -23,19 +26,20 @@ export class DayTime {
    * @param {number} [late] how many seconds after it place 0 was
    */
   constructor(text, late = 0) {
-    const found = FORM.exec(text);
-    this.begin = found === null ? NaN : Date.parse(text) + 1000 * late; // milliseconds since 1970
+    const [, time, fraction = "", zone] = FORM.exec(text) ?? [];
+    this.begin = Date.parse(`${time}${zone ?? ""}`) + 1000 * (Number(`0${fraction}`) + late); // milliseconds since 1970
     if (Number.isNaN(this.begin)) throw new Fault(`${JSON.stringify(text)} is no time as 2026-11-27T03:00:00Z`);
-    this.zone = found?.[1];
+    this.zone = zone;
   }
 
   /** @param {number} seconds @param {number} [digits] of a second, at most 6 */
   iso(seconds, digits = 3) {
     const begin = Math.floor(this.begin);
-    const passed = 1000 * seconds + (this.begin - begin);
-    const time = begin + Math.floor(passed);
+    const micros = Math.floor(1e6 * seconds + Math.round(1000 * (this.begin - begin)) + LACKING);
+    const passed = Math.floor(micros / 1000);
+    const time = begin + passed;
     const text = new Date(time + shiftOf(this.zone, time)).toISOString().slice(0, -1);
-    const beyond = String(Math.floor(1000 * (passed - Math.floor(passed)))).padStart(3, "0");
+    const beyond = String(micros - 1000 * passed).padStart(3, "0");
     return `${text}${beyond}`.slice(0, digits === 0 ? -7 : digits - 6 || undefined);
   }
 

@@ -3,8 +3,15 @@ import { test } from "node:test";
 import { Fault } from "../fault.js";
 import { ListingReader, isListing } from "../listing/read.js";
 
+/** So many octets of a frame to station 16 of type 1, its check among them: a dictionary can have 258. */
+const octetsOf = (count) => Buffer.from(Uint8Array.from({ length: count }, (_, at) => [16, 0x83, 1][at] ?? at & 255));
+
 /** A line of each form, and what a row has of it. */
 const LINES = [
+  ...[256, 257, 258].map((count) => ({
+    text: `8 ${8 + 8 * count} frame ${octetsOf(count).toString("hex")} station 16 type 1 long`,
+    row: { past: 8 + 8 * count, octets: new Uint8Array(octetsOf(count)), type: 1, name: "long" },
+  })),
   { text: "8 49 frame 108300fde5", row: { kind: "frame", station: 16, type: 0, name: "" } },
   { text: "8 49 frame 108300fde5 station 16 type 0 call", row: { type: 0, name: "call" } },
   { text: "8 49 frame 108345fde5 station 16 type 69 unknown", row: { type: 69, name: "unknown" } },
@@ -90,6 +97,9 @@ test("a reply is timed where its answer is the line before", () => {
   const listing = readAll("0 40 frame 1083000000\n90 131 frame 1083800000\n0 40 answered station 16 type 0\n", 1000);
   assert.equal(listing.row(2).replyBits, 50);
   assert.equal(listing.row(1).replyBits, null);
-  const other = readAll("90 131 frame 1183800000\n0 40 answered station 16 type 0\n", 1000);
-  assert.equal(other.row(1).replyBits, null);
+  const frames = ["1183800000", "1083810000", "1083000000", "1013800000"].map((octets) => `frame ${octets}`);
+  for (const text of [...frames, "stray station 16 type 128"]) {
+    const other = readAll(`90 131 ${text}\n0 40 answered station 16 type 0\n`, 1000);
+    assert.equal(other.row(1).replyBits, null, text);
+  }
 });

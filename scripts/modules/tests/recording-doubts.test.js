@@ -2,7 +2,7 @@
 
 import assert from "node:assert/strict";
 import { test } from "node:test";
-import { doubtsOf, warningOf } from "../recording/doubts.js";
+import { doubtsOf, edgesOf, warningOf } from "../recording/doubts.js";
 import { factsIn } from "../recording/facts.js";
 import { Moments } from "../recording/moments.js";
 
@@ -29,10 +29,12 @@ const GOOD = {
   "second-jumps": "7 500 600",
 };
 
+const factsWith = (facts) =>
+  factsIn(Object.entries({ ...GOOD, ...facts }).map((fact) => `${fact.join(" ")}\n`).join(""));
+
 function warned(facts, names = NAMES, how = {}) {
-  const text = Object.entries({ ...GOOD, ...facts }).map((fact) => `${fact.join(" ")}\n`).join("");
   const { rising = true, ticks = null, begin = 0 } = how;
-  return doubtsOf(factsIn(text), names, { rising, when: new Moments(ticks, begin) });
+  return doubtsOf(factsWith(facts), names, { rising, when: new Moments(ticks, begin) });
 }
 
 const EDGE = "the data changes at the edge of TXC that is taken: try it";
@@ -50,6 +52,11 @@ const CASES = [
   ["a stop of the second clock", { "second-gap": "9999 800" }, []],
   ["a stop until the end", { "first-bits": "900 2 3600", samples: "4000" }, ["TXC stops, and does not go on until the recording ends (at sample 3600)"]],
   ["a stop, and data that changes meanwhile", { "first-gap": "65 800", "txd-high": "300 4 3900" }, ["TXC stops (for 65 samples from sample 800 on)"]],
+  [
+    "a stop, at whose ends the edges jump",
+    { "first-gap": "65 800", "first-jumps": "2 865 869" },
+    ["TXC stops (for 65 samples from sample 800 on)"],
+  ],
   ["samples lost", { "first-jumps": "1 70 70" }, ["the edges of TXC jump: samples may have been lost (at sample 70)"]],
   ["samples lost twice", { "first-jumps": "2 70 90" }, ["the edges of TXC jump: samples may have been lost (2 times, first at sample 70)"]],
   ["data that rests at 0", { "txd-level": "0", "txd-changes": "400 4 2970" }, ["TXD rests at 0: if the two wires of its pair are exchanged, say --invert TXD"]],
@@ -75,6 +82,17 @@ test("one clock for two lines", () => {
   assert.deepEqual(warned({}, names), []);
   const own = "RXD does not change with the clock: it has a clock of its own, whose channel is to be named";
   assert.deepEqual(warned({ "rxd-high": "200 4 3900" }, names).map(({ text }) => text), [own]);
+});
+
+/** @type {[string[], string][]} */
+const EDGES = [
+  [NAMES, "TXC has 1000 edges, RXC has 1 edge"],
+  [["CLK", "TXD", "CLK", "RXD"], "CLK has 1000 edges"],
+  [["CLK", "DAT"], "CLK has 1000 edges"],
+];
+
+test("edges of each clock, once where both lines have one", () => {
+  for (const [names, wanted] of EDGES) assert.equal(edgesOf(factsWith({ "second-bits": "1 3 3" }), names), wanted);
 });
 
 test("one line", () => assert.deepEqual(warned({ "second-bits": "0 0 0", "rxd-changes": "0 0 0" }, ["CLK", "DAT"]), []));

@@ -3,9 +3,10 @@ import { readFileSync } from "node:fs";
 import { test } from "node:test";
 import { channelsOf, formOf, formOfRecording } from "../recording/forms.js";
 import { Fault } from "../fault.js";
+import { recordingOf } from "../recording/recording.js";
 import { hertz } from "../recording/units.js";
 
-/** What the beginning of a recording tells: its form, and its channels. */
+/** What the beginning of a recording tells: its form, its channels, and its rate. */
 
 const BEGINNINGS = {
   vcd: ["$", "  \r\n\t$date", "\xef\xbb\xbf$date", "\xbf\xbb\xef$", "META samplerate: 1\n$date"],
@@ -74,3 +75,30 @@ test("rates in hertz", () => {
   for (const [text, rate] of RATES) assert.equal(hertz(text), rate, text);
   for (const text of ["", "fast", "-1 MHz", "4 mHz", "4 THz", "1e6"]) assert.throws(() => hertz(text), Fault, text);
 });
+
+const DUMP = "$var wire 1 ! a $end $var wire 1 # b $end $enddefinitions $end #0 0! 0# #9 1!\n";
+
+/**
+ * Samples a second of a recording: those that it tells, or the ones that are asked for; of runs no more than 10 MHz.
+ * @type {[import("../recording/forms.js").Form|"binary", string, number|undefined, number|null][]}
+ */
+const TICKS = [
+  ["vcd", DUMP, undefined, null],
+  ["vcd", `$timescale 1 us $end ${DUMP}`, undefined, 1e6],
+  ["vcd", `$timescale 1 us $end ${DUMP}`, 4e6, 4e6],
+  ["vcd", `$timescale 1 ns $end ${DUMP}`, undefined, 1e7],
+  ["csv", "a,b\n0,1\n", undefined, null],
+  ["csv", "a,b\n0,1\n", 4e6, 4e6],
+  ["csv", "; Samplerate: 2 MHz\na,b\n0,1\n", undefined, 2e6],
+  ["csv", "; Samplerate: 2 MHz\na,b\n0,1\n", 4e6, 4e6],
+  ["session", "\0", undefined, 2e6],
+  ["session", "\0", 4e6, 4e6],
+];
+
+for (const [form, text, asked, wanted] of TICKS) {
+  test(`samples a second of ${JSON.stringify(text.slice(0, 30))}, asked for ${asked}`, async () => {
+    const samples = { names: ["a", "b"], width: 1, ticks: 2e6 };
+    const { ticks } = await recordingOf([octetsOf(text)], { form, channels: ["a", "b"], ticks: asked, samples });
+    assert.equal(ticks, wanted);
+  });
+}

@@ -8,6 +8,7 @@ import { damageOf } from "../statistics/damage.js";
 import { repliesOf } from "../statistics/replies.js";
 import { report } from "../statistics/report.js";
 import { headLine } from "../statistics/sentences.js";
+import { Slots } from "../statistics/slots.js";
 import { tableOf } from "../statistics/table.js";
 import { verdictOf } from "../statistics/verdict.js";
 import { wrong } from "../statistics/wrong.js";
@@ -122,10 +123,31 @@ test("damage that only wider slots of time show: 3 of 6 pieces in the first half
   assert.deepEqual(damageOf(bus).stretches, [{ begin: 0, past: 500, text: "0.000 to 0.500 s", pieces: 3, share: 50 }]);
 });
 
+test("a slot with twice the mean is none of much damage: 30 pieces in 30 slots, 2 of them beside one with 20", () => {
+  const slots = [...Array(20).fill(6), 5, 5, ...[0, 10, 12, 14, 16, 18, 20, 22]];
+  const pieces = slots.map((slot, at) => slot * 15360 + at * 60).map((place) => `${place} ${place + 9} abort\n`);
+  const bus = busOf(`${pieces.join("")}0 15 idle\n460785 460800 idle\n`);
+  const found = damageOf(bus).stretches.map(({ begin, past, pieces: count }) => [begin, past, count]);
+  assert.deepEqual(found, [[600, 700, 20]]);
+});
+
+test("damage in so many milliseconds is kept in no more than 4096 slots", () => {
+  const rows = [[4096, 1, 4096], [4097, 10, 410], [40_960, 10, 4096], [40_961, 100, 410]];
+  for (const [count, milliseconds, size] of rows) {
+    const slots = new Slots(1000);
+    for (let place = 0; place < count; place += 1) slots.add(place);
+    assert.deepEqual([slots.milliseconds, slots.counts.size], [milliseconds, size], `${count}`);
+    assert.equal([...slots.counts.values()].reduce((sum, pieces) => sum + pieces), count);
+  }
+});
+
 test("times to answers by kinds, and of all", () => {
   const poll = "1 9000 9041 frame 118301fde5 station 17 type 1 poll\n";
   const state = "2 9050 9091 frame 118381fde5 station 17 type 129 state\n";
-  const bus = busOf(`${LISTING}${poll}${state}1 9000 9041 answered station 17 type 1\n`);
+  const ask = "1 9500 9541 frame 118302fde5 station 17 type 2 ask\n";
+  const told = "2 9800 9841 frame 118382fde5 station 17 type 130 told\n";
+  const inTime = `${poll}${state}1 9000 9041 answered station 17 type 1\n`;
+  const bus = busOf(`${LISTING}${inTime}${ask}${told}1 9500 9541 late station 17 type 2\n`);
   const { all, kinds } = repliesOf(bus);
   const shown = kinds.map(({ kind, name, inTime, late }) => {
     return [kind.station, kind.type, name, inTime.pairs(), late.pairs()];
@@ -133,12 +155,17 @@ test("times to answers by kinds, and of all", () => {
   assert.deepEqual(shown, [
     [16, 0, "call", [[100, 2]], [[400, 1]]],
     [17, 1, "poll", [[9, 1]], []],
+    [17, 2, "ask", [], [[259, 1]]],
   ]);
   const both = [
     [9, 1],
     [100, 2],
   ];
-  assert.deepEqual([all.inTime.pairs(), all.late.pairs()], [both, [[400, 1]]]);
+  const ofLate = [
+    [259, 1],
+    [400, 1],
+  ];
+  assert.deepEqual([all.inTime.pairs(), all.late.pairs()], [both, ofLate]);
 });
 
 test("a listing taken piece by piece", () => {
