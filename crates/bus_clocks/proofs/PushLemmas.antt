@@ -1,20 +1,18 @@
 -- An arrival leads an analyser on.
 use Rattle.std.proofs.Common.{◌≡◌, ℕ, ◌+◌, ◌-◌, ◌%◌, ◌^◌, ◌≤◌, ◌==◌, Bool, true, false, if◌then◌else◌, List, []}
 use Rattle.std.proofs.Common.{◌∷◌, ◌++◌, length, Option, Some, None, refl, sym, ap, ◌∙◌, subst, arith, append-nil}
-use Rattle.std.proofs.Common.{length-append, ◌⊎◌, inl, inr}
+use Rattle.std.proofs.Common.{◌⊎◌, inl, inr}
 use Rattle.std.specs.List.{slice_get}
 use Rattle.std.specs.Option.{option_map, option_to_list}
 use Rattle.std.proofs.lemmas.Bool.{cases_lt, ne_eqb, eq-eqb}
 use Rattle.bus_fcs.specs.Check.{CheckView}
 use Rattle.bus_line.specs.After.{After}
-use Rattle.bus_line.specs.Due.{due_at, begun}
+use Rattle.bus_line.specs.Due.{begun}
 use Rattle.bus_line.specs.Laws.{DueIsIt, FrameIsSpelled}
-use Rattle.bus_line.specs.Report.{Report, Kind, moved}
+use Rattle.bus_line.specs.Report.{Report}
 use Rattle.bus_line.specs.Internal.LineState.{LineState}
-use Rattle.bus_line.specs.Shown.{kind_with, reported}
+use Rattle.bus_line.specs.Shown.{reported}
 use Rattle.bus_line.specs.declared.event.Event.{Event}
-use Rattle.bus_line.specs.declared.event.EventKind.{EventKind}
-use Rattle.bus_line.specs.declared.event.EventKind.TheVariants as event
 use Rattle.bus_dictionary.specs.Dictionary.{longest_of}
 use Rattle.bus_pairing.specs.LineReport.{LineReport}
 use Rattle.bus_pairing.specs.Seen.{SeenReport, seen}
@@ -24,17 +22,17 @@ use Rattle.bus_pairing.proofs.SeenLemmas.{seen-more}
 use Rattle.bus_watch.specs.Internal.Decodes.{line_reports_of}
 use Rattle.bus_watch.proofs.AnalyserViewLemmas.{whole}
 use Rattle.bus_tap.specs.Arrival.{Arrival, own}
-use Rattle.bus_clocks.specs.Arrival.{place_of, at_places, decides, arrived}
+use Rattle.bus_clocks.specs.Arrival.{place_of, decides, arrived}
 use Rattle.bus_clocks.specs.Clocks.{ClockState, PlacesState, KeepsPlaces, IsAfterArrivals, AdvancesArrivals}
 use Rattle.bus_clocks.specs.Clocks.{arrival_reports}
 use Rattle.bus_clocks.specs.Clocks.{CountsOn}
-use Rattle.bus_clocks.specs.Internal.Pushes.{DecodesBit, OpensWith, Notes, IsLocated, AreLocated, IsLocatable}
+use Rattle.bus_clocks.specs.Internal.Pushes.{DecodesBit, OpensWith, Notes, AreLocated, IsLocatable}
 use Rattle.bus_clocks.specs.Internal.Pushes.{AdvancesConversationBy, FitsPast}
 use Rattle.bus_clocks.specs.Laws.{ArrivalsGrow}
 use Rattle.bus_tap.proofs.ArrivalLemmas.{own-append, before-append, before-within}
-use Rattle.bus_clocks.proofs.ArrivalLemmas.{IsNear, report-near}
-use Rattle.bus_clocks.proofs.ArrivalLemmas.{decides-first, decides-second}
-use Rattle.bus_clocks.proofs.PlacesLemmas.{places-first, places-second, was-open, WasOpen, begun-within}
+use Rattle.bus_clocks.proofs.ArrivalLemmas.{decides-first}
+use Rattle.bus_clocks.proofs.LocatedLemmas.{LastBit, decides-located, last-locatable, same-number, some-is}
+use Rattle.bus_clocks.proofs.PlacesLemmas.{places-first, places-second, WasOpen, begun-within}
 
 -- an arrival leads from old to new; it decides these reports, at most one, of which this is seen
 pub record Pushes {C : Type 0} (view : CheckView C) (old : ClockState C) (x : Arrival)
@@ -164,15 +162,6 @@ push-first view old new bit e found decodes enters second places =
       counts = counts-first old new bit led.place (ap (λ d. d.place) second);
     }
 
-pub none-is : {X Y : Type 0} (f : X → Y) (o : Option X) → None ≡ option_map f o → o ≡ None
-none-is f None is = refl
-none-is f (Some x) is = absurd (cc)
-
-pub some-is : {X Y : Type 0} (f : X → Y) (o : Option X) (y : Y) → Some y ≡ option_map f o →
-    (x : X) × (o ≡ Some x) × (y ≡ f x)
-some-is f None y is = absurd (cc)
-some-is f (Some x) y is = (x, refl, cc)
-
 -- decoder and places after a bit of the second line
 pub record PushesSecond {C : Type 0} (view : CheckView C) (old : ClockState C) (bit : Bool) (e : Option Event)
     (number : ℕ) (opens : Bool) (second : LineState C) (places : PlacesState) : Type 0 where
@@ -200,146 +189,34 @@ module _ {C : Type 0} {view : CheckView C} {old : ClockState C} {bit : Bool} {e 
   places-kept : KeepsPlaces old.first.origin places (xs ++ (Second, bit) ∷ [])
   places-kept = places-second old.first.origin old.places places xs bit opens reached.places notes-at opening-at
 
-  count-at : length (own Second (xs ++ (Second, bit) ∷ [])) ≡ length (own Second xs) + 1
-  count-at = omega (
-    arith,
-    ap length (own-append Second xs ((Second, bit) ∷ [])),
-    length-append (own Second xs) (bit ∷ []),
-  )
-
--- what is due at the bit, and where
-record IsDue (longest : ℕ) (b : List Bool) (bit : Bool) (os : List ℕ) (e : Event) : Type 0 where
-  pub report : Report
-  pub due : due_at longest (b ++ bit ∷ []) (length b) ≡ Some report
-  pub kind : kind_with os e.kind ≡ report.kind
-  pub first : e.span.first ≡ report.first
-  pub past : e.span.past ≡ report.past
-  pub near : IsNear (length b) report
-  pub decided : ((report.kind ≡ Kind.Idle) × (length b ≤ report.first + 14)) ⊎ WasOpen b bit report
-
-is-due : (longest origin : ℕ) (b : List Bool) (bit : Bool) (os : List ℕ) (e : Event) → DueIsIt → origin ≡ 0 →
-    Some (reported os e) ≡ option_map (moved origin) (due_at longest (b ++ bit ∷ []) (length b)) →
-    IsDue longest b bit os e
-is-due longest origin b bit os e it zero answer =
-    let found = some-is (moved origin) _ (reported os e) answer in
-    let report = (it longest (b ++ bit ∷ []) (length b) found.0).1 found.1 in
-    record {
-      report = found.0;
-      due = found.1;
-      kind = ap (λ (s : Report). s.kind) found.2;
-      first = omega (arith, ap (λ (s : Report). s.first) found.2, zero);
-      past = omega (arith, ap (λ (s : Report). s.past) found.2, zero);
-      near = subst (λ n. IsNear n found.0) report.1 (report-near longest (b ++ bit ∷ []) found.0 report.0);
-      decided = was-open longest b bit found.0 report.0 report.1;
-    }
-
-kind-idle : (os : List ℕ) (k : EventKind) → kind_with os k ≡ Kind.Idle → k ≡ event.Idle
-kind-idle os event.Frame is = absurd (cc)
-kind-idle os (event.Damaged cause) is = absurd (cc)
-kind-idle os event.Overlong is = absurd (cc)
-kind-idle os event.Abort is = absurd (cc)
-kind-idle os event.Idle is = refl
-
-pub same-number : (x y : ℕ) → Some x ≡ Some y → x ≡ y
-same-number x y is = cc
-
-module _ {C : Type 0} {view : CheckView C} {old : ClockState C} {bit : Bool} {e : Event} {number : ℕ}
-    {opens : Bool} {second : LineState C} {places : PlacesState} (it : DueIsIt)
-    (pushed : PushesSecond view old bit (Some e) number opens second places)
-    (xs : List Arrival) (reached : IsAfterArrivals view old xs) where
-  due-now : IsDue old.second.longest (own Second xs) bit second.octets e
-  due-now = is-due old.second.longest old.second.origin (own Second xs) bit second.octets e it reached.origin
-      (pushed.decodes.answer (own Second xs) reached.second)
-
-  -- the place of its last bit
-  last-place : slice_get places.recent ((e.span.past - 1) % 16)
-      ≡ Some (old.first.origin + place_of (xs ++ (Second, bit) ∷ []) (due-now.report.past - 1))
-  last-place =
-      let d = due-now in
-      let count = count-at pushed xs reached in
-      ap (λ k. slice_get places.recent ((k - 1) % 16)) d.past
-      ∙ (places-kept pushed xs reached).recent (d.report.past - 1) (omega (arith, d.near.within, d.near.some, count))
-      (omega (arith, d.near.near, d.near.some, count))
-
-  -- that of its first
-  opened-place : WasOpen (own Second xs) bit due-now.report →
-      places.opened ≡ old.first.origin + place_of (xs ++ (Second, bit) ∷ []) due-now.report.first
-  opened-place was =
-      let r = due-now.report in
-      elim (opening-at pushed xs reached) [
+  -- that of the first bit of the piece that it decides
+  opened-place : (r : Report) → WasOpen (own Second xs) bit r →
+      places.opened ≡ old.first.origin + place_of (xs ++ (Second, bit) ∷ []) r.first
+  opened-place r was =
+      elim opening-at [
         | inl opened_now ↦ absurd (was.none opened_now.1)
         | inr other ↦
-            (notes-at pushed xs reached).opened
+            notes-at.opened
             ∙ (ap (λ b. if b then old.places.reached else old.places.opened) other.0
             ∙ (reached.places.opened r.first was.opened
             ∙ ap (λ m. old.first.origin + (m - 1)) (sym (before-append r.first xs ((Second, bit) ∷ [])
             (begun-within (own Second xs) r.first was.opened)))))
       ]
 
-  first-place : (l : Event) → IsLocated places e l →
-      l.span.first ≡ old.first.origin + place_of (xs ++ (Second, bit) ∷ []) due-now.report.first
-  first-place l located =
-      let d = due-now in
-      let count = count-at pushed xs reached in
-      elim d.decided [
-        | inl is ↦
-            located.idle (old.first.origin + place_of (xs ++ (Second, bit) ∷ []) d.report.first)
-            (kind-idle second.octets e.kind (d.kind ∙ is.0))
-            (ap (λ k. slice_get places.recent (k % 16)) d.first
-            ∙ (places-kept pushed xs reached).recent d.report.first
-            (omega (arith, d.near.some, d.near.within, count)) (omega (arith, is.1, count)))
-        | inr was ↦
-            located.piece (λ idle. was.kind (sym d.kind ∙ ap (kind_with second.octets) idle)) ∙ opened-place was
-      ]
-
-  -- the report in places
-  located-is : (l : Event) → IsLocated places e l → reported second.octets l
-      ≡ moved old.first.origin (at_places (xs ++ (Second, bit) ∷ []) due-now.report)
-  located-is l located =
-      let d = due-now in
-      let kind : kind_with second.octets l.kind ≡ d.report.kind = ap (kind_with second.octets) located.kind ∙ d.kind in
-      let past : l.span.past
-      ≡ old.first.origin + (place_of (xs ++ (Second, bit) ∷ []) (d.report.past - 1) + 1) =
-      located.past _ last-place ∙ omega arith in
-      let first = first-place l located in
-      rw (kind, past, first) refl
-
-  -- it has bits, and no place is greater than that of the first line's last bit
-  pub locatable : old.first.place ≤ 2 ^ 60 → IsLocatable places e
-  locatable bound = record {
-    some = omega (arith, due-now.past, due-now.near.some);
-    fits = λ p is.
-        let more : List Arrival = (Second, bit) ∷ [] in
-        let k = due-now.report.past - 1 in
-        omega (
-          arith,
-          same-number p (old.first.origin + place_of (xs ++ more) k) (sym is ∙ last-place),
-          before-within k (xs ++ more),
-          ap length (own-append First xs more ∙ append-nil (own First xs)),
-          reached.first.has_taken.place,
-          bound,
-        );
+  last-bit : LastBit old.first.origin old.second.longest xs bit second.octets e places
+  last-bit = record {
+    kept = places-kept;
+    opened = λ r due was. opened-place r was;
+    answer = rw (reached.origin) at (pushed.decodes.answer (own Second xs) reached.second);
   }
 
--- what a bit of the second line decides, in places
-decides-located : {C : Type 0} {view : CheckView C} {old : ClockState C} {bit : Bool} {number : ℕ} {opens : Bool}
-    {second : LineState C} {places : PlacesState} (e l : Option Event) → DueIsIt →
-    PushesSecond view old bit e number opens second places → AreLocated places e l → (xs : List Arrival) →
-    IsAfterArrivals view old xs → decides old.first.origin old.second.longest xs (Second, bit)
-    ≡ line_reports_of (Some Second) (option_map (reported second.octets) l)
-decides-located {old = old} {bit = bit} {second = second} None l it pushed located xs reached =
-    decides-second old.first.origin old.second.longest xs bit
-    ∙ ap (λ o. line_reports_of (Some Second)
-    (option_map (λ r. moved old.first.origin (at_places (xs ++ (Second, bit) ∷ []) r)) o))
-    (none-is (moved old.second.origin) _ (pushed.decodes.answer (own Second xs) reached.second))
-    ∙ ap (λ o. line_reports_of (Some Second) (option_map (reported second.octets) o)) (sym located)
-decides-located {old = old} {bit = bit} {second = second} (Some e) l it pushed located xs reached =
-    decides-second old.first.origin old.second.longest xs bit
-    ∙ ap (λ o. line_reports_of (Some Second)
-    (option_map (λ r. moved old.first.origin (at_places (xs ++ (Second, bit) ∷ []) r)) o))
-    (due-now it pushed xs reached).due
-    ∙ (ap (λ s. line_reports_of (Some Second) (Some s)) (sym (located-is it pushed xs reached located.0 located.2))
-    ∙ ap (λ o. line_reports_of (Some Second) (option_map (reported second.octets) o)) (sym located.1))
+-- it can be located
+pub locatable : {C : Type 0} {view : CheckView C} {old : ClockState C} {bit : Bool} {e : Event} {number : ℕ}
+    {opens : Bool} {second : LineState C} {places : PlacesState} → DueIsIt →
+    PushesSecond view old bit (Some e) number opens second places → (xs : List Arrival) →
+    IsAfterArrivals view old xs → old.first.place ≤ 2 ^ 60 → IsLocatable places e
+locatable it pushed xs reached bound =
+    last-locatable it (last-bit pushed xs reached) (omega (arith, reached.first.has_taken.place, bound))
 
 -- a bit of the second line
 pub push-second : {C : Type 0} (view : CheckView C) (old new : ClockState C) (bit : Bool) (e l : Option Event)
@@ -357,7 +234,8 @@ push-second view old new bit e l number opens found it pushed located enters fir
       first = λ xs reached. rw (own-append First xs more, append-nil (own First xs), first) reached.first;
       second = λ xs reached. rw (own-append Second xs more) (led.after (own Second xs) reached.second);
       places = places-kept pushed;
-      decides = λ xs reached. rw (← reached.longest_second) (decides-located e l it pushed located xs reached);
+      decides = λ xs reached. rw (← reached.longest_second)
+          (decides-located e l it (last-bit pushed xs reached) located);
       enters = enters;
       origin = ap (λ d. d.origin) first;
       origin_second = led.origin;

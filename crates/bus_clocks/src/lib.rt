@@ -7,9 +7,12 @@
 mod analyser;
 mod feed;
 pub mod laws;
+mod line_bits;
+mod parted;
 mod places;
 mod run;
 mod scan;
+mod stretch;
 
 pub use analyser::TwoClockAnalyser;
 pub use feed::Arrival;

@@ -4,7 +4,8 @@ use Rattle.bus_pairing.specs.declared.line.Line.TheVariants.{Second}
 use Rattle.bus_tap.specs.Arrival.{own}
 use Rattle.bus_clocks.specs.Arrival.{place_of}
 use Rattle.bus_clocks.specs.Internal.ClockView.{clock_state}
-use Rattle.bus_clocks.proofs.PushLemmas.{none-is, open-places, open-fits}
+use Rattle.bus_clocks.proofs.LocatedLemmas.{none-is}
+use Rattle.bus_clocks.proofs.PushLemmas.{open-places, open-fits}
 use Rattle.bus_clocks.proofs.analyser.TwoClockAnalyser.begun_second.Goals as goal
 
 pub open_span-requires-clause-some : goal.open_span-requires-clause-some
