@@ -3,8 +3,10 @@ pub mod RoomLemmas
 pub mod PushLemmas
 pub mod ApartLemmas
 pub mod HeadlineLemmas
+pub mod LineBitsLemmas
+pub mod PartsLemmas
 pub mod StepsLemmas
+pub mod StretchLemmas
 pub mod FeedLemmas
 pub mod RunLemmas
-pub mod ScanLemmas
 pub mod SumLemmas

@@ -1,3 +1,6 @@
 -- What proofs and private functions speak of: the state behind a contract, and what holds of it between two steps.
+pub mod BitsView
 pub mod ClockView
+pub mod Parts
 pub mod Pushes
+pub mod Stretch

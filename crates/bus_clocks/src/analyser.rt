@@ -41,11 +41,11 @@ use std::marker::Model;
 /// It takes memory once, for the history, when it is made.
 #[derive(Drop)]
 pub struct TwoClockAnalyser<C: Check> {
-    first: LineDecoder<C>,
+    pub(crate) first: LineDecoder<C>,
     /// Its own bits are counted from 0.
-    second: LineDecoder<C>,
+    pub(crate) second: LineDecoder<C>,
     pub(crate) conversation: Conversation,
-    places: BitPlaces,
+    pub(crate) places: BitPlaces,
 }
 
 impl<C: Check> Model for TwoClockAnalyser<C> {
@@ -90,7 +90,12 @@ fn begun_span<C: Check>(decoder: &LineDecoder<C>) -> Option<Span>
 
 /// The conversation gets what a bit of a line decided, if anything; a frame has these octets. Returns whether there is
 /// a report, which is then its last.
-fn enter(conversation: &mut Conversation, line: Line, event: Option<Event>, octets: &[u8]) -> bool
+pub(crate) fn enter(
+    conversation: &mut Conversation,
+    line: Line,
+    event: Option<Event>,
+    octets: &[u8],
+) -> bool
     requires whole { (e : Event) → event ≡ Some e → IsWhole e.kind octets.now }
     requires fits { length octets.now ≤ most_octets }
     requires room { HasRoom conversation.old }

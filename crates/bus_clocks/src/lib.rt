@@ -7,8 +7,11 @@
 mod analyser;
 mod feed;
 pub mod laws;
+mod line_bits;
+mod parted;
 mod run;
 mod scan;
+mod stretch;
 
 pub use analyser::TwoClockAnalyser;
 pub use feed::Arrival;

@@ -1,18 +1,23 @@
 //! Many arrivals at once, shown to an observer.
 
-ghost use Rattle.std.specs.Prelude.{◌≡◌, ◌+◌, ◌-◌, ◌≤◌, ◌<◌, ℕ, ◌∷◌, [], Some, length, take, min};
-ghost use Rattle.std.specs.Option.{option_to_list};
+ghost use Rattle.std.specs.Prelude.{◌≡◌, ◌+◌, ◌-◌, ◌≤◌, ◌<◌, ℕ, List, length, take, min};
 ghost use Rattle.bus_bits.specs.Limits.{most_places};
-ghost use Rattle.bus_clocks.specs.Clocks.{two_clocks, decoder_on, CountsOn, bits_taken};
-ghost use Rattle.bus_watch.specs.Internal.Decodes.{told_on};
+ghost use Rattle.bus_tap.specs.Arrival.{Arrival, own};
+ghost use Rattle.bus_clocks.specs.Clocks.{two_clocks, bits_taken};
+ghost use Rattle.bus_clocks.specs.Internal.Parts.{Parts, upto, beyond};
 ghost use Rattle.bus_watch.specs.Watch.{AdvancesWatchShown};
 
-use crate::analyser::TwoClockAnalyser;
+use crate::analyser::{TwoClockAnalyser, enter};
 use crate::feed::{Arrival, PLACES};
+use crate::laws::arrivals_are;
+use crate::line_bits::BLOCK;
+use crate::parted::{Parted, part};
+use crate::stretch::{Standing, note_bits, opening};
 use bus_fcs::Check;
 use bus_line::PlaceLimit;
+use bus_line::laws::{frame_is_spelled, reports_are, reports_grow, settled_places};
 use bus_pairing::Line;
-use bus_watch::ReportObserver;
+use bus_watch::{ReportObserver, newest, observe_bits, show};
 use std::cmp::min;
 
 impl<C: Check> TwoClockAnalyser<C> {
@@ -35,58 +40,142 @@ impl<C: Check> TwoClockAnalyser<C> {
         let end = min(arrivals.len() as u64, places) as usize;
         let mut at = 0;
         while at < end {
-            let arrival = arrivals[at];
-            self.observe(arrival.0, arrival.1, observer, out);
-            at += 1;
+            let past = at + min(BLOCK, end - at);
+            self.scan_block(&arrivals[at..past], observer, out);
+            at = past;
         }
         end
     }
 
-    /// Pushes a bit, and shows the observer what is seen at it, if anything.
-    fn observe<X, L: ReportObserver<X>>(
+    /// Takes these arrivals, at most 512.
+    fn scan_block<X, L: ReportObserver<X>>(
         &mut self,
-        line: Line,
-        bit: bool,
+        block: &[Arrival],
         observer: &mut L,
         out: &mut X,
     )
-        requires place { (decoder_on self.old line).place < most_places }
-        requires room { L.has_room observer.old 1 }
-        ensures told { AdvancesWatchShown (two_clocks C.check) self.old ((line, bit) ∷ []) self.new
+        requires few { length block.now ≤ 512 }
+        requires places { bits_taken self.old + length block.now ≤ most_places }
+        requires room { L.has_room observer.old (length block.now) }
+        ensures told { AdvancesWatchShown (two_clocks C.check) self.old block.now self.new
             (λ ss. L.observes self.old.conversation.dictionary observer.old out.old ss observer.new out.new) }
-        ensures left { (more : ℕ) → L.has_room observer.old (1 + more) → L.has_room observer.new more }
+        ensures left { (more : ℕ) → L.has_room observer.old (length block.now + more) → L.has_room observer.new more }
     {
-        let is_decided = match self.step(line, bit) {
-            Ok(is_decided) => is_decided,
-            Err(PlaceLimit) => unreachable!(),
-        };
-        self.show(line, is_decided, observer, out);
+        let parted = part(block);
+        let mut taken = 0;
+        while taken < parted.second.count() {
+            taken = self.scan_some(&parted, taken, observer, out);
+        }
+        self.follow(&parted, observer, out);
     }
 
-    /// Shows an observer the last report, if the last bit of a line decided it.
-    fn show<X, L: ReportObserver<X>>(
-        &self,
-        line: Line,
-        is_decided: bool,
+    /// The second line takes bits up to the first that decides a report, and the first line those that came before
+    /// it. What is seen at them is shown. Returns how many bits of the second line are taken then.
+    fn scan_some<X, L: ReportObserver<X>>(
+        &mut self,
+        parted: &Parted,
+        from: usize,
         observer: &mut L,
         out: &mut X,
-    )
-        requires room { L.has_room observer.old 1 }
-        ensures observed { L.observes self.now.conversation.dictionary observer.old out.old
-            (option_to_list (told_on (Some line) (decoder_on self.now line).octets is_decided
-            self.now.conversation.last)) observer.new out.new }
-        ensures left { (more : ℕ) → L.has_room observer.old (1 + more) → L.has_room observer.new more }
+    ) -> usize
+        requires some { from < length parted.now.second }
+        requires parts { (ys : List Arrival) × Parts ys parted.now
+            × (bits_taken self.old + length (beyond from ys) ≤ most_places)
+            × L.has_room observer.old (length (beyond from ys)) }
+        ensures within { (from < result) × (result ≤ length parted.now.second) }
+        ensures told { (ys : List Arrival) → Parts ys parted.now →
+            AdvancesWatchShown (two_clocks C.check) self.old (upto (result - from) (beyond from ys)) self.new
+            (λ ss. L.observes self.old.conversation.dictionary observer.old out.old ss observer.new out.new) }
+        ensures left { (ys : List Arrival) → Parts ys parted.now → (more : ℕ) →
+            L.has_room observer.old (length (upto (result - from) (beyond from ys)) + more) →
+            L.has_room observer.new more }
     {
-        if !is_decided {
+        settled_places();
+        reports_grow();
+        reports_are();
+        frame_is_spelled();
+        arrivals_are();
+        let number = self.second.place();
+        let ahead = parted.ahead(from);
+        let taken = self.first.spent().shifted;
+        let standing = Standing {
+            origin: self.first.place() - taken,
+            taken,
+            ahead: ahead as u64,
+        };
+        let scanned = match self
+            .second
+            .scan(parted.second.octets(), from, parted.second.count())
+        {
+            Ok(scanned) => scanned,
+            Err(PlaceLimit) => unreachable!(),
+        };
+        let past = from + scanned.count;
+        let opening = opening(&self.second, scanned.event);
+        note_bits(
+            &mut self.places,
+            number,
+            &parted.before[from..past],
+            opening,
+            &standing,
+        );
+        observe_bits(
+            &mut self.first,
+            &mut self.conversation,
+            Some(Line::First),
+            parted.first.octets(),
+            ahead,
+            parted.ahead(past),
+            observer,
+            out,
+        );
+        let event = self.places.located_option(scanned.event);
+        let octets = self.second.octets();
+        let is_decided = enter(&mut self.conversation, Line::Second, event, octets);
+        show(
+            Some(Line::Second),
+            newest(&self.conversation, is_decided),
+            octets,
+            self.conversation.dictionary(),
+            observer,
+            out,
+        );
+        past
+    }
+
+    /// The first line takes its bits that came after the last of the second line.
+    fn follow<X, L: ReportObserver<X>>(&mut self, parted: &Parted, observer: &mut L, out: &mut X)
+        requires parts { (ys : List Arrival) × Parts ys parted.now
+            × (bits_taken self.old + length (beyond (length parted.now.second) ys) ≤ most_places)
+            × L.has_room observer.old (length (beyond (length parted.now.second) ys)) }
+        ensures told { (ys : List Arrival) → Parts ys parted.now →
+            AdvancesWatchShown (two_clocks C.check) self.old (beyond (length parted.now.second) ys) self.new
+            (λ ss. L.observes self.old.conversation.dictionary observer.old out.old ss observer.new out.new) }
+        ensures left { (ys : List Arrival) → Parts ys parted.now → (more : ℕ) →
+            L.has_room observer.old (length (beyond (length parted.now.second) ys) + more) →
+            L.has_room observer.new more }
+    {
+        settled_places();
+        reports_grow();
+        reports_are();
+        arrivals_are();
+        // Called for its bound.
+        let _bits = self.second.place();
+        let from = parted.ahead(parted.second.count());
+        let past = parted.first.count();
+        if from == past {
             return;
         }
-        let octets = self.octets(line);
-        let dictionary = self.conversation.dictionary();
-        observer.observe(
-            Some(line),
-            self.conversation.last(),
-            octets,
-            dictionary,
+        self.places
+            .reach(self.first.place() + (past - from) as u64 - 1);
+        observe_bits(
+            &mut self.first,
+            &mut self.conversation,
+            Some(Line::First),
+            parted.first.octets(),
+            from,
+            past,
+            observer,
             out,
         );
     }

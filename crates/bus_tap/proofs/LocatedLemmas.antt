@@ -38,7 +38,7 @@ pub record IsDue (longest : ℕ) (b : List Bool) (bit : Bool) (os : List ℕ) (e
   pub near : IsNear (length b) report
   pub decided : ((report.kind ≡ Kind.Idle) × (length b ≤ report.first + 14)) ⊎ WasOpen b bit report
 
-is-due : (longest : ℕ) (b : List Bool) (bit : Bool) (os : List ℕ) (e : Event) →
+pub is-due : (longest : ℕ) (b : List Bool) (bit : Bool) (os : List ℕ) (e : Event) →
     Some (reported os e) ≡ option_map (moved 0) (due_at longest (b ++ bit ∷ []) (length b)) →
     IsDue longest b bit os e
 is-due longest b bit os e answer =
@@ -54,7 +54,7 @@ is-due longest b bit os e answer =
       decided = was-open longest b bit found.0 report.0 report.1;
     }
 
-kind-idle : (os : List ℕ) (k : EventKind) → kind_with os k ≡ Kind.Idle → k ≡ event.Idle
+pub kind-idle : (os : List ℕ) (k : EventKind) → kind_with os k ≡ Kind.Idle → k ≡ event.Idle
 kind-idle os event.Frame is = absurd (cc)
 kind-idle os (event.Damaged cause) is = absurd (cc)
 kind-idle os event.Overlong is = absurd (cc)

@@ -31,7 +31,7 @@ flag-less : (b c : List Bool) (p : ℕ) → p + 8 ≤ length b → IsFlag (b ++ 
 flag-less b c p fits is-flag = flag-true b p (sym (is_flag-append b c p fits) ∙ flag-is (b ++ c) p is-flag)
 
 -- a piece that has begun before the last bit had begun without it
-begun-before : (b c : List Bool) (k : ℕ) → begun (b ++ c) ≡ Some k → k < length b → begun b ≡ Some k
+pub begun-before : (b c : List Bool) (k : ℕ) → begun (b ++ c) ≡ Some k → k < length b → begun b ≡ Some k
 begun-before b c k is inside =
     let has = (begun-it (b ++ c) k).1 is in
     (begun-it b k).0 (record {

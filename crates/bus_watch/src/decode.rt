@@ -68,7 +68,7 @@ pub(crate) fn decode_bit<C: Check>(
 
 /// Shows an observer what a report of a line was found to be, if there was one.
 #[inline(always)]
-pub(crate) fn show<X, L: ReportObserver<X>>(
+pub fn show<X, L: ReportObserver<X>>(
     line: Option<Line>,
     finding: Option<&Finding>,
     octets: &[u8],
@@ -91,7 +91,7 @@ pub(crate) fn show<X, L: ReportObserver<X>>(
 /// A line takes the bits of these octets from bit `from` on and before bit `past`. The observer is shown all that is
 /// seen at them. `line` is `None` where there is one line.
 #[inline(never)]
-pub(crate) fn observe_bits<C: Check, X, L: ReportObserver<X>>(
+pub fn observe_bits<C: Check, X, L: ReportObserver<X>>(
     decoder: &mut LineDecoder<C>,
     conversation: &mut Conversation,
     line: Option<Line>,
@@ -134,7 +134,7 @@ pub(crate) fn observe_bits<C: Check, X, L: ReportObserver<X>>(
 
 /// What the last report was found to be, if the last bits decided it.
 #[inline(always)]
-pub(crate) fn newest(conversation: &Conversation, is_decided: bool) -> Option<&Finding>
+pub fn newest(conversation: &Conversation, is_decided: bool) -> Option<&Finding>
     ensures { option_copied result ≡ newest is_decided conversation.now.last }
 {
     if is_decided {

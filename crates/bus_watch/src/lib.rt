@@ -30,6 +30,7 @@ pub use bus_pairing::{
     PairLog, PairLogged, PairSink, Pairing, Pending, ReportLog, ReportSink, Seen, SinkRefused,
     Span, Verdict,
 };
+pub use decode::{newest, observe_bits, show};
 pub use fault::{FeedFault, NewFault, RunFault};
 pub use observer::ReportObserver;
 pub use pair::{PairAnalyser, PairRun, PairSeen, PairUsage, run_pairs};

@@ -5,6 +5,7 @@ ghost use Rattle.std.specs.Prelude.{◌<◌, ◌-◌, ◌^◌};
 mod rests;
 mod runs;
 mod samples;
+mod scans;
 
 use crate::expect::{holds, same};
 use crate::seen::{NONE, push_seen};

@@ -263,7 +263,7 @@ fn pushed<C: Check>(
 
 /// An observer that writes what is seen.
 #[derive(Drop)]
-struct Writing;
+pub(crate) struct Writing;
 
 impl ReportObserver<String> for Writing {
     ghost observes = { λ d l before seen m behind. Unit {0} };

@@ -1,0 +1,272 @@
+use Rattle.std.proofs.Common.{◌≡◌, ◌+◌, ◌-◌, ◌++◌, ◌<◌, List, length, refl, sym, ap, ◌∙◌}
+use Rattle.std.proofs.Common.{subst, arith, Some, take, drop, Option}
+use Rattle.std.specs.Option.{option_to_list}
+use Rattle.bus_bits.proofs.BitLemmas.{length-from}
+use Rattle.bus_line.specs.After.{AdvancesWith, due_of}
+use Rattle.bus_pairing.specs.Seen.{SeenReport}
+use Rattle.bus_pairing.specs.declared.line.Line.TheVariants.{First, Second}
+use Rattle.bus_tap.specs.Arrival.{Arrival, own}
+use Rattle.bus_watch.specs.Internal.Decodes.{DecodesMany, told_on}
+use Rattle.bus_watch.specs.Watch.{AdvancesWatchShown}
+use Rattle.bus_watch.proofs.DecodesLemmas.{keeps_up-room}
+use Rattle.bus_clocks.specs.Clocks.{ClockState, two_clocks}
+use Rattle.bus_clocks.specs.Internal.ClockView.{clock_state}
+use Rattle.bus_clocks.specs.Internal.Parts.{Parts, beyond, upto}
+use Rattle.bus_clocks.proofs.PartsLemmas.{count-beyond, is-stretch, stretch-firsts}
+use Rattle.bus_clocks.proofs.PartsLemmas.{stretch-seconds}
+use Rattle.bus_clocks.proofs.PushLemmas.{whole-located}
+use Rattle.bus_clocks.proofs.RoomLemmas.{own-count}
+use Rattle.bus_clocks.proofs.StretchLemmas.{arrivals-keep_up, leads-scanned, opening-in}
+use Rattle.bus_clocks.proofs.StretchLemmas.{scanned-of, whole-scanned}
+use Rattle.bus_clocks.proofs.analyser.TwoClockAnalyser.scan_some.Given.{Over}
+use Rattle.bus_clocks.proofs.analyser.TwoClockAnalyser.scan_some.Goals as goal
+
+pub unreachable-requires : goal.unreachable-requires
+unreachable-requires g c =
+    let full = c.in-Err.ensures.limit.0 refl in
+    let ys = c.requires.parts.0 in
+    omega (
+      arith,
+      full,
+      c.requires.parts.2,
+      ap (λ (a : ClockState g.row.C.Denot). a.first.place + a.second.place) c.self.view_is,
+      own-count (beyond c.args.from ys),
+      count-beyond c.args.from ys (omega (arith, c.requires.some, ap length c.requires.parts.1.second)),
+      c.requires.some,
+      ap length c.requires.parts.1.second,
+    )
+
+pub note_bits-requires-clause-opening : goal.note_bits-requires-clause-opening
+note_bits-requires-clause-opening g c = λ k is.
+    let p = c.args.parted.now in
+    let m = c.args.from in
+    let n = c.in-Ok.scanned.count in
+    let ys = c.requires.parts.0 in
+    let parts = c.requires.parts.1 in
+    let reached = c.self.invariant.reached in
+    let old = c.self.inside.second in
+    let new = c.scan.new.self in
+    let event = c.in-Ok.scanned.event in
+    let zs = upto n (beyond m ys) in
+    let some = is-stretch ys parts c.requires.some c.count.ensures.value c.in-Ok.ensures.count
+    (c.ahead-ahead.ensures ys parts) refl in
+    let bits = stretch-seconds c.octets.result.now p ys m n _ _ parts some c.octets.ensures.bits in
+    let all : n ≡ m + n - m = omega arith in
+    let within = opening-in {old = clock_state c.self.inside} {zs = zs} c.reports_are.ensures.due some.ends
+    (subst (λ more. AdvancesWith g.C.Check.check old more event new) bits c.in-Ok.ensures.advances)
+    (λ b after. c.in-Ok.ensures.answer b after
+    ∙ (ap (λ more. due_of old (b ++ more) (length b + n - 1)) bits
+    ∙ ap (λ j. due_of old (b ++ own Second zs) (length b + j - 1)) (sym some.seconds)))
+    c.opening-opening.ensures c.self.invariant.arrivals reached k is in
+    subst (λ j. k < c.place-number.result + length (take j (drop m p.before))) all
+    (omega (
+      arith,
+      within,
+      some.count,
+      some.seconds,
+      c.place-number.ensures.value,
+      reached.second.has_taken.place,
+      reached.origin,
+    ))
+
+pub note_bits-requires-clause-standing : goal.note_bits-requires-clause-standing
+note_bits-requires-clause-standing g c =
+    let reached = c.self.invariant.reached in
+    omega (
+      arith,
+      c.place.ensures.value,
+      c.place.ensures.fits,
+      (c.spent-taken.ensures.ledger (own First c.self.invariant.arrivals) reached.first).bits,
+      reached.first.has_taken.place,
+    )
+
+pub observe_bits-requires-clause-some : goal.observe_bits-requires-clause-some
+observe_bits-requires-clause-some g c =
+    let ys = c.requires.parts.0 in
+    let parts = c.requires.parts.1 in
+    let some = is-stretch ys parts c.requires.some c.count.ensures.value c.in-Ok.ensures.count
+    (c.ahead-ahead.ensures ys parts) (c.ahead.ensures ys parts) in
+    omega (arith, some.past_is)
+
+pub observe_bits-requires-clause-enough : goal.observe_bits-requires-clause-enough
+observe_bits-requires-clause-enough g c =
+    let ys = c.requires.parts.0 in
+    let parts = c.requires.parts.1 in
+    let some = is-stretch ys parts c.requires.some c.count.ensures.value c.in-Ok.ensures.count
+    (c.ahead-ahead.ensures ys parts) (c.ahead.ensures ys parts) in
+    omega (arith, some.within, c.octets-2.ensures.enough)
+
+pub observe_bits-requires-clause-places : goal.observe_bits-requires-clause-places
+observe_bits-requires-clause-places g c =
+    let ys = c.requires.parts.0 in
+    let parts = c.requires.parts.1 in
+    let some = is-stretch ys parts c.requires.some c.count.ensures.value c.in-Ok.ensures.count
+    (c.ahead-ahead.ensures ys parts) (c.ahead.ensures ys parts) in
+    omega (
+      arith,
+      some.past_is,
+      some.size,
+      some.fits,
+      c.requires.parts.2,
+      ap (λ (a : ClockState g.row.C.Denot). a.first.place + a.second.place) c.self.view_is,
+    )
+
+pub observe_bits-requires-clause-keeps_up : goal.observe_bits-requires-clause-keeps_up
+observe_bits-requires-clause-keeps_up g c =
+    arrivals-keep_up g.C.Check.check (clock_state c.self.inside) c.self.invariant.arrivals c.reports_grow.ensures.more
+    c.arrivals_are.ensures.grow c.settled_places.ensures.frames c.settled_places.ensures.paid
+    c.settled_places.ensures.within c.self.invariant.reached
+    (omega (
+      arith,
+      ap (λ (a : ClockState g.row.C.Denot). a.first.place + a.second.place) c.self.view_is,
+      c.requires.parts.2,
+    ))
+
+pub observe_bits-requires-clause-room : goal.observe_bits-requires-clause-room
+observe_bits-requires-clause-room g c =
+    let ys = c.requires.parts.0 in
+    let parts = c.requires.parts.1 in
+    let some = is-stretch ys parts c.requires.some c.count.ensures.value c.in-Ok.ensures.count
+    (c.ahead-ahead.ensures ys parts) (c.ahead.ensures ys parts) in
+    g.met.L.ReportObserver.has_less c.args.observer.now _ (c.ahead.result - c.ahead-ahead.result)
+    (omega (arith, some.past_is, some.size, some.fits)) c.requires.parts.3
+
+pub enter-is_decided-requires-clause-whole : goal.enter-is_decided-requires-clause-whole
+enter-is_decided-requires-clause-whole g c =
+    let ys = c.requires.parts.0 in
+    let parts = c.requires.parts.1 in
+    let some = is-stretch ys parts c.requires.some c.count.ensures.value c.in-Ok.ensures.count
+    (c.ahead-ahead.ensures ys parts) (c.ahead.ensures ys parts) in
+    let xs = c.self.invariant.arrivals in
+    let reached = c.self.invariant.reached in
+    let scanned = scanned-of g.C.Check.check (clock_state c.self.inside) c.in-Ok.scanned.event c.scan.new.self
+    c.note_bits.new.places ys c.octets.result.now
+    (record {
+      origin = c.place.result - c.spent-taken.result.shifted;
+      taken = c.spent-taken.result.shifted;
+      ahead = c.ahead-ahead.result;
+    }) xs parts some reached c.octets.ensures.bits c.in-Ok.ensures.advances c.in-Ok.ensures.answer
+    c.place-number.ensures.value (c.spent-taken.ensures.ledger (own First xs) reached.first).bits
+    (ap (λ k. k - c.spent-taken.result.shifted) c.place.ensures.value) refl c.note_bits.ensures
+    c.opening-opening.ensures in
+    whole-located _ c.in-Ok.scanned.event c.located_option-event.result c.octets-octets.result.now
+    c.located_option-event.ensures
+    (whole-scanned c.reports_are.ensures.due c.frame_is_spelled.ensures scanned (own Second xs) reached.second _
+    c.octets-octets.ensures.value)
+
+pub enter-is_decided-requires-clause-room : goal.enter-is_decided-requires-clause-room
+enter-is_decided-requires-clause-room g c =
+    let ys = c.requires.parts.0 in
+    let parts = c.requires.parts.1 in
+    let some = is-stretch ys parts c.requires.some c.count.ensures.value c.in-Ok.ensures.count
+    (c.ahead-ahead.ensures ys parts) (c.ahead.ensures ys parts) in
+    keeps_up-room g.C.Check.check c.observe_bits.new.decoder c.observe_bits.new.conversation
+    c.settled_places.ensures.frames c.settled_places.ensures.paid c.settled_places.ensures.within
+    c.observe_bits.ensures.keeps_up
+    (omega (
+      arith,
+      c.observe_bits.ensures.observes.led.place,
+      length-from c.octets-2.result.now c.ahead-ahead.result (c.ahead.result - c.ahead-ahead.result),
+      some.past_is,
+      some.size,
+      some.fits,
+      c.requires.parts.2,
+      ap (λ (a : ClockState g.row.C.Denot). a.first.place + a.second.place) c.self.view_is,
+    ))
+
+pub show-requires-clause-room : goal.show-requires-clause-room
+show-requires-clause-room g c =
+    let ys = c.requires.parts.0 in
+    let parts = c.requires.parts.1 in
+    let some = is-stretch ys parts c.requires.some c.count.ensures.value c.in-Ok.ensures.count
+    (c.ahead-ahead.ensures ys parts) (c.ahead.ensures ys parts) in
+    c.observe_bits.ensures.left 1
+    (g.met.L.ReportObserver.has_less c.args.observer.now _ (c.ahead.result - c.ahead-ahead.result + 1)
+    (omega (arith, some.past_is, some.size, some.fits, c.in-Ok.ensures.count.0))
+    c.requires.parts.3)
+
+abbrev next-state : (g : Over) (c : goal.After-show g) → ClockState g.row.C.Denot
+next-state g c = record {
+  first = c.observe_bits.new.decoder;
+  second = c.scan.new.self;
+  conversation = c.enter-is_decided.new.conversation;
+  places = c.note_bits.new.places;
+}
+
+-- what is seen of the second line's report, if there is one
+abbrev last-seen : (g : Over) (c : goal.After-show g) → Option SeenReport
+last-seen g c =
+    told_on (Some Second) c.scan.new.self.octets c.enter-is_decided.result c.enter-is_decided.new.conversation.last
+
+leads-on : (g : Over) (c : goal.After-show g) (ys : List Arrival) → Parts ys c.args.parted.now →
+    AdvancesWatchShown (two_clocks g.C.Check.check) (clock_state c.self.inside)
+    (upto c.in-Ok.scanned.count (beyond c.args.from ys)) (next-state g c)
+    (λ ss. g.L.ReportObserver.observes c.self.inside.conversation.dictionary c.args.observer.now c.args.out.now ss
+    c.show.new.observer c.show.new.out)
+leads-on g c ys parts =
+    let some = is-stretch ys parts c.requires.some c.count.ensures.value c.in-Ok.ensures.count
+    (c.ahead-ahead.ensures ys parts) (c.ahead.ensures ys parts) in
+    let zs = upto c.in-Ok.scanned.count (beyond c.args.from ys) in
+    let xs = c.self.invariant.arrivals in
+    let reached = c.self.invariant.reached in
+    let scanned = scanned-of g.C.Check.check (clock_state c.self.inside) c.in-Ok.scanned.event c.scan.new.self
+    c.note_bits.new.places ys c.octets.result.now
+    (record {
+      origin = c.place.result - c.spent-taken.result.shifted;
+      taken = c.spent-taken.result.shifted;
+      ahead = c.ahead-ahead.result;
+    }) xs parts some reached c.octets.ensures.bits c.in-Ok.ensures.advances c.in-Ok.ensures.answer
+    c.place-number.ensures.value (c.spent-taken.ensures.ledger (own First xs) reached.first).bits
+    (ap (λ k. k - c.spent-taken.result.shifted) c.place.ensures.value) refl c.note_bits.ensures
+    c.opening-opening.ensures in
+    let bits = stretch-firsts c.octets-2.result.now c.args.parted.now ys c.args.from c.in-Ok.scanned.count _ _ parts some
+    c.octets-2.ensures.bits in
+    let first = subst (λ b. DecodesMany g.C.Check.check (Some First) c.self.inside.first c.self.inside.conversation b
+    c.observe_bits.new.decoder c.observe_bits.new.conversation
+    (λ ss. g.L.ReportObserver.observes c.self.inside.conversation.dictionary c.args.observer.now c.args.out.now ss
+    c.observe_bits.new.observer c.observe_bits.new.out)) bits c.observe_bits.ensures.observes in
+    let dictionary = c.dictionary.ensures ∙ (c.enter-is_decided.ensures.dictionary ∙ first.dictionary) in
+    let last = last-seen g c in
+    let told : g.L.ReportObserver.observes c.self.inside.conversation.dictionary c.observe_bits.new.observer
+    c.observe_bits.new.out (option_to_list last) c.show.new.observer c.show.new.out =
+    rw (← dictionary, ← c.newest.ensures, ← c.octets-octets.ensures.value) c.show.ensures.observed in
+    leads-scanned g.C.Check.check (clock_state c.self.inside) (next-state g c) c.observe_bits.new.conversation zs
+    c.in-Ok.scanned.event c.located_option-event.result last _ c.arrivals_are.ensures.grow c.arrivals_are.ensures.apart
+    c.reports_grow.ensures.grow c.reports_are.ensures.are c.reports_are.ensures.within c.reports_are.ensures.due
+    (omega (
+      arith,
+      some.size,
+      some.fits,
+      c.requires.parts.2,
+      ap (λ (a : ClockState g.row.C.Denot). a.first.place + a.second.place) c.self.view_is,
+    )) scanned first c.located_option-event.ensures
+    (rw (c.octets-octets.ensures.value) at (c.enter-is_decided.ensures)) _
+    (g.met.L.ReportObserver.observes_more c.self.inside.conversation.dictionary c.args.observer.now
+    c.observe_bits.new.observer c.show.new.observer c.args.out.now c.observe_bits.new.out c.show.new.out
+    first.seen_now (option_to_list last) first.told told)
+
+pub invariant_of-self : goal.invariant_of-self
+invariant_of-self g c =
+    let led = leads-on g c c.requires.parts.0 c.requires.parts.1 in
+    record {
+      depth = omega (arith, c.self.invariant.depth, led.sees.depth);
+      arrivals = c.self.invariant.arrivals ++ upto c.in-Ok.scanned.count (beyond c.args.from c.requires.parts.0);
+      reached = led.sees.is_after c.self.invariant.arrivals c.self.invariant.reached;
+    }
+
+pub returns-clause-told : goal.returns-clause-told
+returns-clause-told g c = λ ys parts.
+    let all : c.args.from + c.in-Ok.scanned.count - c.args.from ≡ c.in-Ok.scanned.count = omega arith in
+    rw (all, ← c.self.view_is) (leads-on g c ys parts)
+
+pub returns-clause-left : goal.returns-clause-left
+returns-clause-left g c = λ ys parts more room.
+    let some = is-stretch ys parts c.requires.some c.count.ensures.value c.in-Ok.ensures.count
+    (c.ahead-ahead.ensures ys parts) (c.ahead.ensures ys parts) in
+    let all : c.args.from + c.in-Ok.scanned.count - c.args.from ≡ c.in-Ok.scanned.count = omega arith in
+    let here : g.L.ReportObserver.has_room c.args.observer.now
+    (length (upto c.in-Ok.scanned.count (beyond c.args.from ys)) + more) = rw all at room in
+    c.show.ensures.left more
+    (c.observe_bits.ensures.left (1 + more)
+    (g.met.L.ReportObserver.has_less c.args.observer.now _ (c.ahead.result - c.ahead-ahead.result + (1 + more))
+    (omega (arith, some.past_is, some.size, c.in-Ok.ensures.count.0)) here))

@@ -1,0 +1,75 @@
+//! The places of many bits of the second line.
+
+ghost use Rattle.std.specs.Prelude.{◌≡◌, ◌+◌, ◌<◌, ◌≤◌, ℕ, Some, length};
+ghost use Rattle.bus_bits.specs.Limits.{most_places};
+ghost use Rattle.bus_clocks.specs.Internal.Stretch.{NotesMany, Opens, stands_at};
+
+use bus_tap::BitPlaces;
+use bus_fcs::Check;
+use bus_line::{Event, EventKind, LineDecoder};
+use std::cmp::min;
+
+/// Where the bits of a block's second line stand.
+#[derive(Drop)]
+pub(crate) struct Standing {
+    /// The place of the first bit of the first line.
+    pub(crate) origin: u64,
+    /// How many bits the first line has had.
+    pub(crate) taken: u64,
+    /// How many of these are of the block.
+    pub(crate) ahead: u64,
+}
+
+impl Standing {
+    /// The place of a bit of the second line that came after so many bits of the block's first line.
+    #[inline(always)]
+    fn after(&self, before: u16) -> u64
+        requires { self.now.origin + self.now.taken ≤ most_places }
+        ensures { result ≡ stands_at self.now before }
+    {
+        let more = u64::from(before).saturating_sub(self.ahead);
+        self.origin + (self.taken + more).saturating_sub(1)
+    }
+}
+
+/// The number of the first bit of the piece whose report is decided, and else of the piece that has begun.
+pub(crate) fn opening<C: Check>(decoder: &LineDecoder<C>, event: Option<Event>) -> Option<u64>
+    ensures { Opens C.check decoder.now event result }
+{
+    match event {
+        None => decoder.begun(),
+        Some(event) => match event.kind {
+            EventKind::Idle => decoder.begun(),
+            _ => Some(event.span.first),
+        },
+    }
+}
+
+/// Notes the places of bits of the second line. The first has this number, and each came after so many bits of the
+/// block's first line. Noted are the last sixteen, and where a piece opens with one.
+pub(crate) fn note_bits(
+    places: &mut BitPlaces,
+    number: u64,
+    before: &[u16],
+    opening: Option<u64>,
+    standing: &Standing,
+)
+    requires some { 1 ≤ length before.now }
+    requires numbers { number + length before.now ≤ most_places }
+    requires opening { (k : ℕ) → opening ≡ Some k → k < number + length before.now }
+    requires standing { standing.now.origin + standing.now.taken ≤ most_places }
+    ensures { NotesMany places.old places.new number before.now opening standing.now }
+{
+    if let Some(first) = opening {
+        if first >= number {
+            places.reach(standing.after(before[(first - number) as usize]));
+            places.note(first, true);
+        }
+    }
+    let mut at = before.len() - min(before.len(), 16);
+    while at < before.len() {
+        places.reach(standing.after(before[at]));
+        places.note(number + at as u64, false);
+        at += 1;
+    }
+}

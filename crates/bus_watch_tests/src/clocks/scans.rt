@@ -1,0 +1,96 @@
+//! Long lists of random traffic on two lines with a clock each, scanned by calls of every kind of size.
+
+use super::{CALLS, bits_of, push_bits, pushed};
+use crate::expect::{holds, same};
+use crate::pairs::Writing;
+use bus_clocks::{Arrival, TwoClockAnalyser};
+use bus_dictionary::Dictionary;
+use bus_fcs::OctetCheck;
+use bus_watch::Line;
+use std::alloc::Global;
+use std::process::Abort;
+
+/// How many arrivals a list has at most.
+const ARRIVALS: usize = 3000;
+
+/// What a line's bits are made of.
+const PARTS: [&str; 8] = [
+    "flag call flag",
+    "flag reply flag flag",
+    "ones-57 flag reply flag",
+    "flag short short flag",
+    "flag 0110100101110100110010110 flag",
+    "flag call 0 flag 111111111111111111",
+    "flag flag flag flag call flag",
+    "0110100101110100110010110",
+];
+
+/// The next of the numbers that begin with a seed.
+fn next(state: &mut u64) -> usize {
+    *state = state
+        .wrapping_mul(6364136223846793005)
+        .wrapping_add(1442695040888963407);
+    (*state >> 40) as usize
+}
+
+/// Parts and beginnings of parts of either line, as their clocks may bring them; the same seed gives the same list.
+fn traffic(rt: &impl Abort, alloc: Global, seed: u64) -> Vec<Arrival> {
+    let mut arrivals = Vec::new(alloc);
+    let mut state = seed;
+    for _ in 0..ARRIVALS {
+        if arrivals.len() >= ARRIVALS {
+            break;
+        }
+        let first = bits_of(rt, alloc, PARTS[next(&mut state) % 8]);
+        let second = bits_of(rt, alloc, PARTS[next(&mut state) % 8]);
+        let mut first: &[bool] = &first;
+        let mut second: &[bool] = &second;
+        let (one, other) = (next(&mut state) % 4, next(&mut state) % 4);
+        for _ in 0..next(&mut state) % 100 {
+            first = push_bits(&mut arrivals, Line::First, first, one).expect(rt, "memory");
+            second = push_bits(&mut arrivals, Line::Second, second, other).expect(rt, "memory");
+        }
+    }
+    arrivals
+}
+
+fn analyser(rt: &impl Abort, alloc: Global) -> TwoClockAnalyser<OctetCheck> {
+    let dictionary = Dictionary::read(alloc, CALLS).expect(rt, "a dictionary");
+    TwoClockAnalyser::new(alloc, dictionary, 5, 3).expect(rt, "an analyser")
+}
+
+/// Calls of `scan` of `size` arrivals see what single arrivals that are pushed do, and leave the same open.
+fn check_scanned(rt: &impl Abort, alloc: Global, arrivals: &[Arrival], size: usize) -> String {
+    let mut one_by_one = analyser(rt, alloc);
+    let mut scanned = analyser(rt, alloc);
+    let mut all = String::new(alloc);
+    let case = format_args!("{size} arrivals are scanned with a call");
+    for some in arrivals.chunks(size.max(1)) {
+        let want = pushed(rt, alloc, &mut one_by_one, some);
+        let mut text = String::new(alloc);
+        let taken = scanned.scan(some, &mut Writing, &mut text);
+        same(rt, taken, some.len(), &case);
+        same(rt, text.as_str(), want.as_str(), &case);
+        same(rt, scanned.usage(), one_by_one.usage(), &case);
+        same(rt, scanned.ending(), one_by_one.ending(), &case);
+        all.push_str(&want).expect(rt, "memory");
+    }
+    all
+}
+
+/// Calls of every kind of size see what single arrivals show.
+#[test]
+fn scans_of_every_size(rt: HostRuntime) {
+    let alloc = rt.alloc();
+    let mut text = String::new(alloc);
+    for seed in 1..=6u64 {
+        let arrivals = traffic(&rt, alloc, seed);
+        for size in [1, 7, 61, 511, 512, 513, 1025, ARRIVALS] {
+            let seen = check_scanned(&rt, alloc, &arrivals, size);
+            text.push_str(&seen).expect(&rt, "memory");
+        }
+    }
+    for word in ["missing", "stray", "abort", "idle", "answered"] {
+        holds(&rt, text.contains(word), word);
+    }
+}
