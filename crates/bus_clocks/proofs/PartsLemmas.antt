@@ -124,7 +124,8 @@ get-same xs i v inside =
     slice_get-get_or (slice_set xs i v) i 0 (omega (arith, length-set xs i v, inside))
     ∙ ap Some (get_or-set_same xs i v 0 inside)
 
-get-other : (xs : List ℕ) (i k v x : ℕ) → (k ≡ i → ⊥) → slice_get xs k ≡ Some x → slice_get (slice_set xs i v) k ≡ Some x
+get-other : (xs : List ℕ) (i k v x : ℕ) → (k ≡ i → ⊥) → slice_get xs k ≡ Some x →
+    slice_get (slice_set xs i v) k ≡ Some x
 get-other xs i k v x other is =
     slice_get-get_or (slice_set xs i v) k 0 (omega (arith, length-set xs i v, slice_get_within xs k x is))
     ∙ ap Some (get_or-set_other xs i k v 0 other ∙ get_or_from_slice_get xs k x 0 is)
@@ -272,7 +273,8 @@ is-stretch {p = p} {m = m} {n = n} {from = from} {past = past} ys parts inside c
     let rest = beyond m ys in
     let zs = upto n rest in
     let total = ap length parts.second in
-    let left : length (own Second rest) ≡ length (own Second ys) - m = count-beyond m ys (omega (arith, total, within)) in
+    let left : length (own Second rest) ≡ length (own Second ys) - m =
+    count-beyond m ys (omega (arith, total, within)) in
     let seconds : length (own Second zs) ≡ n = count-upto n rest (omega (arith, left, total, within)) in
     let past_is : past ≡ from + length (own First zs) = omega (
       arith,

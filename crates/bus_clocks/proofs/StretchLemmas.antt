@@ -1,7 +1,7 @@
 -- Arrivals of which at most the last decides a report of the second line.
 use Rattle.std.proofs.Common.{◌≡◌, ℕ, ◌+◌, ◌-◌, ◌%◌, ◌<◌, ◌≤◌, ◌^◌, Bool, List, [], ◌∷◌, ◌++◌, length, map}
-use Rattle.std.proofs.Common.{Option, Some, None, refl, sym, ap, ◌∙◌, subst, arith, append-nil, append_assoc, take, drop}
-use Rattle.std.proofs.Common.{length-append, ◌⊎◌, inl, inr}
+use Rattle.std.proofs.Common.{Option, Some, None, refl, sym, ap, ◌∙◌, subst, arith, append-nil, append_assoc, take}
+use Rattle.std.proofs.Common.{drop, length-append, ◌⊎◌, inl, inr}
 use Rattle.std.specs.List.{slice_get}
 use Rattle.std.specs.Option.{option_map, option_to_list}
 use Rattle.std.proofs.lemmas.Bool.{cases_lt}
@@ -230,61 +230,54 @@ opening-decided view d longest b bit os (Some e) o r opens answer due was =
     same-report x y is = cc
 
 -- it is the number of one of the bits
-pub opening-in : {C : Type 0} {view : CheckView C} {old : ClockState C} {zs : List Arrival} {e : Option Event}
-    {second : LineState C} {o : Option ℕ} → DueIsIt → (ends : EndsWithSecond zs) →
-    AdvancesWith view old.second (own Second zs) e second →
-    ((b : List Bool) → After view old.second b → option_map (reported second.octets) e
-    ≡ due_of old.second (b ++ own Second zs) (length b + length (own Second zs) - 1)) → Opens view second e o →
-    (xs : List Arrival) → IsAfterArrivals view old xs → (k : ℕ) → o ≡ Some k →
-    k < length (own Second xs) + length (own Second zs)
-opening-in {view = view} {old = old} {zs = zs} {second = second} {o = o} it ends advances answer opens xs reached k is =
-    by-event _ (answer (own Second xs) reached.second) opens
-  where
-    some : 1 ≤ length (own Second zs)
-    some = omega (
-      arith,
-      ap length (ap (own Second) ends.whole ∙ own-append Second ends.front ((Second, ends.bit) ∷ [])),
-      length-append (own Second ends.front) (ends.bit ∷ []),
-    )
+opening-begun_in : {C : Type 0} (d : LineState C) (c : List Bool) (o : Option ℕ) (k : ℕ) → d.origin ≡ 0 →
+    o ≡ option_map (λ j. d.origin + j) (begun c) → o ≡ Some k → k < length c
+opening-begun_in d c o k begins found is =
+    let first = some-is (λ j. d.origin + j) (begun c) k (sym is ∙ found) in
+    omega (arith, begun-within c first.0 first.1, first.2, begins)
 
-    by-begun : o ≡ option_map (λ j. second.origin + j) (begun (own Second xs ++ own Second zs)) →
-        k < length (own Second xs) + length (own Second zs)
-    by-begun found =
-        let first = some-is (λ j. second.origin + j) (begun (own Second xs ++ own Second zs)) k (sym is ∙ found) in
-        omega (
-          arith,
-          begun-within (own Second xs ++ own Second zs) first.0 first.1,
-          first.2,
-          advances.decides.leads.origin,
-          reached.origin,
-          length-append (own Second xs) (own Second zs),
-        )
-
-    by-event : (e : Option Event) →
-        option_map (reported second.octets) e ≡ due_of old.second (own Second xs ++ own Second zs) (length (own Second xs) + length (own Second zs) - 1) →
-        Opens view second e o → k < length (own Second xs) + length (own Second zs)
-    by-event None due opens =
-        by-begun (opens.begun (λ f same. absurd (cc)) (own Second xs ++ own Second zs)
-        (advances.decides.leads.after (own Second xs) reached.second))
-    by-event (Some f) due opens = elim (idle-or f.kind) [
-      | inl idle ↦ by-begun (opens.begun (λ g same. ap (λ (x : Event). x.kind) (sym (same-event f g same)) ∙ idle)
-          (own Second xs ++ own Second zs) (advances.decides.leads.after (own Second xs) reached.second))
+opening-in : {C : Type 0} (view : CheckView C) (d : LineState C) (origin longest : ℕ) (c : List Bool) (n : ℕ)
+    (os : List ℕ) (e : Option Event) (o : Option ℕ) (k : ℕ) → DueIsIt → d.origin ≡ 0 → origin ≡ 0 → After view d c →
+    n < length c → Opens view d e o →
+    option_map (reported os) e ≡ option_map (moved origin) (due_at longest c n) → o ≡ Some k → k < length c
+opening-in view d origin longest c n os None o k it begins begins_at after inside opens answer is =
+    opening-begun_in d c o k begins (opens.begun (λ f same. absurd (cc)) c after) is
+opening-in view d origin longest c n os (Some e) o k it begins begins_at after inside opens answer is =
+    elim (idle-or e.kind) [
+      | inl idle ↦
+          opening-begun_in d c o k begins
+          (opens.begun (λ f same. ap (λ (x : Event). x.kind) (sym (same-event e f same)) ∙ idle) c after) is
       | inr other ↦
-          (let found = some-is (moved old.second.origin) (due_at old.second.longest (own Second xs ++ own Second zs) (length (own Second xs) + length (own Second zs) - 1))
-          (reported second.octets f) due in
-          let report = (it old.second.longest (own Second xs ++ own Second zs) (length (own Second xs) + length (own Second zs) - 1) found.0).1 found.1 in
-          let near : IsNear (length (own Second xs) + length (own Second zs) - 1) found.0 = subst (λ j. IsNear j found.0) report.1
-          (report-near old.second.longest (own Second xs ++ own Second zs) found.0 report.0) in
+          (let found = some-is (moved origin) (due_at longest c n) (reported os e) answer in
+          let report = (it longest c n found.0).1 found.1 in
+          let near : IsNear n found.0 =
+          subst (λ j. IsNear j found.0) report.1 (report-near longest c found.0 report.0) in
           omega (
             arith,
             near.some,
             near.within,
-            some,
-            same-number k f.span.first (sym is ∙ opens.piece f refl other),
+            inside,
+            same-number k e.span.first (sym is ∙ opens.piece e refl other),
             ap (λ (r : Report). r.first) found.2,
-            reached.origin,
+            begins_at,
           ))
     ]
+
+pub opening-scanned : {C : Type 0} {view : CheckView C} {old : ClockState C} {e : Option Event} {second : LineState C}
+    {o : Option ℕ} (bits : List Bool) → DueIsIt → 1 ≤ length bits → AdvancesWith view old.second bits e second →
+    ((b : List Bool) → After view old.second b → option_map (reported second.octets) e
+    ≡ due_of old.second (b ++ bits) (length b + length bits - 1)) → Opens view second e o → (xs : List Arrival) →
+    IsAfterArrivals view old xs → (k : ℕ) → o ≡ Some k → k < length (own Second xs) + length bits
+opening-scanned {view = view} {old = old} {e = e} {second = second} {o = o} bits it some advances answer opens xs
+    reached k is =
+    let b = own Second xs in
+    let led = advances.decides.leads in
+    let size = length-append b bits in
+    let near : k < length (b ++ bits) =
+    opening-in view second old.second.origin old.second.longest (b ++ bits) (length b + length bits - 1)
+    second.octets e o k it (led.origin ∙ reached.origin) reached.origin (led.after b reached.second)
+    (omega (arith, size, some)) opens (answer b reached.second) is in
+    omega (arith, near, size)
 
 -- ---- decoder and places after arrivals of which the last is a bit of the second line
 
@@ -447,7 +440,8 @@ module _ {C : Type 0} {view : CheckView C} {old : ClockState C} {zs : List Arriv
           let sum : k ≡ s.number + i = omega (arith, at-number, behind) in
           let here : length b + i ≡ k = omega (arith, behind) in
           ap (λ j. slice_get places.recent (j % 16)) sum
-          ∙ (s.notes.recent i (s.stands i within).0 (s.stands i within).1 (omega (arith, s.count, near, count-all, behind))
+          ∙ (s.notes.recent i (s.stands i within).0 (s.stands i within).1
+          (omega (arith, s.count, near, count-all, behind))
           ∙ ap Some (stood i within ∙ ap (λ j. old.first.origin + place_of (xs ++ zs) j) here)))
     ];
     opened = λ k is.
@@ -465,12 +459,12 @@ module _ {C : Type 0} {view : CheckView C} {old : ClockState C} {zs : List Arriv
   scanned-last = record {
     kept = rw (all-parted) at scanned-kept;
     opened = λ r due was.
-        let opening = opening-decided view second old.second.longest b-then s.ends.bit second.octets e s.opening r s.opens
-        answer-now due was in
+        let opening = opening-decided view second old.second.longest b-then s.ends.bit second.octets e s.opening r
+        s.opens answer-now due was in
         let then : begun (b ++ own Second us) ≡ Some r.first = rw (own-append Second xs us) at (was.opened) in
-        ap (λ k. k) (opened-at r.first opening
+        opened-at r.first opening
         (omega (arith, begun-within b-then r.first was.opened, count-then, seconds-count))
-        (λ before. begun-before b (own Second us) r.first then before))
+        (λ before. begun-before b (own Second us) r.first then before)
         ∙ ap (λ ys. old.first.origin + place_of ys r.first) all-parted;
     answer = answer-now;
   }

@@ -4,9 +4,9 @@ ghost use Rattle.std.specs.Prelude.{◌≡◌, ◌+◌, ◌<◌, ◌≤◌, ℕ,
 ghost use Rattle.bus_bits.specs.Limits.{most_places};
 ghost use Rattle.bus_clocks.specs.Internal.Stretch.{NotesMany, Opens, stands_at};
 
-use bus_tap::BitPlaces;
 use bus_fcs::Check;
 use bus_line::{Event, EventKind, LineDecoder};
+use bus_tap::BitPlaces;
 use std::cmp::min;
 
 /// Where the bits of a block's second line stand.

@@ -47,8 +47,8 @@ loop-taken-preserved g c =
     record {
       within = c.scan_some-taken.ensures.within.1;
       told = rw whole
-          (leads-further (two_clocks g.C.Check.check) c.args.self.now c.loop-taken.self now.self (upto t xs) zs _ _ _ before.told
-          (c.scan_some-taken.ensures.told xs c.part-parted.ensures)
+          (leads-further (two_clocks g.C.Check.check) c.args.self.now c.loop-taken.self now.self (upto t xs) zs _ _ _
+          before.told (c.scan_some-taken.ensures.told xs c.part-parted.ensures)
           (λ ss ts first next. g.met.L.ReportObserver.observes_more c.args.self.now.conversation.dictionary
           c.args.observer.now c.loop-taken.observer now.observer c.args.out.now c.loop-taken.out now.out ss ts first
           (subst (λ d. g.L.ReportObserver.observes d c.loop-taken.observer c.loop-taken.out ts now.observer now.out)
@@ -91,8 +91,8 @@ returns-clause-told g c =
     subst (λ zs. AdvancesWatchShown (two_clocks g.C.Check.check) c.args.self.now zs now.self
     (λ ss. g.L.ReportObserver.observes c.args.self.now.conversation.dictionary c.args.observer.now c.args.out.now ss
     now.observer now.out)) (ap (λ k. upto k xs ++ beyond n xs) all ∙ upto-beyond n xs)
-    (leads-further (two_clocks g.C.Check.check) c.args.self.now c.loop-taken.self now.self (upto t xs) (beyond n xs) _ _ _
-    before.told (c.follow.ensures.told xs c.part-parted.ensures)
+    (leads-further (two_clocks g.C.Check.check) c.args.self.now c.loop-taken.self now.self (upto t xs) (beyond n xs)
+    _ _ _ before.told (c.follow.ensures.told xs c.part-parted.ensures)
     (λ ss ts first next. g.met.L.ReportObserver.observes_more c.args.self.now.conversation.dictionary
     c.args.observer.now c.loop-taken.observer now.observer c.args.out.now c.loop-taken.out now.out ss ts first
     (subst (λ d. g.L.ReportObserver.observes d c.loop-taken.observer c.loop-taken.out ts now.observer now.out)

@@ -1,8 +1,9 @@
 use Rattle.std.proofs.Common.{◌≡◌, ◌+◌, ◌-◌, ◌++◌, ◌<◌, List, length, refl, sym, ap, ◌∙◌}
 use Rattle.std.proofs.Common.{subst, arith, Some, take, drop, Option}
 use Rattle.std.specs.Option.{option_to_list}
+use Rattle.bus_bits.specs.Bits.{bits_from}
 use Rattle.bus_bits.proofs.BitLemmas.{length-from}
-use Rattle.bus_line.specs.After.{AdvancesWith, due_of}
+use Rattle.bus_line.specs.After.{due_of}
 use Rattle.bus_pairing.specs.Seen.{SeenReport}
 use Rattle.bus_pairing.specs.declared.line.Line.TheVariants.{First, Second}
 use Rattle.bus_tap.specs.Arrival.{Arrival, own}
@@ -13,10 +14,9 @@ use Rattle.bus_clocks.specs.Clocks.{ClockState, two_clocks}
 use Rattle.bus_clocks.specs.Internal.ClockView.{clock_state}
 use Rattle.bus_clocks.specs.Internal.Parts.{Parts, beyond, upto}
 use Rattle.bus_clocks.proofs.PartsLemmas.{count-beyond, is-stretch, stretch-firsts}
-use Rattle.bus_clocks.proofs.PartsLemmas.{stretch-seconds}
 use Rattle.bus_clocks.proofs.PushLemmas.{whole-located}
 use Rattle.bus_clocks.proofs.RoomLemmas.{own-count}
-use Rattle.bus_clocks.proofs.StretchLemmas.{arrivals-keep_up, leads-scanned, opening-in}
+use Rattle.bus_clocks.proofs.StretchLemmas.{arrivals-keep_up, leads-scanned, opening-scanned}
 use Rattle.bus_clocks.proofs.StretchLemmas.{scanned-of, whole-scanned}
 use Rattle.bus_clocks.proofs.analyser.TwoClockAnalyser.scan_some.Given.{Over}
 use Rattle.bus_clocks.proofs.analyser.TwoClockAnalyser.scan_some.Goals as goal
@@ -41,29 +41,22 @@ note_bits-requires-clause-opening g c = λ k is.
     let p = c.args.parted.now in
     let m = c.args.from in
     let n = c.in-Ok.scanned.count in
-    let ys = c.requires.parts.0 in
-    let parts = c.requires.parts.1 in
     let reached = c.self.invariant.reached in
-    let old = c.self.inside.second in
-    let new = c.scan.new.self in
-    let event = c.in-Ok.scanned.event in
-    let zs = upto n (beyond m ys) in
-    let some = is-stretch ys parts c.requires.some c.count.ensures.value c.in-Ok.ensures.count
-    (c.ahead-ahead.ensures ys parts) refl in
-    let bits = stretch-seconds c.octets.result.now p ys m n _ _ parts some c.octets.ensures.bits in
+    let bits = bits_from c.octets.result.now m n in
+    let count = length-from c.octets.result.now m n in
+    let some = is-stretch c.requires.parts.0 c.requires.parts.1 c.requires.some c.count.ensures.value
+    c.in-Ok.ensures.count (c.ahead-ahead.ensures c.requires.parts.0 c.requires.parts.1) refl in
     let all : n ≡ m + n - m = omega arith in
-    let within = opening-in {old = clock_state c.self.inside} {zs = zs} c.reports_are.ensures.due some.ends
-    (subst (λ more. AdvancesWith g.C.Check.check old more event new) bits c.in-Ok.ensures.advances)
-    (λ b after. c.in-Ok.ensures.answer b after
-    ∙ (ap (λ more. due_of old (b ++ more) (length b + n - 1)) bits
-    ∙ ap (λ j. due_of old (b ++ own Second zs) (length b + j - 1)) (sym some.seconds)))
-    c.opening-opening.ensures c.self.invariant.arrivals reached k is in
+    let within = opening-scanned {old = clock_state c.self.inside} bits c.reports_are.ensures.due
+    (omega (arith, count, c.in-Ok.ensures.count.0)) c.in-Ok.ensures.advances
+    (λ b after. c.in-Ok.ensures.answer b after ∙ ap (λ j. due_of c.self.inside.second (b ++ bits) (length b + j - 1))
+    (sym count)) c.opening-opening.ensures c.self.invariant.arrivals reached k is in
     subst (λ j. k < c.place-number.result + length (take j (drop m p.before))) all
     (omega (
       arith,
       within,
+      count,
       some.count,
-      some.seconds,
       c.place-number.ensures.value,
       reached.second.has_taken.place,
       reached.origin,
@@ -206,6 +199,9 @@ leads-on : (g : Over) (c : goal.After-show g) (ys : List Arrival) → Parts ys c
 leads-on g c ys parts =
     let some = is-stretch ys parts c.requires.some c.count.ensures.value c.in-Ok.ensures.count
     (c.ahead-ahead.ensures ys parts) (c.ahead.ensures ys parts) in
+    let asked = is-stretch c.requires.parts.0 c.requires.parts.1 c.requires.some c.count.ensures.value
+    c.in-Ok.ensures.count (c.ahead-ahead.ensures c.requires.parts.0 c.requires.parts.1)
+    (c.ahead.ensures c.requires.parts.0 c.requires.parts.1) in
     let zs = upto c.in-Ok.scanned.count (beyond c.args.from ys) in
     let xs = c.self.invariant.arrivals in
     let reached = c.self.invariant.reached in
@@ -219,8 +215,8 @@ leads-on g c ys parts =
     c.place-number.ensures.value (c.spent-taken.ensures.ledger (own First xs) reached.first).bits
     (ap (λ k. k - c.spent-taken.result.shifted) c.place.ensures.value) refl c.note_bits.ensures
     c.opening-opening.ensures in
-    let bits = stretch-firsts c.octets-2.result.now c.args.parted.now ys c.args.from c.in-Ok.scanned.count _ _ parts some
-    c.octets-2.ensures.bits in
+    let bits = stretch-firsts c.octets-2.result.now c.args.parted.now ys c.args.from c.in-Ok.scanned.count _ _ parts
+    some c.octets-2.ensures.bits in
     let first = subst (λ b. DecodesMany g.C.Check.check (Some First) c.self.inside.first c.self.inside.conversation b
     c.observe_bits.new.decoder c.observe_bits.new.conversation
     (λ ss. g.L.ReportObserver.observes c.self.inside.conversation.dictionary c.args.observer.now c.args.out.now ss
@@ -235,8 +231,10 @@ leads-on g c ys parts =
     c.reports_grow.ensures.grow c.reports_are.ensures.are c.reports_are.ensures.within c.reports_are.ensures.due
     (omega (
       arith,
-      some.size,
-      some.fits,
+      some.past_is,
+      asked.past_is,
+      asked.size,
+      asked.fits,
       c.requires.parts.2,
       ap (λ (a : ClockState g.row.C.Denot). a.first.place + a.second.place) c.self.view_is,
     )) scanned first c.located_option-event.ensures
