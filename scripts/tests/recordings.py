@@ -543,7 +543,8 @@ def one_clock_for_two(_: Path) -> List[str]:
 
 
 def beyond_one_read(folder: Path) -> List[str]:
-    """Recordings of more than 4 MiB, which are read in several parts, have all the bits that were put in."""
+    """Recordings of more than 4 MiB, which are read in several parts, have all the bits that were put in. The reads cut
+    samples of seven octets, and those of a session are as long when they are packed."""
     generator = random.Random(4)
     bits = "".join(generator.choice("01") for _ in range(700_000))
     pairs = samples_of(bits)
@@ -554,14 +555,16 @@ def beyond_one_read(folder: Path) -> List[str]:
     with zipfile.ZipFile(session, "w", zipfile.ZIP_DEFLATED) as archive:
         metadata = "[device 1]\ncapturefile=logic-1\nsamplerate=1 MHz\nunitsize=4\nprobe1=0\nprobe2=1\n"
         archive.writestr("metadata", metadata)
-        archive.writestr("logic-1", b"".join(bytes([level | bit << 1, 0, 0, 0]) for level, bit in pairs))
+        others = generator.getrandbits(24 * len(pairs)).to_bytes(3 * len(pairs), "little")
+        samples = (bytes([level | bit << 1]) + others[3 * at : 3 * at + 3] for at, (level, bit) in enumerate(pairs))
+        archive.writestr("logic-1", b"".join(samples))
     forms = {
         "vcd": (wires + "".join(changes)).encode(),
         "csv": f"{clock},{data}\n{''.join(f'{level},{bit}{chr(10)}' for level, bit in pairs)}".encode(),
-        "binary": b"".join(bytes([level | bit << 1, *bytes(7)]) for level, bit in pairs),
+        "binary": b"".join(bytes([level | bit << 1, *bytes(6)]) for level, bit in pairs),
     }
     named = {form: [clock, data] if form != "binary" else CHANNELS[:2] for form in forms}
-    got = {form: ran([SCRIPT, "--format", form, "--octets=8", *named[form]], forms[form]) for form in forms}
+    got = {form: ran([SCRIPT, "--format", form, "--octets=7", *named[form]], forms[form]) for form in forms}
     with session.open("rb") as source:
         got["session"] = subprocess.run([SCRIPTS / SCRIPT, *CHANNELS[:2]], stdin=source, capture_output=True)
     good = {form: run.stdout == lines(bits) and run.stderr.count(b"\n") == 1 for form, run in got.items()}

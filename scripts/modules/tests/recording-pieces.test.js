@@ -36,6 +36,20 @@ for (const [name, form, channels, length] of CUT) {
 const BITS = "01111110000010001100000100000000101111101101001110111111011";
 const SAMPLES = Array.from(BITS).flatMap((bit) => [2 * Number(bit), 1 + 2 * Number(bit)]);
 
+/** Samples of several octets, of which the last has clock and data, wherever the pieces end. */
+for (const width of [1, 2, 3, 8]) {
+  test(`samples of ${width} octets in pieces`, async () => {
+    const octets = Uint8Array.from(SAMPLES.flatMap((sample, at) => [...Array(width - 1).fill(at & 255), sample]));
+    const names = Array.from({ length: 8 * width }, (_, at) => String(at));
+    const channels = names.slice(-8, -6);
+    for (let size = 1; size < 3 * width + 2; size++) {
+      const samples = { names, width, ticks: null };
+      const got = await taken(inPieces(octets, size), { form: "binary", channels, samples });
+      assert.deepEqual(got, { bits: BITS, fault: null }, `pieces of ${size}`);
+    }
+  });
+}
+
 /** @type {[import("../recording/forms.js").Form, string[]][]} */
 const OUTPUTS = [["csv", ["csv", "csv:time=true:dedup=true", "csv:time=true"]], ["vcd", ["vcd"]]];
 
