@@ -12,8 +12,8 @@ use Rattle.bus_calls.specs.Internal.Headed.{IsHeaded}
 use Rattle.bus_calls.proofs.HeadedLemmas.{head-followed, headed-here, headed-more}
 
 -- the rule takes the arrival of one symbol more
-pub rests-next : (r q : RestState) (b : List (Bool × Bool)) (s : Bool × Bool) (front old new : List Arrival) (x : Arrival)
-    (comes : Bool) → x ≡ arrival_of s → q.most ≡ r.most → new ≡ (old ++ x ∷ []) ++ fill comes
+pub rests-next : (r q : RestState) (b : List (Bool × Bool)) (s : Bool × Bool) (front old new : List Arrival)
+    (x : Arrival) (comes : Bool) → x ≡ arrival_of s → q.most ≡ r.most → new ≡ (old ++ x ∷ []) ++ fill comes
     → ((xs : List Arrival) → IsRestAfter r xs
     → rested r.most (xs ++ x ∷ []) ≡ rested r.most xs ++ (x ∷ fill comes))
     → ((xs : List Arrival) → IsRestAfter r xs → IsRestAfter q (xs ++ x ∷ []))

@@ -124,7 +124,10 @@ module _ {C : Type 0} (view : CheckView C) where
       → MatchResult r (λ _. FeedAfter (arrivals_kind view) start now w b)
       (λ f. FeedStopsWith (arrivals_kind view) start now w b f)
   symbols-taken start now w b ys (Ok u) stands taken =
-      record { rule = stands.after; bits = subst (WatchAfter (arrivals_kind view) start now w) (sym stands.rested) taken }
+      record {
+        rule = stands.after;
+        bits = subst (WatchAfter (arrivals_kind view) start now w) (sym stands.rested) taken;
+      }
   symbols-taken start now w b ys (Err f) stands taken =
       subst (λ (zs : List Arrival). WatchStopsWith (arrivals_kind view) start now w zs f) (sym stands.rested) taken
 

@@ -93,7 +93,7 @@ impl ArrivalBlock {
         }
     }
 
-    /// Puts the arrival of a symbol behind the others, and fifteen 1s of the second line where it comes to rest with it.
+    /// Puts the arrival of a symbol behind the others, and fifteen 1s of the second line where it then comes to rest.
     #[inline(always)]
     pub(crate) fn put(&mut self, symbol: (bool, bool), rest: &mut RestRule)
         requires { length self.old + 16 ≤ 4096 }

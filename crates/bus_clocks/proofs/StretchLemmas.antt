@@ -38,7 +38,7 @@ use Rattle.bus_clocks.specs.Clocks.{ClockState, IsAfterArrivals, AdvancesArrival
 use Rattle.bus_clocks.specs.Clocks.{arrival_reports, two_clocks}
 use Rattle.bus_clocks.specs.Internal.Pushes.{AdvancesConversationBy}
 use Rattle.bus_clocks.specs.Internal.Parts.{Parts, beyond, upto}
-use Rattle.bus_clocks.specs.Internal.Stretch.{NotesMany, Opens, stands_at}
+use Rattle.bus_clocks.specs.Internal.Stretch.{NotesMany, Opens, place_after}
 use Rattle.bus_clocks.specs.declared.parted.Parted.{Parted}
 use Rattle.bus_tap.specs.Laws.{ArrivalsGrow}
 use Rattle.bus_clocks.specs.Laws.{LinesApart}
@@ -296,7 +296,7 @@ pub record Scanned {C : Type 0} (view : CheckView C) (old : ClockState C) (zs : 
   pub opens : Opens view second e opening
   pub count : length before ≡ length (own Second zs)
   pub stands : (i : ℕ) → i < length (own Second zs) → (c : ℕ) × (slice_get before i ≡ Some c)
-      × (stands_at standing c ≡ old.first.origin + (old.first.place - old.first.origin + firsts_before i zs - 1))
+      × (place_after standing c ≡ old.first.origin + (old.first.place - old.first.origin + firsts_before i zs - 1))
 
 -- as they are scanned and noted
 pub scanned-of : {C : Type 0} (view : CheckView C) (old : ClockState C) (e : Option Event) (second : LineState C)
@@ -375,7 +375,7 @@ module _ {C : Type 0} {view : CheckView C} {old : ClockState C} {zs : List Arriv
   at-number = omega (arith, s.at_place, reached.second.has_taken.place, reached.origin)
 
   stood : (i : ℕ) (inside : i < length (own Second zs)) →
-      stands_at s.standing (s.stands i inside).0 ≡ old.first.origin + place_of (xs ++ zs) (length b + i)
+      place_after s.standing (s.stands i inside).0 ≡ old.first.origin + place_of (xs ++ zs) (length b + i)
   stood i inside = omega (
     arith,
     (s.stands i inside).2,

@@ -12,7 +12,7 @@ use crate::feed::{Arrival, PLACES};
 use crate::laws::arrivals_are;
 use crate::line_bits::BLOCK;
 use crate::parted::{Parted, part};
-use crate::stretch::{Standing, note_bits, opening};
+use crate::stretch::{note_bits, opening, standing_behind};
 use bus_fcs::Check;
 use bus_line::PlaceLimit;
 use bus_line::laws::{frame_is_spelled, reports_are, reports_grow, settled_places};
@@ -97,12 +97,7 @@ impl<C: Check> TwoClockAnalyser<C> {
         arrivals_are();
         let number = self.second.place();
         let ahead = parted.ahead(from);
-        let taken = self.first.spent().shifted;
-        let standing = Standing {
-            origin: self.first.place() - taken,
-            taken,
-            ahead: ahead as u64,
-        };
+        let standing = standing_behind(&self.first, ahead);
         let scanned = match self
             .second
             .scan(parted.second.octets(), from, parted.second.count())

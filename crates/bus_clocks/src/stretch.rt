@@ -1,8 +1,10 @@
 //! The places of many bits of the second line.
 
-ghost use Rattle.std.specs.Prelude.{◌≡◌, ◌+◌, ◌<◌, ◌≤◌, ℕ, Some, length};
+ghost use Rattle.std.specs.Prelude.{◌≡◌, ◌+◌, ◌-◌, ◌<◌, ◌≤◌, ℕ, List, Bool, Some, length};
 ghost use Rattle.bus_bits.specs.Limits.{most_places};
-ghost use Rattle.bus_clocks.specs.Internal.Stretch.{NotesMany, Opens, stands_at};
+ghost use Rattle.bus_line.specs.After.{After};
+ghost use Rattle.bus_watch.specs.Internal.Decodes.{Stands};
+ghost use Rattle.bus_clocks.specs.Internal.Stretch.{NotesMany, Opens, place_after};
 
 use bus_fcs::Check;
 use bus_line::{Event, EventKind, LineDecoder};
@@ -13,11 +15,11 @@ use std::cmp::min;
 #[derive(Drop)]
 pub(crate) struct Standing {
     /// The place of the first bit of the first line.
-    pub(crate) origin: u64,
+    origin: u64,
     /// How many bits the first line has had.
-    pub(crate) taken: u64,
+    taken: u64,
     /// How many of these are of the block.
-    pub(crate) ahead: u64,
+    ahead: u64,
 }
 
 impl Standing {
@@ -25,10 +27,26 @@ impl Standing {
     #[inline(always)]
     fn after(&self, before: u16) -> u64
         requires { self.now.origin + self.now.taken ≤ most_places }
-        ensures { result ≡ stands_at self.now before }
+        ensures { result ≡ place_after self.now before }
     {
         let more = u64::from(before).saturating_sub(self.ahead);
         self.origin + (self.taken + more).saturating_sub(1)
+    }
+}
+
+/// Where bits of the second line stand now, after so many bits of the block's first line.
+pub(crate) fn standing_behind<C: Check>(first: &LineDecoder<C>, ahead: usize) -> Standing
+    requires reached { Stands C.check first.now }
+    ensures origin { result.origin ≡ first.now.place - result.taken }
+    ensures taken { (b : List Bool) → After C.check first.now b → result.taken ≡ length b }
+    ensures ahead { result.ahead ≡ ahead }
+    ensures fits { result.origin + result.taken ≤ most_places }
+{
+    let taken = first.spent().shifted;
+    Standing {
+        origin: first.place() - taken,
+        taken,
+        ahead: ahead as u64,
     }
 }
 

@@ -113,7 +113,8 @@ lines-second view old new bit e l number opens bound pushed located first =
         places = rw (first) (places-kept pushed xs reached);
       };
       decides = λ xs reached. rw (← reached.longest)
-          (decides-located e l (omega (arith, reached.first.has_taken.place, bound)) (last-bit pushed xs reached) located);
+          (decides-located e l (omega (arith, reached.first.has_taken.place, bound)) (last-bit pushed xs reached)
+          located);
       origin = ap (λ d. d.origin) first;
       longest = ap (λ d. d.longest) first;
     }

@@ -18,9 +18,9 @@ use Rattle.port1_c.specs.declared.line.Port1Line.{Port1Line}
 use Rattle.port1_c.specs.declared.report.Port1Report.{Port1Report}
 
 -- the memory of a line
-abbrev pub line_of : Port1Clocks → Line → Port1Line
-line_of c First = c.first
-line_of c Second = c.second
+abbrev pub memory_of : Port1Clocks → Line → Port1Line
+memory_of c First = c.first
+memory_of c Second = c.second
 
 -- the memory holds two decoders
 pub record AreSound (c : Port1Clocks) : Type 0 where
@@ -41,12 +41,12 @@ arrived_told c xs = arrived c.first.words.origin c.first.words.longest xs
 
 -- the report that the memory tells on a line, if it tells one; a frame's octets are in that line
 abbrev pub decided_told : Port1Clocks → Line → Port1Report → List LineReport
-decided_told c line r = map (line_report (Some line)) (option_to_list (report_told r (octets_of (line_of c line))))
+decided_told c line r = map (line_report (Some line)) (option_to_list (report_told r (octets_of (memory_of c line))))
 
 -- an arrival leads from old to new, and decides this event, if it is one
 abbrev pub PushesClocks : Port1Clocks → Arrival → Option Event → Port1Clocks → Type 0
 PushesClocks old x event new = PushesLines by_tables (lines_told old) x (map (line_report (Some x.0))
-    (option_to_list (option_map (reported (octets_of (line_of new x.0))) event))) (lines_told new)
+    (option_to_list (option_map (reported (octets_of (memory_of new x.0))) event))) (lines_told new)
 
 -- the piece that the line of this number, 1 or 2, has begun
 abbrev pub open_on : ℕ → ℕ → List Arrival → Option Span

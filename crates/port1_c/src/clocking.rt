@@ -3,7 +3,7 @@
 ghost use Rattle.std.specs.Prelude.{◌≡◌, ◌≢◌, ◌≤◌, ◌<◌, ◌↔◌, ◌⊎◌, ◌++◌, ◌∷◌, [], List};
 ghost use Rattle.bus_bits.specs.Limits.{most_places};
 ghost use Rattle.bus_tap.specs.Arrival.{Arrival};
-ghost use Rattle.port1_c.specs.Clocks.{AreSound, ClocksAfter, arrived_told, decided_told, line_of, open_on, span_told};
+ghost use Rattle.port1_c.specs.Clocks.{AreSound, ClocksAfter, arrived_told, decided_told, memory_of, open_on, span_told};
 ghost use Rattle.port1_c.specs.Line.{IsCoded};
 ghost use Rattle.port1_c.specs.Rest.{arrival_told};
 ghost use Rattle.port1_c.specs.declared.status.TheConstants.{OK, BAD_LENGTH, PLACE_LIMIT, BAD_STATE, BAD_ARGUMENT};
@@ -52,7 +52,7 @@ pub extern "C" fn port1_clocks_push(
     ensures status { (result ≡ OK) ⊎ (result ≡ PLACE_LIMIT) ⊎ (result ≡ BAD_STATE) ⊎ (result ≡ BAD_ARGUMENT) }
     ensures argument { result ≡ BAD_ARGUMENT ↔ (arrival.now.line < 1) ⊎ (2 < arrival.now.line) }
     ensures limit { AreSound clocks.old → result ≢ BAD_ARGUMENT → (result ≡ PLACE_LIMIT
-        ↔ most_places ≤ (line_of clocks.old (arrival_told arrival.now).0).words.place) }
+        ↔ most_places ≤ (memory_of clocks.old (arrival_told arrival.now).0).words.place) }
     ensures state { AreSound clocks.old → result ≢ BAD_STATE }
     ensures refused { result < BAD_STATE → AreSound clocks.old }
     ensures kept { result ≢ OK → (clocks.new ≡ clocks.old) × (report.new ≡ report.old) }

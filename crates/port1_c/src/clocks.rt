@@ -8,7 +8,7 @@ ghost use Rattle.bus_pairing.specs.declared.line.Line.TheVariants.{First, Second
 ghost use Rattle.bus_tap.specs.Arrival.{Arrival, own, begun_places};
 ghost use Rattle.bus_tap.specs.Lines.{DecodesBit};
 ghost use Rattle.port1_c.specs.Line.{Sound, held};
-ghost use Rattle.port1_c.specs.Clocks.{AreSound, ClocksAfter, PushesClocks, line_of};
+ghost use Rattle.port1_c.specs.Clocks.{AreSound, ClocksAfter, PushesClocks, memory_of};
 
 use crate::line::Port1Line;
 use bus_bits::Span;
@@ -53,7 +53,7 @@ impl Port1Clocks {
     #[inline(always)]
     pub(crate) fn push(&mut self, line: Line, bit: bool) -> Result<Option<Event>, PlaceLimit>
         requires sound { AreSound self.old }
-        ensures limit { IsErr result ↔ (most_places ≤ (line_of self.old line).words.place) }
+        ensures limit { IsErr result ↔ (most_places ≤ (memory_of self.old line).words.place) }
         ensures kept { OnErr result (self.new ≡ self.old) }
         ensures pushes { IfOk result (λ event. PushesClocks self.old (line, bit) event self.new) }
         ensures sound { AreSound self.new }

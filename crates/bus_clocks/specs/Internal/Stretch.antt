@@ -11,8 +11,8 @@ use Rattle.bus_tap.specs.declared.places.BitPlaces.{BitPlaces}
 use Rattle.bus_clocks.specs.declared.stretch.Standing.{Standing}
 
 -- the place of a bit of the second line after so many bits of the block's first line
-abbrev pub stands_at : Standing → ℕ → ℕ
-stands_at s before = s.origin + (s.taken + (before - s.ahead) - 1)
+abbrev pub place_after : Standing → ℕ → ℕ
+place_after s before = s.origin + (s.taken + (before - s.ahead) - 1)
 
 -- the number of the first bit of the piece whose report is decided, and else of the piece that has begun
 pub record Opens {C : Type 0} (view : CheckView C) (d : LineState C) (decided : Option Event) (o : Option ℕ)
@@ -25,10 +25,10 @@ pub record Opens {C : Type 0} (view : CheckView C) (d : LineState C) (decided : 
 -- many bits of the block's first line
 pub record NotesMany (p q : BitPlaces) (number : ℕ) (before : List ℕ) (opening : Option ℕ) (s : Standing)
     : Type 0 where
-  pub reached : (c : ℕ) → slice_get before (length before - 1) ≡ Some c → q.reached ≡ stands_at s c
+  pub reached : (c : ℕ) → slice_get before (length before - 1) ≡ Some c → q.reached ≡ place_after s c
   pub recent : (i c : ℕ) → slice_get before i ≡ Some c → length before ≤ i + 16
-      → slice_get q.recent ((number + i) % 16) ≡ Some (stands_at s c)
+      → slice_get q.recent ((number + i) % 16) ≡ Some (place_after s c)
   pub others : (k : ℕ) → k < number → number + length before ≤ k + 16
       → slice_get q.recent (k % 16) ≡ slice_get p.recent (k % 16)
-  pub opened : (i c : ℕ) → opening ≡ Some (number + i) → slice_get before i ≡ Some c → q.opened ≡ stands_at s c
+  pub opened : (i c : ℕ) → opening ≡ Some (number + i) → slice_get before i ≡ Some c → q.opened ≡ place_after s c
   pub kept : ((k : ℕ) → opening ≡ Some k → k < number) → q.opened ≡ p.opened

@@ -3,7 +3,7 @@ use Rattle.std.specs.Prelude.{slice_get, slice_index}
 use Rattle.std.proofs.lemmas.Bool.{cases_lt}
 use Rattle.std.proofs.lemmas.Option.{get_or_from_slice_get, slice_get_within}
 use Rattle.bus_tap.specs.declared.places.BitPlaces.{BitPlaces}
-use Rattle.bus_clocks.specs.Internal.Stretch.{stands_at}
+use Rattle.bus_clocks.specs.Internal.Stretch.{place_after}
 use Rattle.bus_clocks.proofs.stretch.note_bits.Goals as goal
 
 pub loop-at-preserved : goal.loop-at-preserved
@@ -14,14 +14,14 @@ loop-at-preserved c =
     let before = c.loop-at.invariant in
     let notes = c.note-in-loop-at.ensures in
     let reach = c.reach-in-loop-at.ensures in
-    let now : c.reach-in-loop-at.new.self.reached ≡ stands_at s (slice_index xs at) =
+    let now : c.reach-in-loop-at.new.self.reached ≡ place_after s (slice_index xs at) =
     ap (λ (p : BitPlaces). p.reached) reach ∙ c.after-in-loop-at.ensures in
     record {
       within = omega (arith, c.loop-at-test.true);
       from = omega (arith, before.from);
       reached = λ x some is.
           let here : at + 1 - 1 ≡ at = omega arith in
-          notes.reached ∙ (now ∙ ap (stands_at s) (get_or_from_slice_get xs at x 0 (rw here at is)));
+          notes.reached ∙ (now ∙ ap (place_after s) (get_or_from_slice_get xs at x 0 (rw here at is)));
       recent = λ i x inside is near. elim (cases_lt i at) [
         | inl below ↦
             notes.others ((c.args.number + i) % 16) (λ same. omega (arith, same, below, near, c.loop-at-test.true))
@@ -31,7 +31,7 @@ loop-at-preserved c =
             (let here : i ≡ at = omega (arith, last, inside) in
             ap (λ k. slice_get c.note-in-loop-at.new.self.recent ((c.args.number + k) % 16)) here
             ∙ (notes.here ∙ ap Some (now
-            ∙ ap (stands_at s) (get_or_from_slice_get xs at x 0 (rw here at is)))))
+            ∙ ap (place_after s) (get_or_from_slice_get xs at x 0 (rw here at is)))))
       ];
       others = λ k below near.
           notes.others (k % 16) (λ same. omega (arith, same, below, near, c.loop-at-test.true))

@@ -4,7 +4,7 @@ use Rattle.bus_line.proofs.DueMoreLemmas.{due_at-append}
 use Rattle.bus_line.proofs.ReportLemmas.{due-it}
 use Rattle.bus_pairing.specs.LineReport.{line_report}
 use Rattle.bus_tap.proofs.ArrivedLemmas.{arrived-more}
-use Rattle.port1_c.specs.Clocks.{arrived_told, line_of}
+use Rattle.port1_c.specs.Clocks.{arrived_told, memory_of}
 use Rattle.port1_c.specs.Line.{octets_of}
 use Rattle.port1_c.specs.Rest.{arrival_told}
 use Rattle.port1_c.proofs.clocking.port1_clocks_push.Goals as goal
@@ -18,4 +18,4 @@ returns-clause-adds c = λ ok xs after.
     ∙ ap (λ hs. arrived_told now xs ++ hs)
     (pushes.decides xs after
     ∙ ap (λ o. map (line_report (Some x.0)) (option_to_list o))
-    (sym (c.of.ensures.decides (octets_of (line_of c.push.new.self x.0)))))
+    (sym (c.of.ensures.decides (octets_of (memory_of c.push.new.self x.0)))))

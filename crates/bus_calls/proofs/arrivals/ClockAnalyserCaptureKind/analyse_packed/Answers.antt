@@ -26,9 +26,10 @@ returns-in_err-analyse_arrivals-clause-taken g c =
     c.put_packed-taken.new.self c.put_packed-taken.ensures.rests followed.read
     (record { after = followed.bits.rule; rested = refl }) in (
       c.put_packed-taken.result,
-      octets-taken kind start _ new (xs ++ ys) c.put_packed-taken.new.body (kind.form.packed (xs ++ ys)).bits (Err c.in_err-analyse_arrivals.field-0.0) low
-          put.0 refl
-          (symbols-taken view start _ new (kind.form.packed (xs ++ ys)).bits (front ++ c.as_slice.result.now) (Err c.in_err-analyse_arrivals.field-0.0)
+      octets-taken kind start _ new (xs ++ ys) c.put_packed-taken.new.body (kind.form.packed (xs ++ ys)).bits
+          (Err c.in_err-analyse_arrivals.field-0.0) low put.0 refl
+          (symbols-taken view start _ new (kind.form.packed (xs ++ ys)).bits (front ++ c.as_slice.result.now)
+          (Err c.in_err-analyse_arrivals.field-0.0)
           (rw (c.analyse_arrivals.ensures.rule, c.as_slice.ensures) put.1)
           (c.in_err-analyse_arrivals.ensures.taken start front
           (watched-behind view start _ c.args.run.now _ front refl refl followed.bits.bits))),

@@ -25,8 +25,10 @@ returns-in_err-analyse_arrivals-clause-taken g c =
     (record { after = followed.bits.rule; rested = refl }) in (
       n,
       c.put_text-taken.ensures.within,
-      mark-taken kind start _ new more (kind.form.text more).bits (Err c.in_err-analyse_arrivals.field-0.0) low put.0 refl
-          (symbols-taken view start _ new (kind.form.text more).bits (front ++ c.as_slice.result.now) (Err c.in_err-analyse_arrivals.field-0.0)
+      mark-taken kind start _ new more (kind.form.text more).bits
+          (Err c.in_err-analyse_arrivals.field-0.0) low put.0 refl
+          (symbols-taken view start _ new (kind.form.text more).bits (front ++ c.as_slice.result.now)
+          (Err c.in_err-analyse_arrivals.field-0.0)
           (rw (c.analyse_arrivals.ensures.rule, c.as_slice.ensures) put.1)
           (c.in_err-analyse_arrivals.ensures.taken start front
           (watched-behind view start _ c.args.run.now _ front refl refl followed.bits.bits))),

@@ -62,17 +62,6 @@ note_bits-requires-clause-opening g c = λ k is.
       reached.origin,
     ))
 
-pub note_bits-requires-clause-standing : goal.note_bits-requires-clause-standing
-note_bits-requires-clause-standing g c =
-    let reached = c.self.invariant.reached in
-    omega (
-      arith,
-      c.place.ensures.value,
-      c.place.ensures.fits,
-      (c.spent-taken.ensures.ledger (own First c.self.invariant.arrivals) reached.first).bits,
-      reached.first.has_taken.place,
-    )
-
 pub observe_bits-requires-clause-some : goal.observe_bits-requires-clause-some
 observe_bits-requires-clause-some g c =
     let ys = c.requires.parts.0 in
@@ -134,13 +123,10 @@ enter-is_decided-requires-clause-whole g c =
     let reached = c.self.invariant.reached in
     let scanned = scanned-of g.C.Check.check (clock_state c.self.inside) c.in-Ok.scanned.event c.scan.new.self
     c.note_bits.new.places ys c.octets.result.now
-    (record {
-      origin = c.place.result - c.spent-taken.result.shifted;
-      taken = c.spent-taken.result.shifted;
-      ahead = c.ahead-ahead.result;
-    }) xs parts some reached c.octets.ensures.bits c.in-Ok.ensures.advances c.in-Ok.ensures.answer
-    c.place-number.ensures.value (c.spent-taken.ensures.ledger (own First xs) reached.first).bits
-    (ap (λ k. k - c.spent-taken.result.shifted) c.place.ensures.value) refl c.note_bits.ensures
+    c.standing_behind-standing.result xs parts some reached c.octets.ensures.bits c.in-Ok.ensures.advances
+    c.in-Ok.ensures.answer
+    c.place-number.ensures.value (c.standing_behind-standing.ensures.taken (own First xs) reached.first)
+    c.standing_behind-standing.ensures.origin c.standing_behind-standing.ensures.ahead c.note_bits.ensures
     c.opening-opening.ensures in
     whole-located _ c.in-Ok.scanned.event c.located_option-event.result c.octets-octets.result.now
     c.located_option-event.ensures
@@ -207,13 +193,10 @@ leads-on g c ys parts =
     let reached = c.self.invariant.reached in
     let scanned = scanned-of g.C.Check.check (clock_state c.self.inside) c.in-Ok.scanned.event c.scan.new.self
     c.note_bits.new.places ys c.octets.result.now
-    (record {
-      origin = c.place.result - c.spent-taken.result.shifted;
-      taken = c.spent-taken.result.shifted;
-      ahead = c.ahead-ahead.result;
-    }) xs parts some reached c.octets.ensures.bits c.in-Ok.ensures.advances c.in-Ok.ensures.answer
-    c.place-number.ensures.value (c.spent-taken.ensures.ledger (own First xs) reached.first).bits
-    (ap (λ k. k - c.spent-taken.result.shifted) c.place.ensures.value) refl c.note_bits.ensures
+    c.standing_behind-standing.result xs parts some reached c.octets.ensures.bits c.in-Ok.ensures.advances
+    c.in-Ok.ensures.answer
+    c.place-number.ensures.value (c.standing_behind-standing.ensures.taken (own First xs) reached.first)
+    c.standing_behind-standing.ensures.origin c.standing_behind-standing.ensures.ahead c.note_bits.ensures
     c.opening-opening.ensures in
     let bits = stretch-firsts c.octets-2.result.now c.args.parted.now ys c.args.from c.in-Ok.scanned.count _ _ parts
     some c.octets-2.ensures.bits in
