@@ -3,7 +3,8 @@
 ghost use Rattle.std.specs.Prelude.{◌≡◌, ◌≢◌, ◌≤◌, ◌<◌, ◌↔◌, ◌⊎◌, ◌++◌, ◌∷◌, [], List};
 ghost use Rattle.bus_bits.specs.Limits.{most_places};
 ghost use Rattle.bus_tap.specs.Arrival.{Arrival};
-ghost use Rattle.port1_c.specs.Clocks.{AreSound, ClocksAfter, arrived_told, decided_told, memory_of, open_on, span_told};
+ghost use Rattle.port1_c.specs.Clocks.{AreSound, ClocksAfter, arrived_told, decided_told, memory_of, open_on};
+ghost use Rattle.port1_c.specs.Clocks.{span_told};
 ghost use Rattle.port1_c.specs.Line.{IsCoded};
 ghost use Rattle.port1_c.specs.Rest.{arrival_told};
 ghost use Rattle.port1_c.specs.declared.status.TheConstants.{OK, BAD_LENGTH, PLACE_LIMIT, BAD_STATE, BAD_ARGUMENT};
