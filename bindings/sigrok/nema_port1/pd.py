@@ -58,7 +58,7 @@ class Line:
     def forget(self) -> None:
         """Drops the older half of the samples."""
         open_piece = self.decoder.open
-        if open_piece is not None and open_piece >= self.base:
+        if open_piece is not None:
             self.begin = self.sample_of(open_piece)
         del self.samples[:EDGES]
         self.base += EDGES

@@ -4,6 +4,7 @@ import { test } from "node:test";
 import { channelsOf, formOf, formOfRecording } from "../recording/forms.js";
 import { Fault } from "../fault.js";
 import { recordingOf } from "../recording/recording.js";
+import { samplingOf } from "../recording/sampling.js";
 import { hertz } from "../recording/units.js";
 
 /** What the beginning of a recording tells: its form, its channels, and its rate. */
@@ -102,3 +103,10 @@ for (const [form, text, asked, wanted] of TICKS) {
     assert.equal(ticks, wanted);
   });
 }
+
+/** A glitch is shorter than a sixteenth of a bit, and port1-sample takes a hold of at most 65535 samples. */
+test("the hold of a rate", () => {
+  for (const [bit, hold] of [[26, 1], [160, 10], [16 * 65535, 65535], [16 * 65536, 65535]]) {
+    assert.equal(samplingOf(/** @type {any} */ ({ hasRuns: false, ticks: 153600 * bit })).hold, hold, `${bit} samples`);
+  }
+});
