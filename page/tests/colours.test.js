@@ -4,7 +4,7 @@ import assert from "node:assert/strict";
 import { readFileSync } from "node:fs";
 import { test } from "node:test";
 
-const STYLE = readFileSync(new URL("../style.css", import.meta.url), "utf8");
+const STYLE = readFileSync(new URL("../style/base.css", import.meta.url), "utf8");
 
 const [TEXT, GRAPHIC] = [4.5, 3];
 

@@ -2,114 +2,56 @@ import { canRun } from "../engine/library.js";
 import { KINDS } from "../../../scripts/modules/listing/kinds.js";
 import { RATE } from "../../../scripts/modules/port1.js";
 import { counted } from "../../../scripts/modules/statistics/units.js";
-import { aboutOf, titleOf } from "../../../scripts/modules/watch/words.js";
+import { aboutOf } from "../../../scripts/modules/watch/words.js";
 import { callerOf } from "../worker/rpc.js";
 import { Banners } from "./banners.js";
-import { Bar } from "./bar.js";
 import { Clock } from "./clock.js";
-import { commandOf } from "./command.js";
 import { DictionaryPane } from "./dictionary.js";
 import { element, fillList, make, save } from "./dom.js";
 import { octetsOf, unpacked } from "./embedded.js";
 import { Files } from "./files.js";
+import { Heading } from "./heading.js";
 import { Incidents, incidentsAmong, shownOf } from "./incidents.js";
+import { FORMS } from "./job.js";
 import { Help, isOther } from "./keys.js";
-import { Lines, LINES_KEYS } from "./lines.js";
+import { LINES_KEYS } from "./lines.js";
+import { NAVIGATION_KEYS, Navigation } from "./navigation.js";
 import { Replies } from "./replies.js";
 import { showDamage, showTable } from "./report.js";
-import { Sentences } from "./sentences.js";
-import { Tabs } from "./tabs.js";
-import { Timeline, TIMELINE_KEYS } from "./timeline.js";
-import { duration, grouped } from "./units.js";
+import { TIMELINE_KEYS } from "./timeline.js";
+import { grouped } from "./units.js";
 import { Verdict } from "./verdict.js";
 import { whyNot } from "./words.js";
 
 /** @typedef {import("../../../scripts/modules/recording/doubts.js").Warning} Warning */
-/** @typedef {ReturnType<typeof import("../worker/forms.js").formOf>} Told of a file by its first octets */
-/** @typedef {NonNullable<Told["kind"]>} CaptureKind */
-/** @typedef {Told & { form: Exclude<Told["form"], "dictionary"|"other"> }} Chosen how a file is read */
 /** @typedef {import("../worker/desk.js").FarDesk} Desk */
 /** @typedef {import("../worker/desk.js").Found} Found */
 /** @typedef {import("../worker/desk.js").Summary} Summary */
 /** @typedef {import("./given.js").Given} Given */
+/** @typedef {import("./heading.js").Report} Report */
 /** @typedef {import("./incidents.js").Incident} Incident */
-
-/**
- * What the worker is asked to read.
- * @typedef {object} Asked
- * @property {File} file
- * @property {Chosen["form"]} form
- * @property {CaptureKind} kind of a capture
- * @property {string[]} channels of a recording
- * @property {boolean} rising whether bits are taken at rising edges
- * @property {number} inverted which lines' data is: 1, 2, or 3 for both
- * @property {number} rate in bits a second
- * @property {string} dictionary its text, or nothing
- * @property {import("../worker/desk.js").Begin|null} begin when place 0 was, where that is known
- * @property {Uint8Array|null} engine the decoder's module
- */
-
-/**
- * The same of the listing in a report, with the warnings that the report was told.
- * @typedef {Pick<Asked, "rate"|"dictionary"|"begin"|"engine"> & { file: Blob, form: "listing", told: string[], end?: number }}
- *   Embedded
- */
-
-/**
- * What the page knows of itself, and a report of its recording.
- * @typedef {object} About
- * @property {string} version
- * @property {string} decoder its SHA-256
- * @property {import("./dictionary.js").Schema} schema of dictionaries
- * @property {Record<string, string>} [recording] what is known of its file
- * @property {string[]} [notes] on it
- * @property {number} [bits] that it has
- * @property {string} [begin] when its place 0 was
- */
-
-/** @typedef {About & { title: string, rate: number, dictionary: string, command: string }} Report */
-
-/**
- * What is chosen under Form, as the worker takes it.
- * @type {Record<string, Chosen>}
- */
-const FORMS = {
-  text1: { form: "text", kind: 1 },
-  text2: { form: "text", kind: 2 },
-  text3: { form: "text", kind: "arrivals" },
-  packed1: { form: "packed", kind: 1 },
-  packed2: { form: "packed", kind: 2 },
-  packed3: { form: "packed", kind: "arrivals" },
-  vcd: { form: "vcd" },
-  csv: { form: "csv" },
-  session: { form: "session" },
-  listing: { form: "listing" },
-};
+/** @typedef {import("./job.js").Asked} Asked */
+/** @typedef {import("./job.js").CaptureKind} CaptureKind */
+/** @typedef {import("./job.js").Chosen} Chosen */
+/** @typedef {import("./job.js").Embedded} Embedded */
 
 const NO_ENGINE =
   "This browser has no 64-bit memory for WebAssembly, which the decoder needs (Chrome, Edge and Firefox have it " +
   "since 2025): listings that port1 wrote are shown all the same.";
 
 const WIRES = "TXC, TXD, RXC, RXD, in this order";
-const NOTHING_CHOSEN = "Nothing is chosen: choose a mark, a line, or a time of a sentence.";
 
 /** Of so many files it is told why they cannot be read. */
 const MOST_TOLD = 3;
-
-/** About a line that is no stretch, so many seconds are shown. */
-const ABOUT_SECONDS = 0.3;
 
 /** @typedef {import("./keys.js").Key & { act: (page: Page, key: string) => void }} PageKey */
 
 /** @type {PageKey[]} */
 const KEYS = [
-  { keys: ["n"], shown: "n", words: "the next place of the sentences", act: (page) => page.sentences.step(1) },
-  { keys: ["p"], shown: "p", words: "the place before", act: (page) => page.sentences.step(-1) },
-  { keys: ["t"], shown: "t", words: "to the timeline", act: (page) => page.timeline.svg.node().focus() },
-  { keys: ["l"], shown: "l", words: "to the listing", act: (page) => page.focusListing("lines") },
-  { keys: ["/"], shown: "/", words: "find in the listing", act: (page) => page.focusListing("query-text") },
-  { keys: ["g"], shown: "g", words: "go to a second", act: (page) => page.focusListing("query-second") },
-  { keys: [..."12345"], shown: "1 2 3 4 5", words: "the tabs", act: (page, key) => page.tabs.openAt(Number(key) - 1) },
+  ...NAVIGATION_KEYS.map(({ act, ...key }) => ({
+    ...key,
+    act: (/** @type {Page} */ page, /** @type {string} */ name) => act(page.navigation, name),
+  })),
   { keys: ["w"], shown: "w", words: "wires and form", act: (page) => page.toggleSettings() },
 ];
 
@@ -127,7 +69,7 @@ class Page {
   /** @param {Desk} desk */
   constructor(desk) {
     this.desk = desk;
-    /** @type {About} */
+    /** @type {import("./heading.js").About} */
     this.about = JSON.parse(element("about").textContent);
     this.engine = canRun() && element("engine") ? octetsOf("engine") : null;
     /** @type {File[]} */
@@ -146,24 +88,16 @@ class Page {
     this.incident = null; // that is shown
     this.files = new Files((given) => this.takeAll(given).catch((fault) => this.refuse(fault)));
     this.incidents = new Incidents((incident) => this.open(incident).catch((fault) => this.refuse(fault)));
-    this.lines = new Lines(desk, (row) => this.pickLine(row), (row) => this.openLine(row));
-    this.timeline = new Timeline(desk, {
-      pick: (row) => this.pickMark(row),
-      walk: (step) => this.lines.move(step),
-      narrow: (station) => this.narrow(station),
-    });
-    this.tabs = new Tabs();
-    this.bar = new Bar(() => this.tabs.open("dictionary"));
-    this.verdict = new Verdict((name) => this.showKind(name));
+    this.navigation = new Navigation(desk);
+    const { tabs } = this.navigation;
+    this.heading = new Heading(this.about, () => tabs.open("dictionary"));
+    this.verdict = new Verdict((name) => this.navigation.showKind(name));
     this.banners = new Banners((act, warning) => this.mend(act, warning).catch((fault) => this.refuse(fault)));
-    this.sentences = new Sentences((place) => this.go(place), () => this.tabs.open("table"));
-    this.dictionary = new DictionaryPane(desk, this.about.schema, this.bar, () => this.readAgain());
+    this.dictionary = new DictionaryPane(desk, this.about.schema, this.heading.bar, () => this.readAgain());
     this.replies = new Replies();
     this.help = new Help([["Page", [...KEYS, ...KEYS_ALWAYS]], ["Timeline", TIMELINE_KEYS], ["Listing", LINES_KEYS]]);
     this.state("empty");
     this.listen();
-    const { version, decoder } = this.about;
-    element("version").textContent = `Port 1 analyser ${version}, decoder ${decoder.slice(0, 16)}.`;
     element("query-kind").replaceChildren(make("option", ""), ...KINDS.map((kind) => make("option", kind)));
     if (!this.engine && !element("listing-data")) this.say(NO_ENGINE);
   }
@@ -174,9 +108,6 @@ class Page {
       event.preventDefault();
       this.read();
     });
-    element("query").addEventListener("submit", (event) => event.preventDefault());
-    element("query").addEventListener("input", () => this.search());
-    element("query-second").addEventListener("change", () => this.goToSecond());
     document.addEventListener("keydown", (event) => this.pressed(event));
     this.onClick("draft", () => this.begin());
     this.onClick("example", () => this.showExample());
@@ -229,12 +160,6 @@ class Page {
     found.act(this, event.key);
   }
 
-  /** @param {"lines"|"query-text"|"query-second"} id */
-  focusListing(id) {
-    this.tabs.open("listing");
-    element(id).focus();
-  }
-
   /** Reads the example that is in the page. */
   async showExample() {
     /** @type {Record<string, string>} */
@@ -246,7 +171,7 @@ class Page {
   async begin() {
     await this.dictionary.set(await this.desk.draft(), "draft");
     await this.read();
-    this.tabs.open("dictionary");
+    this.navigation.tabs.open("dictionary");
   }
 
   /**
@@ -311,8 +236,8 @@ class Page {
     const past = first + incident.seconds * RATE;
     if (this.job?.file !== shown.file) return; // it could not be read
     const [row, { words }] = [await this.desk.rowFrom(Math.round(first)), aboutOf(incident.causes)];
-    this.showChosen({ row, first, past, upTo: past, reply: null, text: words, derived: "" });
-    if (row >= 0) await this.showLine(row);
+    this.navigation.showChosen({ row, first, past, upTo: past, reply: null, text: words, derived: "" });
+    if (row >= 0) await this.navigation.showLine(row);
   }
 
   /**
@@ -418,21 +343,10 @@ class Page {
     this.state("result");
     element("draft").disabled = false;
     this.showWords(summary, job, name);
-    this.timeline.reset(summary, this.clock, isSame);
     this.replies.reset(summary.replies, job.rate, summary.verdict.isLateJudged);
-    if (!isSame) this.forget();
-    this.lines.setClock(this.clock);
-    await this.search(isSame ? this.lines.top : 0);
+    await this.navigation.reset(summary, this.clock, isSame);
     const lasted = ((performance.now() - began) / 1000).toFixed(1);
     this.say(`${name}: ${element("verdict-word").textContent}. ${grouped(summary.count)} lines in ${lasted} s.`);
-  }
-
-  /** Another file: nothing is chosen, and the query is empty. */
-  forget() {
-    element("query").reset();
-    this.lines.chosen = -1;
-    this.lines.at = -1;
-    element("chosen").textContent = NOTHING_CHOSEN;
   }
 
   /**
@@ -448,50 +362,22 @@ class Page {
     this.verdict.show(summary);
     this.banners.show(summary, isReport ? "" : this.guess, this.clock);
     const bits = summary.past - summary.first;
-    this.sentences.show(findings, verdict.well, [...verdict.lacks, ...verdict.notes], this.clock, bits);
-    this.showHead(summary, bits);
+    this.navigation.sentences.show(findings, verdict.well, [...verdict.lacks, ...verdict.notes], this.clock, bits);
+    this.heading.showLength(summary, this.clock);
+    this.showTimeField();
     showTable(summary.table, findings);
     showDamage(summary.damage, summary.damaged);
     this.offerDraft(verdict, job);
-    this.showFile(summary, job, name, isReport);
+    if (isReport) this.heading.showReport(summary, /** @type {Embedded} */ (job), name, this.clock);
+    else this.heading.showFile(summary, /** @type {Asked} */ (job), this.clock, this.incident);
     element("warnings-head").hidden = warnings.length === 0;
   }
 
-  /**
-   * How much there is, and when it was, as far as that is known.
-   * @param {Summary} summary
-   * @param {number} bits
-   */
-  showHead({ frames, damaged }, bits) {
-    const { rate, begin, dayTime } = this.clock;
-    const when = dayTime === null ? "" : ` It begins on ${begin}.`;
-    const pieces = counted(damaged, "damaged piece");
-    element("head").textContent = `${counted(frames, "frame")} and ${pieces} in ${(bits / rate).toFixed(3)} s.${when}`;
+  /** Names the field for a second, which is one for a time of day where that is known. */
+  showTimeField() {
+    const { rate, dayTime } = this.clock;
     element("query-second-name").textContent = dayTime === null ? "Second" : "Time";
     element("query-second").placeholder = dayTime === null ? "" : this.clock.at(this.clock.first, rate).slice(-12, -4);
-  }
-
-  /**
-   * The bar and the title.
-   * @param {Summary} summary
-   * @param {Asked|Embedded} job
-   * @param {string} name
-   * @param {boolean} isReport
-   */
-  showFile(summary, job, name, isReport) {
-    const [asked, about] = [/** @type {Asked} */ (job), /** @type {Report} */ (this.about)]; // each where it is one
-    const date = this.incident ? "" : this.clock.begin || (isReport ? about.recording?.date ?? "" : dateOf(asked.file));
-    const own = this.incident === null ? name : titleOf(this.incident);
-    const shown = isReport ? about.recording?.name ?? name : own;
-    this.bar.show(summary, job, { name: shown, date, hasDictionary: job.form !== "listing" });
-    element("title").textContent = isReport ? about.title : "Port 1";
-    if (!isReport) {
-      document.title = `${element("verdict-word").textContent}: ${own}, Port 1`;
-      /** @type {Record<string, string>} */
-      const wires = asked.channels.length > 0 ? { wires: asked.channels.join(", ") } : {};
-      this.showRecording({ name, date, size: grouped(asked.file.size), form: job.form, ...wires });
-    }
-    element("command").textContent = isReport ? about.command : commandOf(asked, name);
   }
 
   /**
@@ -508,90 +394,6 @@ class Page {
     lack.append(" ", button);
   }
 
-  async search(top = 0) {
-    const names = /** @type {const} */ (["text", "kind", "station", "type"]);
-    const [text, kind, station, type] = names.map((id) => element(`query-${id}`).value);
-    const found = await this.desk.choose({ text, kind, station, type, isBusy: !element("query-idle").checked });
-    if (!found) return;
-    const { count, idle } = found;
-    const lines = count === 1 ? "1 line" : `${grouped(count)} lines`;
-    element("query-count").textContent = lines;
-    element("idle-count").textContent = idle > 0 ? ` (${grouped(idle)})` : "";
-    this.lines.reset(count, top);
-  }
-
-  /**
-   * A line was chosen: the timeline marks where it is.
-   * @param {number} row
-   */
-  async pickLine(row) {
-    this.showChosen(await this.desk.placesOf(row));
-  }
-
-  /**
-   * The chosen line was chosen again: the timeline shows it large, with its bits.
-   * @param {number} row
-   */
-  async openLine(row) {
-    const { first, upTo } = await this.desk.placesOf(row);
-    this.timeline.reveal(first, upTo);
-  }
-
-  /**
-   * A mark was chosen: the listing shows its line.
-   * @param {number} row
-   */
-  async pickMark(row) {
-    this.showChosen(await this.desk.placesOf(row));
-    await this.showLine(row);
-  }
-
-  /**
-   * One station was chosen, or all: timeline and listing show it.
-   * @param {number|null} station
-   */
-  async narrow(station) {
-    this.timeline.narrowTo(station);
-    element("query-station").value = station === null ? "" : String(station);
-    await this.search();
-  }
-
-  /** @param {number} row */
-  async showLine(row) {
-    if (element("pane-listing").hidden) this.tabs.open("listing");
-    let position = await this.desk.positionOf(row);
-    const [line] = await this.desk.lines(position, 1);
-    if (line?.row !== row) {
-      // The query left it out: it is shown all the same, without the query.
-      element("query").reset();
-      element("query-idle").checked = / idle$/.test((await this.desk.placesOf(row)).text);
-      await this.search();
-      position = await this.desk.positionOf(row);
-    }
-    this.lines.reveal(position, row);
-  }
-
-  /**
-   * A place of a sentence was chosen: timeline and listing show it.
-   * @param {import("./sentences.js").Goal} place
-   */
-  async go(place) {
-    const row = place.row < 0 ? await this.desk.rowFrom(place.first) : place.row;
-    const about = await this.desk.placesOf(row);
-    const text = /** @type {string} */ (place.short); // which a stretch has
-    const stretch = { first: place.first, past: place.past, upTo: place.past, text, reply: null };
-    const shown = place.isStretch ? { ...about, ...stretch } : about;
-    const length = place.isStretch ? place.past - place.first : (ABOUT_SECONDS / 2) * this.clock.rate;
-    const middle = (shown.first + shown.past) / 2;
-    if (this.timeline.station !== null) await this.narrow(null);
-    this.timeline.chosen = { ...shown, past: shown.upTo };
-    this.timeline.showStretch(middle - length, middle + length);
-    const isStacked = element("timeline-pane").offsetTop > element("sentences").offsetTop + 20;
-    if (isStacked) element("timeline-pane").scrollIntoView({ block: "start" });
-    this.showChosen(shown);
-    await this.showLine(row);
-  }
-
   /**
    * What a warning asks for: to take other edges, to invert a line, to choose other wires, or to show a second.
    * @param {import("./banners.js").Act} act
@@ -599,62 +401,11 @@ class Page {
    */
   async mend(act, warning) {
     if (act === "wires") this.toggleSettings(true);
-    if (act === "second") await this.goTo(/** @type {{ second: number }} */ (warning).second);
+    if (act === "second") await this.navigation.goTo(/** @type {{ second: number }} */ (warning).second);
     if (act === "wires" || act === "second") return;
     const tick = element(act === "edge" ? "falling" : `inverted-${/** @type {{ line: number }} */ (warning).line}`);
     tick.checked = !tick.checked;
     await this.read();
-  }
-
-  /** @param {number} second */
-  async goTo(second) {
-    const place = Math.round(second * this.clock.rate);
-    const row = await this.desk.rowFrom(place);
-    if (row >= 0) await this.go({ row, first: place, past: place + 1 });
-  }
-
-  async goToSecond() {
-    const place = this.clock.placeOf(element("query-second").value.trim());
-    const row = place === null ? -1 : await this.desk.rowFrom(place);
-    if (row >= 0) await this.pickMark(row);
-  }
-
-  /**
-   * What a number of the verdict counts.
-   * @param {import("./verdict.js").Counted} name
-   */
-  async showKind(name) {
-    if (name === "gap") this.sentences.visitStretch();
-    if (name === "damage") this.tabs.open("damage");
-    if (name === "gap" || name === "damage") return;
-    this.tabs.open("listing");
-    element("query").reset();
-    element("query-kind").value = name;
-    await this.search();
-  }
-
-  /**
-   * Says what is chosen, and marks it in the timeline.
-   * @param {import("../worker/desk.js").Places} place
-   */
-  showChosen(place) {
-    const { first, past, text, reply } = place;
-    const { rate } = this.clock;
-    const after = reply === null || reply === undefined ? "" : `, its answer after ${duration(reply, rate)}`;
-    const when = this.clock.moment(first);
-    const what = text.replace(/^(?:[12] )?\d+ \d+ /, "");
-    const length = duration(past - first, rate);
-    element("chosen").replaceChildren(make("strong", when), ` for ${length}${after}: ${what}`);
-    this.timeline.choose(place);
-  }
-
-  /**
-   * What is known of the recording's file.
-   * @param {Record<string, string>} facts
-   */
-  showRecording(facts) {
-    const items = Object.entries(facts).flatMap(([name, value]) => [make("dt", NAMES[name]), make("dd", value)]);
-    element("recording").replaceChildren(...items);
   }
 
   /** Shows the listing that a report has in it. */
@@ -668,7 +419,7 @@ class Page {
     for (const part of parts) part.textContent = part.dataset.report;
     element("dictionary-shown").hidden = dictionary === "";
     element("dictionary-text").textContent = dictionary;
-    this.showRecording(recording ?? {});
+    this.heading.showRecording(recording ?? {});
     const told = notes.filter((note) => note.startsWith(WARNING)).map((note) => note.slice(WARNING.length));
     const file = await unpacked("listing-data");
     const begin = known.begin === undefined ? null : { text: known.begin, late: 0 };
@@ -678,19 +429,6 @@ class Page {
 
 /** How a warning begins among the notes of a recording. */
 const WARNING = "warning: ";
-
-/**
- * What is said of a recording's file.
- * @type {Record<string, string>}
- */
-const NAMES = { name: "File", date: "Date", size: "Octets", form: "Form", wires: "Wires", sha256: "SHA-256" };
-
-/** @param {File} file */
-function dateOf(file) {
-  if (!file.lastModified) return "";
-  const date = new Date(file.lastModified);
-  return `${date.toLocaleDateString("sv")} ${date.toLocaleTimeString("sv").slice(0, 5)}`;
-}
 
 const worker = new Worker(URL.createObjectURL(new Blob([element("worker").textContent], { type: "text/javascript" })));
 const desk = callerOf(worker, (event) => page.hear(event));
