@@ -39,6 +39,11 @@ CHANGES = re.compile(r"^\| Change \|.*\n\|[-|]+\n((?:\|.*\n)+)", re.MULTILINE)
 # Files of specs that define nothing of their own: they list others.
 LISTS = {"Lib.antt", "Internal.antt"}
 
+# The definition of a word, and words that types share: for what is always true of fields, and for a sink's refusal.
+DEFINED = re.compile(r"^ *(?:pub )?(?:abbrev|data|record) (?:pub )?([A-Za-z][\w'-]*) ")
+
+OF_EACH_TYPE = {"IsWithin", "Refused"}
+
 
 def documents() -> List[str]:
     return [str(path.relative_to(TOP)) for path in sorted([*TOP.glob("*.md"), *TOP.glob("docs/*.md")])]
@@ -125,6 +130,20 @@ def problems_of_counts() -> List[str]:
     return problems
 
 
+def problems_of_words() -> List[str]:
+    """Words of the definitions that have two."""
+    files: Dict[str, Set[str]] = {}
+    for path in sorted(CRATES.glob("*/specs/**/*.antt")):
+        if "declared" in path.parts:
+            continue
+        for line in path.read_text(encoding="utf-8").splitlines():
+            found = DEFINED.match(line)
+            if found:
+                files.setdefault(found[1], set()).add(str(path.relative_to(CRATES)))
+    twice = {word: places for word, places in files.items() if len(places) > 1 and word not in OF_EACH_TYPE}
+    return [f"{word} is defined in {', '.join(sorted(places))}" for word, places in sorted(twice.items())]
+
+
 def problems_of_list() -> List[str]:
     """Where the list of the other definitions differs from the files."""
     listed, crate = [], ""
@@ -181,3 +200,4 @@ def results_of_forms() -> Iterator[Tuple[str, List[str]]]:
         yield f"crates/{crate.name}: the width of its lines", problems_of_source(crate)
     yield f"{COUNTED}: the lines of the framing definition", problems_of_counts()
     yield f"{LISTED}: the definitions of each crate", problems_of_list()
+    yield "crates: each word has one definition", problems_of_words()

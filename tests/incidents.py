@@ -124,7 +124,7 @@ def problems_of_list(page: Path, name: str) -> List[str]:
         for selector, words in SHOWN:
             told = text_at(session, selector)
             problems += [] if words in told else [f"{selector} is {told!r}, without {words!r}"]
-        problems += [] if session.value("page1.timeline.summary.hasBits") else ["there are no bits"]
+        problems += [] if session.value("page1.navigation.timeline.summary.hasBits") else ["there are no bits"]
         go = "(field) => { field.value = '03:00:00.5'; field.dispatchEvent(new Event('change')); }"
         session.value(f"void ({go})(document.getElementById('query-second'))")
         session.wait_until("/^03:00:00.501/.test(document.getElementById('chosen').textContent)", 20)

@@ -140,7 +140,7 @@ def problems_of_layout() -> List[str]:
 
 def sources_of_page() -> Iterator[Path]:
     page = TOP / "page"
-    yield from [page / "build", page / "index.html", page / "style.css", *(page / "src").rglob("*.js")]
+    yield from [page / "build", page / "index.html", *(page / "style").iterdir(), *(page / "src").rglob("*.js")]
     yield from (TOP / "scripts" / "modules").rglob("*.js")
     examples = [TOP / "examples" / name for name in ("dictionary.schema.json", "port1-failure.bits", "port1-failure.toml")]
     yield from [*examples, TOP / "crates" / "bus_tool" / "src" / "arguments.rt"]
@@ -463,7 +463,7 @@ def problems_of_search(session: browser.Session, listing: str) -> List[str]:
     session.value("document.getElementById('query').dispatchEvent(new Event('input')) && page1.desk.lines(0, 1)")
     session.wait_until(f"document.getElementById('query-count').textContent === '{wanted} lines'", 20)
     session.wait_until("[...document.querySelectorAll('#lines .line')].every((line) => / missing /.test(line.textContent))", 20)
-    session.value("document.getElementById('query').reset() ?? page1.search()")
+    session.value("document.getElementById('query').reset() ?? page1.navigation.search()")
     return [] if wanted > 0 else ["nothing is missing"]
 
 

@@ -330,12 +330,12 @@ def problems_of_first_screen(session: browser.Session, is_wide: bool) -> List[st
     together = ["#replies svg", "#timeline .hatch path", "#timeline .axis", "#lines .line", "#tab-notes"]
     problems = are_in_view(session, [*wanted, *(together if is_wide else [])])
     for at, tab in enumerate(TABS):
-        session.value(f"page1.tabs.openAt({at})")
+        session.value(f"page1.navigation.tabs.openAt({at})")
         problems += too_wide(session, f"tab {tab}")
         if tab == "table" and is_wide:
             cut = session.value("((box) => box.scrollWidth > box.clientWidth)(document.querySelector('.wide'))")
             problems += ["the table is cut off"] if cut else []
-    session.value("page1.tabs.open('listing') ?? page1.toggleSettings(true)")
+    session.value("page1.navigation.tabs.open('listing') ?? page1.toggleSettings(true)")
     problems += too_wide(session, "wires and form")
     session.value("page1.toggleSettings(false) ?? page1.help.open()")
     problems += too_wide(session, "the keys")
@@ -416,17 +416,17 @@ KEYS: List[Tuple[Sequence[str], str]] = [
     (["n"], "document.querySelector('#sentences li.chosen')"),
     (["n", "n"], "document.querySelector('.times .chosen')"),
     (["p"], "document.querySelector('#sentences li.chosen')"),
-    (["t", "Home", "+"], "page1.timeline.svg.node().__zoom.k === 2"),
-    (["-"], "page1.timeline.svg.node().__zoom.k === 1"),
-    (["+", "+", "ArrowRight"], "page1.timeline.scale.domain()[0] > 1"),
-    (["ArrowLeft"] * 6, "page1.timeline.scale.domain()[0] < 1"),
-    (["Home"], "page1.timeline.svg.node().__zoom.k === 1"),
-    (["."], "page1.lines.chosen > self.before"),
-    ([","], "page1.lines.chosen < self.before"),
+    (["t", "Home", "+"], "page1.navigation.timeline.svg.node().__zoom.k === 2"),
+    (["-"], "page1.navigation.timeline.svg.node().__zoom.k === 1"),
+    (["+", "+", "ArrowRight"], "page1.navigation.timeline.scale.domain()[0] > 1"),
+    (["ArrowLeft"] * 6, "page1.navigation.timeline.scale.domain()[0] < 1"),
+    (["Home"], "page1.navigation.timeline.svg.node().__zoom.k === 1"),
+    (["."], "page1.navigation.lines.chosen > self.before"),
+    ([","], "page1.navigation.lines.chosen < self.before"),
     (["Enter"], "document.querySelectorAll('#timeline .bits, #timeline .bits-line').length > 0"),
-    (["l", "Home"], "page1.lines.top === 0"),
+    (["l", "Home"], "page1.navigation.lines.top === 0"),
     (["ArrowDown"], "document.activeElement.id === 'lines' && document.querySelector('#lines .chosen')"),
-    (["End"], "page1.lines.top > 0"),
+    (["End"], "page1.navigation.lines.top > 0"),
     (["/"], "document.activeElement.id === 'query-text'"),
     (["5"], "document.getElementById('query-text').value === '5'"),
     (["Tab", "Tab", "Tab", "Tab", "Tab", "Tab", "2"], "!document.getElementById('pane-table').hidden"),
@@ -445,7 +445,7 @@ def problems_of_keys(page: Path, name: str) -> List[str]:
         problems = problems_of_focus(session)
         session.value("document.activeElement.blur()")
         for keys, expression in KEYS:
-            session.value("void (self.before = page1.lines.chosen)")
+            session.value("void (self.before = page1.navigation.lines.chosen)")
             session.press(*keys)
             try:
                 session.wait_until(expression, 10)
@@ -464,31 +464,32 @@ BOX = "((box) => [box.left, box.top, box.right, box.bottom])(document.querySelec
 def problems_of_pointers(page: Path, name: str) -> List[str]:
     """Whether the overview is dragged, the wheel and two fingers zoom, and one finger moves the timeline."""
     problems = []
-    domain = "page1.timeline.scale.domain()"
+    domain = "page1.navigation.timeline.scale.domain()"
     with opened(name, address_of(page)) as session:
         read_file(session, EXAMPLE)
         session.wait_until("document.querySelector('#timeline .overview-view')", 20)
-        session.value("page1.timeline.zoomBy(8)")
+        session.value("page1.navigation.timeline.zoomBy(8)")
         session.wait_until("document.querySelector('#timeline .overview-view').getBoundingClientRect().width < 200", 20)
         left, top, right, bottom = session.value(BOX % json.dumps("#timeline .overview-view"))
         before = session.value(domain)
         middle = ((left + right) / 2, (top + bottom) / 2)
         session.drag(middle, (middle[0] + 100, middle[1] + 60))
         after = session.value(domain)
-        share = 100 / session.value("page1.timeline.whole.range()[1] - page1.timeline.whole.range()[0]")
-        moved = (after[0] - before[0]) / session.value("page1.timeline.summary.past")
+        width = "((range) => range[1] - range[0])(page1.navigation.timeline.whole.range())"
+        share = 100 / session.value(width)
+        moved = (after[0] - before[0]) / session.value("page1.navigation.timeline.summary.past")
         problems += [] if abs(moved - share) < 0.01 else [f"dragged by {share:.3f}, the overview goes {moved:.3f}"]
         left, top, right, bottom = session.value(BOX % json.dumps("#timeline .scroll svg"))
         session.drag((right - 100, top + 20), (right - 300, top + 20), "touch")
         wide = after[1] - after[0]
         session.wait_until(f"{domain}[0] > {after[0] + wide * 0.15}", 10)
-        scrolls = session.value("getComputedStyle(page1.timeline.svg.node()).touchAction")
+        scrolls = session.value("getComputedStyle(page1.navigation.timeline.svg.node()).touchAction")
         problems += [] if scrolls == "pan-y" else [f"a finger on the timeline does not scroll the page: {scrolls}"]
-        session.value("page1.timeline.showAll()")
+        session.value("page1.navigation.timeline.showAll()")
         session.spread((left + right) / 2 + 60, top + 20, 40, 160)
-        session.wait_until("Math.abs(page1.timeline.svg.node().__zoom.k - 4) < 0.1", 10)
+        session.wait_until("Math.abs(page1.navigation.timeline.svg.node().__zoom.k - 4) < 0.1", 10)
         session.turn((left + right) / 2 + 60, top + 20, -300)
-        session.wait_until("page1.timeline.svg.node().__zoom.k > 4.4", 10)
+        session.wait_until("page1.navigation.timeline.svg.node().__zoom.k > 4.4", 10)
         return problems + [f"the console says {text}" for text in session.complaints()]
 
 
@@ -583,8 +584,8 @@ def problems_of_print(page: Path, name: str) -> List[str]:
     with opened(name, address_of(page)) as session:
         read_file(session, EXAMPLE)
         session.wait_until("document.querySelector('#timeline-print svg')", 20)
-        session.value("page1.timeline.zoomBy(64)")
-        session.wait_until("page1.timeline.svg.node().__zoom.k === 64", 20)
+        session.value("page1.navigation.timeline.zoomBy(64)")
+        session.wait_until("page1.navigation.timeline.svg.node().__zoom.k === 64", 20)
         sheets = sheets_of(session.printed())
         problems = [] if 1 <= sheets <= 2 else [f"it is printed on {sheets} sheets"]
         ticks = session.value("[...document.querySelectorAll('#timeline-print .tick text')].map((text) => text.textContent)")
@@ -594,7 +595,7 @@ def problems_of_print(page: Path, name: str) -> List[str]:
 def problems_of_many(page: Path, name: str) -> List[str]:
     """Whether a listing of a million lines is scrolled, each step drawn within a frame of sixty a second."""
     step = """new Promise((resolve) => {
-      const [lines, times] = [page1.lines, []];
+      const [lines, times] = [page1.navigation.lines, []];
       const draw = lines.draw;
       let begin = 0;
       lines.draw = function (some) {
@@ -617,7 +618,7 @@ def problems_of_many(page: Path, name: str) -> List[str]:
         problems = [] if text_at(session, "#query-count") == "1 000 000 lines" else ["not all lines are there"]
         taken = session.value(step)
         problems += [] if taken < FRAME else [f"a step takes {taken:.1f} ms"]
-        top = session.value("page1.lines.top")
+        top = session.value("page1.navigation.lines.top")
         session.press("l", "End")
         session.wait_until(f"document.querySelector('#lines .line:last-child').textContent.startsWith('{651.041:.3f}')", 20)
         return problems + ([] if top > 20000 else [f"it was scrolled to {top}"])

@@ -16,7 +16,7 @@ from definitions import values
 from definitions.python import Translation, with_room
 from tests.case import CALL, DICTIONARY, SECONDS, TOP, WINDOWS, Run, packed, ran, random_bits
 from tests.listings import differing
-from tests.parts import OPTIONS, dirty_line, packed_two, polling
+from tests.parts import OPTIONS, dirty_line, packed_marks, packed_two, polling
 
 HEAD = "usage: by-definition [-h] COMMAND ...\nby-definition: error: "
 
@@ -157,28 +157,57 @@ def lines_of(generator: random.Random, count: int) -> Tuple[str, str]:
     return first[:count], second[:count]
 
 
-def random_capture(generator: random.Random, two: bool) -> Tuple[bytes, List[str]]:
+class Form(NamedTuple):
+    """Captures of some lines: the option that reads them, how packed ones begin, and the marks of texts. A line has so
+    many bits at most: the definition of arrivals looks at all before each."""
+
+    options: Sequence[str]
+    magic: bytes
+    marks: str
+    most: int
+
+
+ONE = Form([], b"TS2BITS1", "01", 500)
+TWO = Form(["--two"], b"TS2BITS2", "0123", 500)
+ARRIVALS = Form(["--arrivals"], b"TS2BITS3", "01oi", 160)
+
+
+def arriving(generator: random.Random, lines: Sequence[Sequence[int]]) -> Iterator[int]:
+    """The marks of the bits of two lines as they arrive: in turn, or one line ahead of the other, now and then far."""
+    left = [list(reversed(bits)) for bits in lines]
+    while left[0] or left[1]:
+        line = generator.choice([at for at in (0, 1) if left[at]])
+        for _ in range(min(len(left[line]), generator.choice([1, 1, 1, 2, 20]))):
+            yield left[line].pop() + 2 * line
+
+
+def random_capture(generator: random.Random, form: Form) -> Tuple[bytes, List[str]]:
     """A capture of a few hundred bits, and how it is read."""
-    count = generator.randrange(500)
-    first, second = lines_of(generator, count)
-    if not two and generator.randrange(3):
-        first = dirty_line(generator, count) if generator.randrange(4) else random_bits(generator, count)
+    count = generator.randrange(form.most)
+    lines = lines_of(generator, count)
+    if form is ONE and generator.randrange(3):
+        lines = (dirty_line(generator, count) if generator.randrange(4) else random_bits(generator, count), "")
+    first, second = ([int(bit) for bit in line] for line in lines)
+    if form is ONE:
+        marks = first
+    elif form is TWO:
+        marks = [one + 2 * other for one, other in zip(first, second)]
+    else:
+        marks = list(arriving(generator, (first, second)))
+    options = [*form.options, *(["--rest", str(generator.choice([0, 7, 60]))] if form is ARRIVALS else [])]
     if generator.randrange(2):
-        return (packed_two(first, second) if two else packed(first)), []
-    marks = [str(int(one) + 2 * int(other)) for one, other in zip(first, second)] if two else list(first)
+        return packed(lines[0]) if form is ONE else packed_marks(form.magic, marks), options
     blanks = [generator.choice(["", "", "", "", "", "\n", " ", "\r\n"]) for _ in marks]
-    return "".join(mark + blank for mark, blank in zip(marks, blanks)).encode(), ["--bits"]
+    return "".join(form.marks[mark] + blank for mark, blank in zip(marks, blanks)).encode(), [*options, "--bits"]
 
 
 def problems_of_random(seed: int, count: int) -> List[str]:
-    """Listings and checks of random captures, of one line and of two in turn."""
+    """Listings and checks of random captures, of one line, of two, and of two with a clock each in turn."""
     definitions = definitions_of(TOP)
     generator = random.Random(seed)
     problems: List[str] = []
     for number in range(count):
-        two = number % 2 == 1
-        capture, options = random_capture(generator, two)
-        options += ["--two"] if two else []
+        capture, options = random_capture(generator, [ONE, TWO, ARRIVALS][number % 3])
         listed = generator.choice(OPTIONS)
         is_filter = any(word.startswith(("--kind", "--station", "--type")) for word in listed)
         command = "list" if is_filter or generator.randrange(3) else "check"

@@ -150,13 +150,17 @@ def parts_with_faults(folder: Path) -> List[str]:
     return problems
 
 
-def packed_two(first: str, second: str) -> bytes:
-    """A packed capture of two lines, which ends with the shorter one."""
-    marks = [int(one) + 2 * int(other) for one, other in zip(first, second)]
+def packed_marks(magic: bytes, marks: Sequence[int]) -> bytes:
+    """A packed capture of pairs of bits, or of bits as they arrived."""
     body = bytearray((len(marks) + 3) // 4)
     for place, mark in enumerate(marks):
         body[place // 4] |= mark << 2 * (place % 4)
-    return b"TS2BITS2" + struct.pack("<Q", len(marks)) + bytes(body)
+    return magic + struct.pack("<Q", len(marks)) + bytes(body)
+
+
+def packed_two(first: str, second: str) -> bytes:
+    """A packed capture of two lines, which ends with the shorter one."""
+    return packed_marks(b"TS2BITS2", [int(one) + 2 * int(other) for one, other in zip(first, second)])
 
 
 def polling(generator: random.Random, count: int) -> Tuple[str, str]:

@@ -5,6 +5,7 @@
 runs some days, as long as the seconds last, and writes the figures. It takes root, which mounts a disk of 600 MB.
 """
 
+import json
 import random
 import subprocess
 import sys
@@ -21,6 +22,9 @@ from tests.watched import BEGIN, DICTIONARY, RATE, SIMULATOR, Cabinet, Fault, Wa
 RUNS: List[object] = []
 
 DAY = 86400
+
+# A run of the watch takes so many seconds at least.
+LEAST = 5
 
 # A recorder's turn: it writes the places of the next line of `turns`, and after the last one the watch is ended.
 SOURCE = """read turn < turn; echo $((turn + 1)) > turn
@@ -99,6 +103,14 @@ def size_of(path: Path) -> int:
         return 0
 
 
+def is_open(folder: Path, run: int) -> bool:
+    """Whether an incident of a run has begun that is not saved yet."""
+    records = [json.loads(line) for line in read(folder / "incidents.jsonl").splitlines()[-40:] if line.endswith("}")]
+    saved = {record["id"] for record in records if record["event"] == "incident"}
+    begun = [record["id"] for record in records if record["event"] == "begun" and record["run"] == run]
+    return any(number not in saved for number in begun)
+
+
 def children(pid: int) -> List[str]:
     return read(Path(f"/proc/{pid}/task/{pid}/children")).split()
 
@@ -136,10 +148,12 @@ class Week:
         self.cabinet = Cabinet(folder, plan.faults)
         self.runs: List[Watched] = []
         self.most: Dict[str, int] = {}
+        self.open_kills = 0  # kill -9 while an incident was open
         (folder / "plan").write_text("".join(f"{f.begin} {f.past} {f.kind} {f.number}\n" for f in plan.faults))
 
     def run(self, begin: int, past: int, kill: Optional[float] = None) -> int:
-        """Runs the watch from a place on, until it is killed or all has come; tells where the recorder was."""
+        """Runs the watch from a place on, until all has come or it is killed, in the next open incident after so many
+        seconds; tells where the recorder was."""
         turns = turns_from(self.plan, begin, past)
         (self.folder / "turns").write_text("".join(f"{first} {past}\n" for first, past in turns))
         (self.folder / "turn").write_text("1\n")
@@ -156,6 +170,9 @@ class Week:
         try:
             watch.wait(kill)
         except subprocess.TimeoutExpired:
+            while watch.poll() is None and not is_open(self.folder / "watch", len(self.runs) + 1):
+                time.sleep(0.002)
+            self.open_kills += watch.poll() is None
             watch.kill()
             watch.wait()
         gauge.join()
@@ -174,7 +191,7 @@ class Week:
         begin = 0
         for kill in [*self.plan.kills, 10 * DAY]:
             left = self.until - time.monotonic()
-            if left > 0 and begin < self.past:
+            if left > LEAST and begin < self.past:
                 begin = self.run(begin, self.past, min(kill, left)) + 30 * RATE
         if begin < self.past:  # there was no time for more
             self.past = self.run(begin, begin + 120 * RATE)
@@ -187,7 +204,8 @@ class Week:
         unsaved = sum(record["saved"] is None for record in self.cabinet.incidents)
         cut = sum("cut" in record for record in self.cabinet.incidents)
         known = [f for f in self.plan.faults if not f.is_small and any(run.watches(f) for run in self.runs)]
-        return f"{len(known)} faults to be found; {counts}; {unsaved} not saved, {cut} cut; most {self.most}"
+        kills = f"{self.open_kills} kills in an open incident"
+        return f"{len(known)} faults to be found; {counts}; {unsaved} not saved, {cut} cut; {kills}; most {self.most}"
 
 
 def problems_of_days(
