@@ -1,7 +1,12 @@
 -- Arrivals of a capture, behind the rule of rest.
 use Rattle.std.proofs.Common.{◌≡◌, ℕ, Bool, List, [], ◌∷◌, ◌++◌, map, sym, ap, ◌∙◌, subst, append_assoc, append-nil}
-use Rattle.std.proofs.Common.{length}
+use Rattle.std.proofs.Common.{length, refl, ◌+◌, ◌*◌, ◌/◌, ◌^◌, arith}
+use Rattle.std.specs.Prelude.{slice_index, zip}
 use Rattle.std.proofs.lemmas.List.{map-append}
+use Rattle.bus_bits.specs.Octet.{bits_of}
+use Rattle.bus_bits.specs.Bits.{bits_from}
+use Rattle.bus_bits.proofs.BitLemmas.{bits-in, bits-more, length-from}
+use Rattle.bus_bits.proofs.PairWordsLemmas.{zip-append}
 use Rattle.bus_bits.specs.Capture.{CaptureOf}
 use Rattle.bus_bits.specs.Packed.{PairsAfter, arrival_head_fault, head_bits, headed, packed_arrival_capture, pair_body}
 use Rattle.bus_tap.specs.Arrival.{Arrival}
@@ -55,3 +60,26 @@ packed-rests law r q left later xs ys front new puts parts stands =
       head-followed packed_arrival_capture pair_body arrival_head_fault PairsAfter law left later xs ys parts put.0,
       subst (λ (b : List (Bool × Bool)). RestsAfter q b (front ++ new)) (sym (ap bits more)) put.1,
     )
+
+octet-next : (os : List ℕ) (i : ℕ) →
+    bits_from os 0 (8 * (i + 1)) ≡ bits_from os 0 (8 * i) ++ bits_of 8 (slice_index os i)
+octet-next os i =
+    let next : 8 * (i + 1) ≡ 8 * i + 8 = omega arith in
+    let whole : slice_index os i / 2 ^ 0 ≡ slice_index os i = omega arith in
+    ap (bits_from os 0) next ∙ (bits-more os 0 (8 * i) 8
+    ∙ ap (λ (b : List Bool). bits_from os 0 (8 * i) ++ b)
+    (sym (bits-in os i 0 (0 + 8 * i) 8 (omega arith) (omega arith)) ∙ ap (bits_of 8) whole))
+
+pub eight-symbols : (x y : ℕ) → length (zip (bits_of 8 x) (bits_of 8 y)) ≡ 8
+unfolding bits_of
+eight-symbols x y = refl
+
+-- the symbols of one octet more of either kind
+pub symbols-next : (bits lines : List ℕ) (i : ℕ) →
+    zip (bits_from bits 0 (8 * (i + 1))) (bits_from lines 0 (8 * (i + 1)))
+    ≡ zip (bits_from bits 0 (8 * i)) (bits_from lines 0 (8 * i))
+    ++ zip (bits_of 8 (slice_index bits i)) (bits_of 8 (slice_index lines i))
+symbols-next bits lines i =
+    rw (octet-next bits i, octet-next lines i)
+    (zip-append (bits_from bits 0 (8 * i)) (bits_from lines 0 (8 * i)) _ _
+    (length-from bits 0 (8 * i) ∙ sym (length-from lines 0 (8 * i))))

@@ -1,8 +1,8 @@
 -- Captures of two lines with a clock each.
-use Rattle.std.proofs.Common.{◌≡◌, ℕ, ◌+◌, ◌<◌, ◌≤◌, ◌^◌, Bool, List, [], ◌∷◌, ◌++◌, length, map}
-use Rattle.std.proofs.Common.{take, drop, Option, Result, Ok, Err, MatchResult, refl, sym, ap, ◌∙◌, subst, arith}
+use Rattle.std.proofs.Common.{◌≡◌, ℕ, ◌+◌, Bool, List, [], ◌∷◌, ◌++◌, length, map}
+use Rattle.std.proofs.Common.{Option, Result, Ok, Err, MatchResult, refl, sym, ap, ◌∙◌, subst, arith}
 use Rattle.std.proofs.Common.{append-nil, append_assoc}
-use Rattle.std.proofs.lemmas.List.{map-append, take-append-drop, length-drop}
+use Rattle.std.proofs.lemmas.List.{map-append}
 use Rattle.bus_bits.specs.Packed.{packed_arrival_capture, packed_arrival_whole, pair_body, arrival_head_fault}
 use Rattle.bus_fcs.specs.Check.{CheckView}
 use Rattle.bus_dictionary.specs.Entry.{FrameType}
@@ -17,15 +17,13 @@ use Rattle.bus_tap.specs.Rested.{comes_to_rest, rested, fill}
 use Rattle.bus_tap.proofs.RestLemmas.{rested-more}
 use Rattle.bus_clocks.proofs.RoomLemmas.{own-count}
 use Rattle.bus_text.specs.declared.fault.ToolFault.{ToolFault}
-use Rattle.bus_text.specs.declared.fault.ToolFault.TheVariants as fault
 use Rattle.bus_calls.specs.Captures.{arrival_of, form_of_arrivals}
 use Rattle.bus_calls.specs.Internal.Arrivals.{RestsAfter, arrivals_kind, clocks_behind}
-use Rattle.bus_calls.specs.Internal.Kinds.{FedOn, KindLaws}
-use Rattle.bus_calls.specs.Internal.Watching.{FeedStopsWith, FeedAfter, WatchStopsWith, IsSound, WatchAfter}
+use Rattle.bus_calls.specs.Internal.Kinds.{FedOn}
+use Rattle.bus_calls.specs.Internal.Watching.{FeedStopsWith, FeedAfter, WatchStopsWith, WatchAfter}
 use Rattle.bus_calls.specs.declared.arrivals.ClockAnalyser.{ClockAnalyser}
 use Rattle.bus_calls.specs.declared.run.CaptureRun.{CaptureRun}
 use Rattle.bus_calls.proofs.HeadedLemmas.{whole-bits}
-use Rattle.bus_calls.proofs.WatchingLemmas.{halted, halts-more}
 
 -- the end of the input adds no arrival
 pub same_arrivals : (xs : List ℕ) → (packed_arrival_whole xs).bits ≡ (packed_arrival_capture xs).bits
@@ -130,26 +128,3 @@ module _ {C : Type 0} (view : CheckView C) where
       }
   symbols-taken start now w b ys (Err f) stands taken =
       subst (λ (zs : List Arrival). WatchStopsWith (arrivals_kind view) start now w zs f) (sym stands.rested) taken
-
-  -- the first of some arrivals, and the others
-  arrivals-behind : (b xs : List Arrival) (n : ℕ) → (b ++ take n xs) ++ drop n xs ≡ b ++ xs
-  arrivals-behind b xs n =
-      append_assoc b (take n xs) (drop n xs) ∙ ap (λ (ys : List Arrival). b ++ ys) (take-append-drop n xs)
-
-  pub arrivals-halt : (start now : Option (List ℕ)) (w : CaptureRun (ClockAnalyser C)) (b xs : List Arrival) (n : ℕ)
-      (f : ToolFault) → WatchStopsWith (arrivals_kind view) start now w (b ++ take n xs) f →
-      WatchStopsWith (arrivals_kind view) start now w (b ++ xs) f
-  arrivals-halt start now w b xs n f stopped =
-      subst (λ ys. WatchStopsWith (arrivals_kind view) start now w ys f) (arrivals-behind b xs n)
-      (halts-more (arrivals_kind view) start now w (b ++ take n xs) (drop n xs) f stopped)
-
-  -- all that have a place were followed, and others have none
-  pub arrivals-limited : KindLaws (arrivals_kind view) → (start now : Option (List ℕ))
-      (w : CaptureRun (ClockAnalyser C)) (b xs : List Arrival) (n : ℕ)
-      → n < length xs → 2 ^ 60 ≤ bits_taken w.analyser.analyser → IsSound (arrivals_kind view) w →
-      WatchAfter (arrivals_kind view) start now w (b ++ take n xs)
-      → WatchStopsWith (arrivals_kind view) start now w (b ++ xs) fault.PlaceLimit
-  arrivals-limited law start now w b xs n more limit sound followed =
-      subst (λ ys. WatchStopsWith (arrivals_kind view) start now w ys fault.PlaceLimit) (arrivals-behind b xs n)
-      (halted (arrivals_kind view) law start now w w (b ++ take n xs) (drop n xs) refl
-      (omega (arith, more, length-drop n xs)) limit sound followed)

@@ -16,9 +16,9 @@ use Rattle.bus_text.specs.Pages.{Pages}
 use Rattle.bus_calls.specs.Begins.{Begins, Refuses}
 use Rattle.bus_calls.specs.Internal.Asked.{IsMade, IsRuled}
 use Rattle.bus_calls.specs.Internal.Kinds.{KindView, KindLaws}
-use Rattle.bus_calls.specs.Internal.Watching.{WatchAfter, IsSame, IsCutIn, reports_by, lines, reported, printed}
-use Rattle.bus_calls.specs.Internal.Sessions.{taken_of, whole_of}
-use Rattle.bus_calls.specs.Internal.Reading.{IsClean, IsWhole, ReadStopsWith}
+use Rattle.bus_calls.specs.Internal.Watching.{WatchAfter, IsSame, IsCutIn, reports_by, lines, report_text, printed}
+use Rattle.bus_calls.specs.Internal.Sessions.{capture_so_far, whole_of}
+use Rattle.bus_calls.specs.Internal.Reading.{IsClean, IsWholeInput, ReadStopsWith}
 use Rattle.bus_calls.specs.Lists.{in_all}
 use Rattle.bus_calls.specs.Checks.{check_report, IsAll, ChecksSoFar, ChecksBy}
 use Rattle.bus_calls.specs.declared.run.CaptureRun.{CaptureRun}
@@ -59,7 +59,8 @@ no-lines kind w b none = ap (λ p. printed p (kind.watch.dictionary w.analyser) 
 -- the report of bits, as the options tell of it
 report-is : {A R X B : Type 0} (kind : KindView A R X B) → KindLaws kind →
     (o : Options) (d : List FrameType) (w : CaptureRun A) (b : List X) → IsChecked kind o d w →
-    w.reporter.summary ≡ summary_of (reports_seen kind.form o.origin d b) → reported kind w b ≡ check_report kind.form o
+    w.reporter.summary ≡ summary_of (reports_seen kind.form o.origin d b) →
+    report_text kind w b ≡ check_report kind.form o
     d b
 report-is kind law o d w b asked counts =
     let two = kind.form.is_two in
@@ -88,13 +89,13 @@ checks-nothing form o after start now _ why out = absurd why
 -- the end of a clean capture
 pub ends-checks : {A R X B : Type 0} (kind : KindView A R X B) (o : Options) (d : List FrameType) (text : Bool)
     (after start now later : Option (List ℕ)) (w : CaptureRun A) (xs : List ℕ) (r : Result Summary ToolFault)
-    → KindLaws kind → Begins o d → IsChecked kind o d w → text ≡ o.text → IsWhole kind text after start now w xs
+    → KindLaws kind → Begins o d → IsChecked kind o d w → text ≡ o.text → IsWholeInput kind text after start now w xs
     → MatchResult r
     (λ s. Appends start later (lines kind w (whole_of kind text w xs).bits
-    ++ reported kind w (whole_of kind text w xs).bits)
+    ++ report_text kind w (whole_of kind text w xs).bits)
     × (s ≡ w.reporter.summary))
     (λ f. IsCutIn start later (lines kind w (whole_of kind text w xs).bits
-    ++ reported kind w (whole_of kind text w xs).bits) f)
+    ++ report_text kind w (whole_of kind text w xs).bits) f)
     → ChecksBy kind.form o after start later xs r
 ends-checks {A} {R} {X} kind o d text after start now later w xs r law begins asked same-text read ends = cases r ends
   where
@@ -112,15 +113,16 @@ ends-checks {A} {R} {X} kind o d text after start now later w xs r law begins as
     counts = counts-are kind law o d w all.bits asked.dictionary asked.origin read.bits.counts
         ∙ ap (λ (c : CaptureOf X). summary_of (reports_seen kind.form o.origin d c.bits)) is
 
-    texts : lines kind w all.bits ++ reported kind w all.bits ≡ check_report kind.form o d (in_all kind.form o xs).bits
+    texts : lines kind w all.bits ++ report_text kind w all.bits
+        ≡ check_report kind.form o d (in_all kind.form o xs).bits
     texts =
-        ap (λ (t : List ℕ). t ++ reported kind w all.bits) (no-lines kind w all.bits asked.printer)
-        ∙ ap (λ (c : CaptureOf X). reported kind w c.bits) is
+        ap (λ (t : List ℕ). t ++ report_text kind w all.bits) (no-lines kind w all.bits asked.printer)
+        ∙ ap (λ (c : CaptureOf X). report_text kind w c.bits) is
         ∙ report-is kind law o d w (in_all kind.form o xs).bits asked counts
 
     cases : (r : Result Summary ToolFault)
-        → MatchResult r (λ s. Appends start later (lines kind w all.bits ++ reported kind w all.bits)
-        × (s ≡ w.reporter.summary)) (λ f. IsCutIn start later (lines kind w all.bits ++ reported kind w all.bits) f)
+        → MatchResult r (λ s. Appends start later (lines kind w all.bits ++ report_text kind w all.bits)
+        × (s ≡ w.reporter.summary)) (λ f. IsCutIn start later (lines kind w all.bits ++ report_text kind w all.bits) f)
         → ChecksBy kind.form o after start later xs r
     cases (Ok s) ended =
         (d, begins, record { all = whole; out = subst (Appends start later) texts ended.0; counts = ended.1 ∙ counts })
@@ -151,11 +153,11 @@ pub stops-checks : {A R X B : Type 0} (kind : KindView A R X B) (o : Options) (d
     ChecksBy kind.form o after start now xs (Err f)
 stops-checks {A} {R} {X} kind o d text after start now w xs f begins asked same-text = cases f
   where
-    out : WatchAfter kind start now w (taken_of kind text w xs).bits → Appends start now
+    out : WatchAfter kind start now w (capture_so_far kind text w xs).bits → Appends start now
         []
     out ended = none-out start now w.reporter.page.text w.reporter.page.written
-        (lines kind w (taken_of kind text w xs).bits)
-        (no-lines kind w (taken_of kind text w xs).bits asked.printer) ended.page
+        (lines kind w (capture_so_far kind text w xs).bits)
+        (no-lines kind w (capture_so_far kind text w xs).bits asked.printer) ended.page
 
     clean-is : IsClean kind text start now w xs → ChecksSoFar kind.form o start now xs
     clean-is ended =

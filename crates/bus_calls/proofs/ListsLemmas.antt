@@ -21,8 +21,8 @@ use Rattle.bus_calls.specs.Internal.Asked.{IsMade, IsRuled}
 use Rattle.bus_calls.specs.Internal.Kinds.{KindView, KindLaws}
 use Rattle.bus_calls.specs.Internal.Watching.{IsSame, IsCutOff, IsCutIn, reports_by, lines, last_lines, printed}
 use Rattle.bus_calls.specs.Internal.Watching.{ended}
-use Rattle.bus_calls.specs.Internal.Sessions.{taken_of, whole_of}
-use Rattle.bus_calls.specs.Internal.Reading.{IsClean, IsWhole, IsFaulty, ReadStopsWith}
+use Rattle.bus_calls.specs.Internal.Sessions.{capture_so_far, whole_of}
+use Rattle.bus_calls.specs.Internal.Reading.{IsClean, IsWholeInput, IsFaulty, ReadStopsWith}
 use Rattle.bus_calls.specs.Lists.{so_far, in_all, listing_of, ending_of, whole_listing, ListsSoFar, ListsToFault}
 use Rattle.bus_calls.specs.Lists.{ListsBy}
 use Rattle.bus_calls.specs.declared.run.CaptureRun.{CaptureRun}
@@ -162,7 +162,7 @@ fault-is f o text rest n after xs cause same-text same-rest same-origin (inr fou
 lines-so-far : {A R X B : Type 0} (kind : KindView A R X B) → KindLaws kind →
     (o : Options) (d : List FrameType) (text : Bool) (w : CaptureRun A) (xs : List ℕ) → text ≡ o.text →
     IsListed kind o d w
-    → lines kind w (taken_of kind text w xs).bits
+    → lines kind w (capture_so_far kind text w xs).bits
     ≡ listing_of kind.form o d (so_far kind.form o xs).bits
 lines-so-far {X = X} kind law o d text w xs same-text asked =
     ap (λ (c : CaptureOf X). lines kind w c.bits)
@@ -173,7 +173,7 @@ lines-so-far {X = X} kind law o d text w xs same-text asked =
 -- the end of a clean capture
 pub ends-lists : {A R X B : Type 0} (kind : KindView A R X B) (o : Options) (d : List FrameType) (text : Bool)
     (after start now later : Option (List ℕ)) (w : CaptureRun A) (xs : List ℕ) (r : Result Summary ToolFault)
-    → KindLaws kind → Begins o d → IsListed kind o d w → text ≡ o.text → IsWhole kind text after start now w xs
+    → KindLaws kind → Begins o d → IsListed kind o d w → text ≡ o.text → IsWholeInput kind text after start now w xs
     → MatchResult r
     (λ s. Appends start later (lines kind w (whole_of kind text w xs).bits
     ++ last_lines kind w (whole_of kind text w xs).bits)
@@ -262,7 +262,7 @@ pub stops-lists : {A R X B : Type 0} (kind : KindView A R X B) (o : Options) (d 
 stops-lists {A} {R} {X} kind o d text after start now later w xs f answer law begins asked same-text = cases f
   where
     bits : List X
-    bits = (taken_of kind text w xs).bits
+    bits = (capture_so_far kind text w xs).bits
 
     is : lines kind w bits ≡ listing_of kind.form o d (so_far kind.form o xs).bits
     is = lines-so-far kind law o d text w xs same-text asked

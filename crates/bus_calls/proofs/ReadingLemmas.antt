@@ -15,7 +15,7 @@ use Rattle.bus_text.specs.Summary.{summary_of}
 use Rattle.bus_text.specs.Pages.{Pages}
 use Rattle.bus_text.specs.Put.{TextStopsAt}
 use Rattle.bus_calls.specs.Internal.Watching.{IsSound, WatchAfter, FeedAfter, IsCutOff, fed, lines, printed}
-use Rattle.bus_calls.specs.Internal.Sessions.{IsRead, IsReadBy, is_text}
+use Rattle.bus_calls.specs.Internal.Sessions.{IsReadAs, IsReadBy, is_text}
 use Rattle.bus_calls.specs.Internal.Sessions.{SourceAfter, TextAfter, PackedSourceAfter, SourceStopsWith}
 use Rattle.bus_calls.specs.Internal.Reading.{IsClean, IsFaulty, ReadStopsWith}
 use Rattle.bus_calls.specs.declared.run.CaptureRun.{CaptureRun}
@@ -93,7 +93,7 @@ read-by kind start now (source.Text text) w xs followed = followed.clean
 read-by kind start now (source.Packed p) w xs followed = followed.read
 
 packed-clean : {A R X B : Type 0} (kind : KindView A R X B) → KindLaws kind →
-    (head : List ℕ) (body : Option B) (xs : List ℕ) → IsRead kind head body xs → (kind.form.packed xs).fault ≡ None
+    (head : List ℕ) (body : Option B) (xs : List ℕ) → IsReadAs kind head body xs → (kind.form.packed xs).fault ≡ None
 packed-clean {A} {R} kind law head None xs read = ap (λ (c : CaptureOf R). c.fault) (law.form.short xs read.1).0
 packed-clean kind law head (Some body) xs read = law.clean body xs read
 

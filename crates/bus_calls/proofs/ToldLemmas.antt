@@ -1,7 +1,7 @@
 -- Symbols at which all that is seen was told.
-use Rattle.std.proofs.Common.{◌≡◌, ℕ, ◌+◌, ◌-◌, ◌*◌, ◌<◌, ◌≤◌, ◌^◌, Bool, List, [], ◌++◌, length, zip, Option, Some}
-use Rattle.std.proofs.Common.{None, refl, sym, ap, ◌∙◌, subst, arith, length-append, append-nil, append_assoc}
-use Rattle.bus_bits.specs.Bits.{bits_from}
+use Rattle.std.proofs.Common.{◌≡◌, ℕ, ◌+◌, ◌*◌, ◌<◌, ◌≤◌, ◌^◌, List, [], ◌++◌, length, Option, Some, None, Result, Ok}
+use Rattle.std.proofs.Common.{Err, MatchResult, refl, sym, ap, ◌∙◌, subst, arith, length-append, append-nil}
+use Rattle.std.proofs.Common.{append_assoc}
 use Rattle.bus_watch.specs.Watch.{AdvancesWatchShown, seen_by}
 use Rattle.bus_text.specs.Put.{TextStopsAt}
 use Rattle.bus_text.specs.declared.fault.ToolFault.{ToolFault}
@@ -9,10 +9,10 @@ use Rattle.bus_text.specs.declared.fault.ToolFault.TheVariants as fault
 use Rattle.bus_text.specs.declared.put.ShortWrite.{ShortWrite}
 use Rattle.bus_calls.specs.Internal.Kinds.{KindView, KindLaws}
 use Rattle.bus_calls.specs.Internal.Reporting.{IsOut, ReportsSeen}
-use Rattle.bus_calls.specs.Internal.Watching.{WatchStopsWith, IsSound, WatchAfter, lines, printed}
+use Rattle.bus_calls.specs.Internal.Watching.{WatchStopsWith, IsSound, WatchAfter, lines, printed, fed, FeedAfter}
+use Rattle.bus_calls.specs.Internal.Watching.{FeedStopsWith}
 use Rattle.bus_calls.specs.declared.run.CaptureRun.{CaptureRun}
 use Rattle.bus_calls.specs.Internal.ReportingLaws.{few-within}
-use Rattle.bus_watch.proofs.PairScanLemmas.{length-zipped, zip-met}
 use Rattle.bus_calls.proofs.WatchingLemmas.{halted, halts-more, lines-more, watched, within-all}
 
 module _ {A R X B : Type 0} (t : KindView A R X B) (w v : CaptureRun A) (xs : List X) (before after : Option (List ℕ))
@@ -66,34 +66,45 @@ module _ {A R X B : Type 0} (t : KindView A R X B) (w v : CaptureRun A) (xs : Li
           short = subst (λ (ys : List ℕ). cut.sent < length ys) (sym text) short.1;
         }
 
--- the first pairs of octets' bits, and those after them
-pairs-behind : (b : List (Bool × Bool)) (os ys : List ℕ) (n count : ℕ) → n ≤ count
-    → b ++ zip (bits_from os 0 count) (bits_from ys 0 count)
-    ≡ (b ++ zip (bits_from os 0 n) (bits_from ys 0 n)) ++ zip (bits_from os n (count - n)) (bits_from ys n (count - n))
-pairs-behind b os ys n count within =
-    let all : count ≡ n + (count - n) = omega (arith, within) in
-    ap (λ (k : ℕ). b ++ zip (bits_from os 0 k) (bits_from ys 0 k)) all
-    ∙ (ap (λ ps. b ++ ps) (zip-met os ys n (count - n))
-    ∙ sym (append_assoc b (zip (bits_from os 0 n) (bits_from ys 0 n))
-    (zip (bits_from os n (count - n)) (bits_from ys n (count - n)))))
+    -- these are those of a scan that were taken: the writer was cut off at them, or the others have no place
+    pub told-scanned : KindLaws t → (more : List X) (taken given : ℕ) (r : Result (Unit {0}) ToolFault) →
+        ((cut : ShortWrite) → v.reporter.cut ≡ Some cut → r ≡ Err (fault.Write cut.sent)) →
+        (v.reporter.cut ≡ None → MatchResult r (λ _. given ≤ taken) (λ f. (taken < given) × (f ≡ fault.PlaceLimit))) →
+        (given ≤ taken → more ≡ []) → (taken < given → (0 < length more) × (2 ^ 60 ≤ t.watch.place v.analyser)) →
+        t.watch.place w.analyser + length xs ≤ 2 ^ 60 → IsSound t w →
+        (start : Option (List ℕ)) (b : List X) → WatchAfter t start before w b →
+        MatchResult r (λ _. WatchAfter t start after v (b ++ (xs ++ more)))
+        (λ f. WatchStopsWith t start after v (b ++ (xs ++ more)) f)
+    told-scanned law more taken given r cut placed none some room sound start b followed =
+        ended v.reporter.cut refl r cut placed
+      where
+        ended : (o : Option ShortWrite) → v.reporter.cut ≡ o → (r : Result (Unit {0}) ToolFault) →
+            ((cut : ShortWrite) → v.reporter.cut ≡ Some cut → r ≡ Err (fault.Write cut.sent)) →
+            (v.reporter.cut ≡ None → MatchResult r (λ _. given ≤ taken)
+            (λ f. (taken < given) × (f ≡ fault.PlaceLimit))) →
+            MatchResult r (λ _. WatchAfter t start after v (b ++ (xs ++ more)))
+            (λ f. WatchStopsWith t start after v (b ++ (xs ++ more)) f)
+        ended (Some cut) is r written placed =
+            rw (written cut is) (subst (λ zs. WatchStopsWith t start after v zs (fault.Write cut.sent))
+            (append_assoc b xs more)
+            (halts-more t start after v (b ++ xs) more (fault.Write cut.sent)
+            (told-cut law cut is room start b followed)))
+        ended None is (Ok u) written placed =
+            subst (λ zs. WatchAfter t start after v (b ++ zs))
+            (sym (ap (λ zs. xs ++ zs) (none (placed is)) ∙ append-nil xs)) (told-watched is start b followed)
+        ended None is (Err f) written placed =
+            let left = some (placed is).0 in
+            rw ((placed is).1) (subst (λ zs. WatchStopsWith t start after v zs fault.PlaceLimit)
+            (append_assoc b xs more)
+            (halted t law start after v v (b ++ xs) more refl left.0 left.1 (told-sound room sound)
+            (told-watched is start b followed)))
 
--- what stopped in the first of them, stops in all
-pub halts-behind : {A B : Type 0} (t : KindView A (Bool × Bool) (Bool × Bool) B) (start now : Option (List ℕ))
-    (w : CaptureRun A)
-    (b : List (Bool × Bool)) (os ys : List ℕ) (n count : ℕ) (f : ToolFault)
-    → n ≤ count → WatchStopsWith t start now w (b ++ zip (bits_from os 0 n) (bits_from ys 0 n)) f →
-    WatchStopsWith t start now w (b ++ zip (bits_from os 0 count) (bits_from ys 0 count)) f
-halts-behind t start now w b os ys n count f within stopped =
-    subst (λ ps. WatchStopsWith t start now w ps f) (sym (pairs-behind b os ys n count within))
-    (halts-more t start now w _ _ f stopped)
-
--- all that have a place were followed, and others have none
-pub limited : {A B : Type 0} (t : KindView A (Bool × Bool) (Bool × Bool) B) → KindLaws t →
-    (start now : Option (List ℕ)) (w : CaptureRun A) (b : List (Bool × Bool)) (os ys : List ℕ) (n count : ℕ)
-    → n < count → 2 ^ 60 ≤ t.watch.place w.analyser → IsSound t w →
-    WatchAfter t start now w (b ++ zip (bits_from os 0 n) (bits_from ys 0 n))
-    → WatchStopsWith t start now w (b ++ zip (bits_from os 0 count) (bits_from ys 0 count)) fault.PlaceLimit
-limited t law start now w b os ys n count more limit sound followed =
-    subst (λ ps. WatchStopsWith t start now w ps fault.PlaceLimit)
-    (sym (pairs-behind b os ys n count (omega (arith, more))))
-    (halted t law start now w w _ _ refl (omega (arith, more, length-zipped os ys n (count - n))) limit sound followed)
+-- what is taken is what is given
+pub as-given : {A X B : Type 0} (t : KindView A X X B) (start now : Option (List ℕ)) (v : CaptureRun A) (b : List X)
+    (r : Result (Unit {0}) ToolFault) → t.is_fed v.analyser b → fed t v b ≡ b →
+    MatchResult r (λ _. WatchAfter t start now v b) (λ f. WatchStopsWith t start now v b f) →
+    MatchResult r (λ _. FeedAfter t start now v b) (λ f. FeedStopsWith t start now v b f)
+as-given t start now v b (Ok u) rule same taken =
+    record { rule = rule; bits = subst (WatchAfter t start now v) (sym same) taken }
+as-given t start now v b (Err f) rule same stopped =
+    subst (λ zs. WatchStopsWith t start now v zs f) (sym same) stopped

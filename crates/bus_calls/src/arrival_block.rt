@@ -1,7 +1,8 @@
 //! Arrivals of a capture, many at once, behind the rule of rest.
 
 ghost use Rattle.std.specs.Prelude.{◌≡◌, ◌+◌, ◌*◌, ◌≤◌, ◌<◌, List, Bool, true, [], ◌∷◌, ◌++◌, ℕ, length, take};
-ghost use Rattle.std.specs.Prelude.{None, OnOk, OnErr};
+ghost use Rattle.std.specs.Prelude.{None, OnOk, OnErr, zip};
+ghost use Rattle.bus_bits.specs.Octet.{bits_of};
 ghost use Rattle.bus_bits.specs.Capture.{text_arrivals, text_arrivals_fault};
 ghost use Rattle.bus_bits.specs.Packed.{PairsAfter, pair_body};
 ghost use Rattle.bus_calls.specs.Captures.{arrival_of};
@@ -53,6 +54,23 @@ fn arrival(symbol: (bool, bool)) -> Arrival
     } else {
         (Line::First, bit)
     }
+}
+
+/// Eight symbols: their bits, and which of these are the second line's, the first lowest.
+#[inline(always)]
+fn symbols(bits: u8, lines: u8) -> [(bool, bool); 8]
+    ensures { result ≡ zip (bits_of 8 bits) (bits_of 8 lines) }
+{
+    [
+        (bits % 2 == 1, lines % 2 == 1),
+        (bits / 2 % 2 == 1, lines / 2 % 2 == 1),
+        (bits / 4 % 2 == 1, lines / 4 % 2 == 1),
+        (bits / 8 % 2 == 1, lines / 8 % 2 == 1),
+        (bits / 16 % 2 == 1, lines / 16 % 2 == 1),
+        (bits / 32 % 2 == 1, lines / 32 % 2 == 1),
+        (bits / 64 % 2 == 1, lines / 64 % 2 == 1),
+        (bits / 128 % 2 == 1, lines / 128 % 2 == 1),
+    ]
 }
 
 impl ArrivalBlock {
@@ -164,8 +182,8 @@ impl ArrivalBlock {
         taken
     }
 
-    /// Puts the arrivals of the next octets of a packed capture into the empty block, up to the first octet that is
-    /// refused. Returns how many octets these were.
+    /// Puts the arrivals of the next octets of a packed capture into the empty block: sixteens of octets of which all
+    /// arrivals are wanted. Returns how many octets these were.
     pub(crate) fn put_packed(
         &mut self,
         body: &mut PackedPairs,
@@ -180,15 +198,13 @@ impl ArrivalBlock {
             × RestsAfter rest.new (pair_body n (xs ++ take result octets.now)).bits (front ++ self.new) }
         ensures most { rest.new.most ≡ rest.old.most }
     {
-        let end = min(octets.len(), SYMBOLS / 4);
-        let mut taken = 0;
-        while taken < end {
-            match body.step(octets[taken]) {
-                Ok(symbols) => self.put_all(symbols.as_slice(), rest),
-                Err(_) => return taken,
-            }
-            taken += 1;
+        let count = body.whole(min(octets.len(), SYMBOLS / 4));
+        let mut bits = [0; SYMBOLS / 8];
+        let mut lines = [0; SYMBOLS / 8];
+        body.unpack_octets(&octets[..count], &mut bits, &mut lines);
+        for at in 0..count / 2 {
+            self.put_all(&symbols(bits[at], lines[at]), rest);
         }
-        taken
+        count
     }
 }

@@ -49,13 +49,7 @@ fn analyse_arrivals<C: Check, W: Write>(
     ClockAnalyser::<C>::laws();
     run.reporter.cut = None;
     let taken = run.analyser.analyser.scan(arrivals, &mut run.reporter, w);
-    if let Some(cut) = run.reporter.cut {
-        return Err(ToolFault::from(cut));
-    }
-    if taken < arrivals.len() {
-        return Err(ToolFault::PlaceLimit);
-    }
-    Ok(())
+    run.reporter.scanned(taken, arrivals.len())
 }
 
 impl<C: Check> CaptureKind for ClockAnalyser<C> {

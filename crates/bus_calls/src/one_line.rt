@@ -42,13 +42,7 @@ fn analyse_bits<C: Check, W: Write>(
     Analyser::<C>::laws();
     run.reporter.cut = None;
     let taken = run.analyser.scan(octets, 0, end, &mut run.reporter, w);
-    if let Some(cut) = run.reporter.cut {
-        return Err(ToolFault::from(cut));
-    }
-    if taken < end {
-        return Err(ToolFault::PlaceLimit);
-    }
-    Ok(())
+    run.reporter.scanned(taken, end)
 }
 
 /// Takes the next eight bits of a text, where eight octets give them or nine with one that is skipped. Returns how many

@@ -5,7 +5,7 @@ ghost use Rattle.std.specs.Prelude.{length, take, false};
 ghost use Rattle.bus_bits.specs.Capture.{CaptureFault};
 ghost use Rattle.bus_bits.specs.Packed.{head_fault_of, packed_fault_of};
 ghost use Rattle.bus_calls.specs.Internal.Watching.{FeedStopsWith, FeedAfter, IsSame, IsSound};
-ghost use Rattle.bus_calls.specs.Internal.Sessions.{PackedSourceAfter, BodyAfter, IsRead, SourceStopsWith};
+ghost use Rattle.bus_calls.specs.Internal.Sessions.{PackedSourceAfter, BodyAfter, IsReadAs, SourceStopsWith};
 ghost use Rattle.bus_calls.specs.Captures.{IsSameFault};
 
 use crate::capture_kind::CaptureKind;
@@ -128,8 +128,8 @@ impl<B> PackedCapture<B> {
 
     /// Takes octets of the head, as many as it lacks, and reads it where it is whole then. Returns how many these were.
     fn fill_head<T: CaptureKind<Body = B>>(&mut self, octets: &[u8]) -> Result<usize, ToolFault>
-        ensures read { (xs : List ℕ) → IsRead T.kind self.old.head.items self.old.body xs → MatchResult result
-            (λ n. IsRead T.kind self.new.head.items self.new.body (xs ++ take n octets.now)
+        ensures read { (xs : List ℕ) → IsReadAs T.kind self.old.head.items self.old.body xs → MatchResult result
+            (λ n. IsReadAs T.kind self.new.head.items self.new.body (xs ++ take n octets.now)
             × ((T.kind.form.packed (xs ++ take n octets.now)).bits ≡ (T.kind.form.packed xs).bits))
             (λ fault. (cause : CaptureFault) × IsSameFault fault cause
             × (T.kind.form.packed (xs ++ octets.now)
@@ -187,7 +187,7 @@ impl<B> PackedCapture<B> {
 
     /// What is wrong where the input ends here.
     pub fn finish<T: CaptureKind<Body = B>>(&self) -> Result<(), ToolFault>
-        ensures { (xs : List ℕ) → IsRead T.kind self.now.head.items self.now.body xs → MatchResult result
+        ensures { (xs : List ℕ) → IsReadAs T.kind self.now.head.items self.now.body xs → MatchResult result
             (λ _. T.kind.form.packed_whole xs ≡ record { bits = (T.kind.form.packed xs).bits; fault = None })
             (λ fault. (cause : CaptureFault) × IsSameFault fault cause
             × (T.kind.form.packed_whole xs ≡ record { bits = (T.kind.form.packed xs).bits; fault = Some cause })) }

@@ -1,15 +1,17 @@
 //! Reports what is seen: counts it, and writes its lines.
 
-ghost use Rattle.std.specs.Prelude.{◌≡◌, ℕ, Option, List, [], length};
+ghost use Rattle.std.specs.Prelude.{◌≡◌, ◌<◌, ◌≤◌, ℕ, Option, Some, None, Err, List, [], length, MatchResult};
 ghost use Rattle.arrayvec.specs.ArrayVec.{array_vec_len};
 ghost use Rattle.bus_text.specs.Counting.{IsFew};
 ghost use Rattle.bus_text.specs.Pages.{Pages};
 ghost use Rattle.bus_text.specs.Summary.{summary_of};
+ghost use Rattle.bus_text.specs.declared.put.ShortWrite.{ShortWrite};
+ghost use Rattle.bus_text.specs.declared.fault.ToolFault.TheVariants.{PlaceLimit, Write};
 ghost use Rattle.bus_calls.specs.Internal.Reporting.{HasReporterRoom, ReportsSeen};
 ghost use Rattle.bus_calls.specs.Internal.ReportingLaws.{has-less, reports-more, reports-none};
 
 use bus_dictionary::Dictionary;
-use bus_text::{Page, Printer, ShortWrite, Summary};
+use bus_text::{Page, Printer, ShortWrite, Summary, ToolFault};
 use bus_watch::{Finding, Line, ReportObserver};
 use std::io::Write;
 
@@ -39,6 +41,22 @@ impl Reporter {
             page: Page::new(),
             cut: None,
         }
+    }
+
+    /// How the scan of so many symbols ended that took so many of them.
+    #[inline(always)]
+    pub fn scanned(&self, taken: usize, given: usize) -> Result<(), ToolFault>
+        ensures cut { (cut : ShortWrite) → self.now.cut ≡ Some cut → result ≡ Err (Write cut.sent) }
+        ensures placed { self.now.cut ≡ None → MatchResult result (λ _. given ≤ taken)
+            (λ fault. (taken < given) × (fault ≡ PlaceLimit)) }
+    {
+        if let Some(cut) = self.cut {
+            return Err(ToolFault::from(cut));
+        }
+        if taken < given {
+            return Err(ToolFault::PlaceLimit);
+        }
+        Ok(())
     }
 }
 

@@ -18,7 +18,7 @@ pub struct CaptureRun<T> {
 
 impl<T: CaptureKind> CaptureRun<T> {
     ghost use Rattle.bus_calls.specs.Internal.Watching.{IsSound, WatchAfter, IsCutIn, lines, last_lines};
-    ghost use Rattle.bus_calls.specs.Internal.Watching.{reported};
+    ghost use Rattle.bus_calls.specs.Internal.Watching.{report_text};
 
     /// Writes the lines of the end of a capture, and what is left of the page, and flushes.
     pub fn end<W: Write>(self, w: &mut W) -> Result<Summary, ToolFault>
@@ -49,9 +49,9 @@ impl<T: CaptureKind> CaptureRun<T> {
         requires { IsSound T.kind self }
         ensures { (start : Option (List ℕ)) (b : List T.Received) →
             WatchAfter T.kind start (W.contents w.old) self b → MatchResult result
-            (λ s. Appends start (W.contents w.new) (lines T.kind self b ++ reported T.kind self b)
+            (λ s. Appends start (W.contents w.new) (lines T.kind self b ++ report_text T.kind self b)
             × (s ≡ self.reporter.summary))
-            (λ fault. IsCutIn start (W.contents w.new) (lines T.kind self b ++ reported T.kind self b) fault) }
+            (λ fault. IsCutIn start (W.contents w.new) (lines T.kind self b ++ report_text T.kind self b) fault) }
     {
         let CaptureRun { analyser, reporter } = self;
         let Reporter {

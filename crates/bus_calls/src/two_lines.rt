@@ -56,13 +56,7 @@ fn analyse_pairs<C: Check, W: Write>(
     let taken = run
         .analyser
         .scan(first, second, count, &mut run.reporter, w);
-    if let Some(cut) = run.reporter.cut {
-        return Err(ToolFault::from(cut));
-    }
-    if taken < count {
-        return Err(ToolFault::PlaceLimit);
-    }
-    Ok(())
+    run.reporter.scanned(taken, count)
 }
 
 impl<C: Check> CaptureKind for PairAnalyser<C> {

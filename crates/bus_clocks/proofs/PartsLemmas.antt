@@ -26,10 +26,6 @@ upto-none : (n : ℕ) → upto n [] ≡ []
 upto-none zero = refl
 upto-none (suc n) = refl
 
-beyond-none : (n : ℕ) → beyond n [] ≡ []
-beyond-none zero = refl
-beyond-none (suc n) = refl
-
 -- so many bits, and more
 pub upto-more : (m n : ℕ) (xs : List Arrival) → upto (m + n) xs ≡ upto m xs ++ upto n (beyond m xs)
 upto-more zero n xs = let none : 0 + n ≡ n = omega arith in ap (λ k. upto k xs) none
@@ -41,16 +37,6 @@ upto-more (suc m) n ((First, bit) ∷ xs) =
 upto-more (suc m) n ((Second, bit) ∷ xs) =
     let next : suc m + n ≡ suc (m + n) = omega arith in
     ap (λ k. upto k ((Second, bit) ∷ xs)) next ∙ ap (λ ys. (Second, bit) ∷ ys) (upto-more m n xs)
-
-pub beyond-more : (m n : ℕ) (xs : List Arrival) → beyond (m + n) xs ≡ beyond n (beyond m xs)
-beyond-more zero n xs = let none : 0 + n ≡ n = omega arith in ap (λ k. beyond k xs) none
-beyond-more (suc m) n [] = beyond-none (suc m + n) ∙ sym (beyond-none n)
-beyond-more (suc m) n ((First, bit) ∷ xs) =
-    let next : suc m + n ≡ suc (m + n) = omega arith in
-    ap (λ k. beyond k ((First, bit) ∷ xs)) next ∙ (ap (λ k. beyond k xs) (sym next) ∙ beyond-more (suc m) n xs)
-beyond-more (suc m) n ((Second, bit) ∷ xs) =
-    let next : suc m + n ≡ suc (m + n) = omega arith in
-    ap (λ k. beyond k ((Second, bit) ∷ xs)) next ∙ beyond-more m n xs
 
 -- they have so many bits of the second line
 pub count-upto : (n : ℕ) (xs : List Arrival) → n ≤ length (own Second xs) → length (own Second (upto n xs)) ≡ n

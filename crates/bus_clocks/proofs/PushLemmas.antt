@@ -1,6 +1,6 @@
 -- An arrival leads an analyser on.
 use Rattle.std.proofs.Common.{◌≡◌, ◌+◌, ◌≤◌, ◌^◌, ℕ, Bool, List, [], ◌∷◌, ◌++◌, Option, Some, None, refl, sym, ap}
-use Rattle.std.proofs.Common.{◌∙◌, subst, arith, append-nil, length}
+use Rattle.std.proofs.Common.{◌∙◌, subst, arith, length}
 use Rattle.std.specs.Option.{option_map, option_to_list}
 use Rattle.bus_fcs.specs.Check.{CheckView}
 use Rattle.bus_line.specs.After.{After}
@@ -11,7 +11,7 @@ use Rattle.bus_line.specs.declared.event.Event.{Event}
 use Rattle.bus_dictionary.specs.Dictionary.{longest_of}
 use Rattle.bus_pairing.specs.LineReport.{LineReport}
 use Rattle.bus_pairing.specs.Seen.{SeenReport, seen}
-use Rattle.bus_pairing.specs.Conversation.{ConversationState, ConversationAfter, AdvancesConversation, IsWhole}
+use Rattle.bus_pairing.specs.Conversation.{ConversationState, AdvancesConversation, IsWhole}
 use Rattle.bus_pairing.specs.declared.line.Line.TheVariants.{First, Second}
 use Rattle.bus_pairing.proofs.SeenLemmas.{seen-more}
 use Rattle.bus_watch.specs.Internal.Decodes.{line_reports_of}
@@ -96,15 +96,7 @@ sees-arrival view old new x decided found grow pushes =
       place = place-more old new x pushes.counts;
     }
 
--- what a conversation makes of no report, and of one
-pub enters-none : (j : ConversationState) → AdvancesConversationBy j [] None j
-enters-none j = record {
-  keeps = λ hs kept. subst (ConversationAfter j) (sym (append-nil hs)) kept;
-  seen = λ hs kept. ap (seen j.dictionary) (append-nil hs) ∙ sym (append-nil (seen j.dictionary hs));
-  dictionary = refl;
-  depth = refl;
-}
-
+-- what a conversation makes of a report
 pub enters-one : (j k : ConversationState) (h : LineReport) (found : SeenReport) → AdvancesConversation j h found k →
     AdvancesConversationBy j (h ∷ []) (Some found) k
 enters-one j k h found enters = record {

@@ -7,7 +7,6 @@ use Rattle.std.specs.Option.{option_map, option_to_list}
 use Rattle.std.proofs.lemmas.Bool.{cases_lt}
 use Rattle.std.proofs.lemmas.List.{map-append, length-map, append_cancel_left}
 use Rattle.std.proofs.Math.Seq.{take-append_seam}
-use Rattle.bus_bits.specs.Bits.{bits_from}
 use Rattle.bus_fcs.specs.Check.{CheckView}
 use Rattle.bus_line.specs.Report.{Report, moved}
 use Rattle.bus_line.specs.Due.{reports, placed, due_at, begun}
@@ -15,6 +14,7 @@ use Rattle.bus_line.specs.Ledger.{octet_count}
 use Rattle.bus_line.specs.Laws.{OneMore, ReportsAre, ReportsGrow, DueWithin, DueIsIt, FramesStored, StoredPaid}
 use Rattle.bus_line.specs.Laws.{AssembledWithin, FrameIsSpelled}
 use Rattle.bus_line.specs.Shown.{kind_with, reported}
+use Rattle.bus_line.specs.declared.consumed.Consumed.{Consumed}
 use Rattle.bus_line.specs.declared.event.EventKind.{EventKind}
 use Rattle.bus_line.specs.declared.event.EventKind.TheVariants as event
 use Rattle.bus_line.specs.After.{After, AdvancesWith, due_of}
@@ -25,7 +25,7 @@ use Rattle.bus_pairing.specs.LineReport.{LineReport, line_report, of_side}
 use Rattle.bus_pairing.specs.Seen.{SeenReport, seen}
 use Rattle.bus_pairing.specs.Conversation.{ConversationState, ConversationAfter, IsWhole}
 use Rattle.bus_pairing.specs.declared.line.Line.TheVariants.{First, Second}
-use Rattle.bus_watch.specs.Internal.Decodes.{DecodesMany, KeepsUp, line_reports_of}
+use Rattle.bus_watch.specs.Internal.Decodes.{DecodesMany, KeepsUp, Stands, line_reports_of}
 use Rattle.bus_watch.specs.Watch.{AdvancesWatchShown}
 use Rattle.bus_watch.proofs.AnalyserViewLemmas.{whole}
 use Rattle.bus_watch.proofs.PairLemmas.{few-option}
@@ -38,7 +38,7 @@ use Rattle.bus_clocks.specs.Clocks.{ClockState, IsAfterArrivals, AdvancesArrival
 use Rattle.bus_clocks.specs.Clocks.{arrival_reports, two_clocks}
 use Rattle.bus_clocks.specs.Internal.Pushes.{AdvancesConversationBy}
 use Rattle.bus_clocks.specs.Internal.Parts.{Parts, beyond, upto}
-use Rattle.bus_clocks.specs.Internal.Stretch.{NotesMany, Opens, place_after}
+use Rattle.bus_clocks.specs.Internal.Stretch.{NotesMany, Opens, TakesNoted, place_after}
 use Rattle.bus_clocks.specs.declared.parted.Parted.{Parted}
 use Rattle.bus_tap.specs.Laws.{ArrivalsGrow}
 use Rattle.bus_clocks.specs.Laws.{LinesApart}
@@ -230,54 +230,49 @@ opening-decided view d longest b bit os (Some e) o r opens answer due was =
     same-report x y is = cc
 
 -- it is the number of one of the bits
-opening-begun_in : {C : Type 0} (d : LineState C) (c : List Bool) (o : Option ℕ) (k : ℕ) → d.origin ≡ 0 →
-    o ≡ option_map (λ j. d.origin + j) (begun c) → o ≡ Some k → k < length c
-opening-begun_in d c o k begins found is =
+opening-begun_in : {C : Type 0} (d : LineState C) (c : List Bool) (o : Option ℕ) (k : ℕ) →
+    o ≡ option_map (λ j. d.origin + j) (begun c) → o ≡ Some k → k < d.origin + length c
+opening-begun_in d c o k found is =
     let first = some-is (λ j. d.origin + j) (begun c) k (sym is ∙ found) in
-    omega (arith, begun-within c first.0 first.1, first.2, begins)
+    omega (arith, begun-within c first.0 first.1, first.2)
 
-opening-in : {C : Type 0} (view : CheckView C) (d : LineState C) (origin longest : ℕ) (c : List Bool) (n : ℕ)
-    (os : List ℕ) (e : Option Event) (o : Option ℕ) (k : ℕ) → DueIsIt → d.origin ≡ 0 → origin ≡ 0 → After view d c →
-    n < length c → Opens view d e o →
-    option_map (reported os) e ≡ option_map (moved origin) (due_at longest c n) → o ≡ Some k → k < length c
-opening-in view d origin longest c n os None o k it begins begins_at after inside opens answer is =
-    opening-begun_in d c o k begins (opens.begun (λ f same. absurd (cc)) c after) is
-opening-in view d origin longest c n os (Some e) o k it begins begins_at after inside opens answer is =
-    elim (idle-or e.kind) [
-      | inl idle ↦
-          opening-begun_in d c o k begins
-          (opens.begun (λ f same. ap (λ (x : Event). x.kind) (sym (same-event e f same)) ∙ idle) c after) is
-      | inr other ↦
-          (let found = some-is (moved origin) (due_at longest c n) (reported os e) answer in
-          let report = (it longest c n found.0).1 found.1 in
-          let near : IsNear n found.0 =
-          subst (λ j. IsNear j found.0) report.1 (report-near longest c found.0 report.0) in
-          omega (
-            arith,
-            near.some,
-            near.within,
-            inside,
-            same-number k e.span.first (sym is ∙ opens.piece e refl other),
-            ap (λ (r : Report). r.first) found.2,
-            begins_at,
-          ))
-    ]
+opening-in : {C : Type 0} (view : CheckView C) (d : LineState C) (longest : ℕ) (c : List Bool) (n : ℕ)
+    (os : List ℕ) (e : Option Event) (o : Option ℕ) (k : ℕ) → DueIsIt → After view d c → n < length c →
+    Opens view d e o → option_map (reported os) e ≡ option_map (moved d.origin) (due_at longest c n) → o ≡ Some k →
+    k < d.origin + length c
+opening-in view d longest c n os None o k it after inside opens answer is =
+    opening-begun_in d c o k (opens.begun (λ f same. absurd (cc)) c after) is
+opening-in view d longest c n os (Some e) o k it after inside opens answer is = elim (idle-or e.kind) [
+  | inl idle ↦
+      opening-begun_in d c o k
+      (opens.begun (λ f same. ap (λ (x : Event). x.kind) (sym (same-event e f same)) ∙ idle) c after) is
+  | inr other ↦
+      (let found = some-is (moved d.origin) (due_at longest c n) (reported os e) answer in
+      let report = (it longest c n found.0).1 found.1 in
+      let near : IsNear n found.0 = subst (λ j. IsNear j found.0) report.1 (report-near longest c found.0 report.0) in
+      omega (
+        arith,
+        near.some,
+        near.within,
+        inside,
+        same-number k e.span.first (sym is ∙ opens.piece e refl other),
+        ap (λ (r : Report). r.first) found.2,
+      ))
+]
 
-pub opening-scanned : {C : Type 0} {view : CheckView C} {old : ClockState C} {e : Option Event} {second : LineState C}
-    {o : Option ℕ} (bits : List Bool) → DueIsIt → 1 ≤ length bits → AdvancesWith view old.second bits e second →
-    ((b : List Bool) → After view old.second b → option_map (reported second.octets) e
-    ≡ due_of old.second (b ++ bits) (length b + length bits - 1)) → Opens view second e o → (xs : List Arrival) →
-    IsAfterArrivals view old xs → (k : ℕ) → o ≡ Some k → k < length (own Second xs) + length bits
-opening-scanned {view = view} {old = old} {e = e} {second = second} {o = o} bits it some advances answer opens xs
-    reached k is =
-    let b = own Second xs in
+pub opening-scanned : {C : Type 0} {view : CheckView C} {old new : LineState C} {e : Option Event} {o : Option ℕ}
+    (bits : List Bool) → DueIsIt → 1 ≤ length bits → AdvancesWith view old bits e new →
+    ((b : List Bool) → After view old b → option_map (reported new.octets) e
+    ≡ due_of old (b ++ bits) (length b + length bits - 1)) → Opens view new e o → Stands view old → (k : ℕ) →
+    o ≡ Some k → k < old.place + length bits
+opening-scanned {view = view} {old = old} {new = new} {e = e} {o = o} bits it some advances answer opens stands k is =
+    let b = stands.bits in
     let led = advances.decides.leads in
     let size = length-append b bits in
-    let near : k < length (b ++ bits) =
-    opening-in view second old.second.origin old.second.longest (b ++ bits) (length b + length bits - 1)
-    second.octets e o k it (led.origin ∙ reached.origin) reached.origin (led.after b reached.second)
-    (omega (arith, size, some)) opens (answer b reached.second) is in
-    omega (arith, near, size)
+    let near = opening-in view new old.longest (b ++ bits) (length b + length bits - 1) new.octets e o k it
+    (led.after b stands.after) (omega (arith, size, some)) opens
+    (rw (led.origin) (answer b stands.after)) is in
+    omega (arith, near, size, led.origin, stands.after.has_taken.place)
 
 -- ---- decoder and places after arrivals of which the last is a bit of the second line
 
@@ -299,35 +294,31 @@ pub record Scanned {C : Type 0} (view : CheckView C) (old : ClockState C) (zs : 
       × (place_after standing c ≡ old.first.origin + (old.first.place - old.first.origin + firsts_before i zs - 1))
 
 -- as they are scanned and noted
-pub scanned-of : {C : Type 0} (view : CheckView C) (old : ClockState C) (e : Option Event) (second : LineState C)
-    (places : BitPlaces) (ys : List Arrival) (os : List ℕ) (s : Standing) (xs : List Arrival)
-    {p : Parted} {m n from past number : ℕ} {o : Option ℕ} → Parts ys p → IsStretch p ys m n from past →
-    IsAfterArrivals view old xs → bits_from os 0 (length p.second) ≡ p.second →
-    AdvancesWith view old.second (bits_from os m n) e second →
-    ((b : List Bool) → After view old.second b → option_map (reported second.octets) e
-    ≡ due_of old.second (b ++ bits_from os m n) (length b + n - 1)) → number ≡ old.second.place →
-    s.taken ≡ length (own First xs) → s.origin ≡ old.first.place - s.taken → s.ahead ≡ from →
-    NotesMany old.places places number (take (m + n - m) (drop m p.before)) o s → Opens view second e o →
-    Scanned view old (upto n (beyond m ys)) e second places
-scanned-of view old e second places ys os s xs {p = p} {m = m} {n = n} {from = from} {past = past} {number = number}
-    {o = o} parts some reached all advances answer at taken origin ahead notes opens =
+pub scanned-of : {C : Type 0} {view : CheckView C} {old : ClockState C} {scanned : Consumed} {second : LineState C}
+    {places : BitPlaces} {s : Standing} {p : Parted} {m from past : ℕ} (ys xs : List Arrival) → Parts ys p →
+    IsStretch p ys m scanned.count from past → IsAfterArrivals view old xs →
+    TakesNoted view old.second old.places p m s scanned second places → s.taken ≡ length (own First xs) →
+    s.origin ≡ old.first.place - s.taken → s.ahead ≡ from →
+    Scanned view old (upto scanned.count (beyond m ys)) scanned.event second places
+scanned-of {view = view} {old = old} {scanned = scanned} {second = second} {s = s} {p = p} {m = m} {from = from}
+    {past = past} ys xs parts some reached takes taken origin ahead =
+    let n = scanned.count in
     let zs = upto n (beyond m ys) in
-    let bits = stretch-seconds os p ys m n from past parts some all in
-    let count : m + n - m ≡ n = omega arith in
+    let bits = stretch-seconds takes.octets p ys m n from past parts some takes.holds in
     record {
       ends = some.ends;
-      advances = subst (λ more. AdvancesWith view old.second more e second) bits advances;
+      advances = subst (λ more. AdvancesWith view old.second more scanned.event second) bits takes.advances;
       answer = λ b after.
-          answer b after
+          takes.answer b after
           ∙ (ap (λ more. due_of old.second (b ++ more) (length b + n - 1)) bits
           ∙ ap (λ k. due_of old.second (b ++ own Second zs) (length b + k - 1)) (sym some.seconds));
-      number = number;
-      at_place = at;
+      number = old.second.place;
+      at_place = refl;
       before = take n (drop m p.before);
-      opening = o;
+      opening = takes.opening;
       standing = s;
-      notes = subst (λ k. NotesMany old.places places number (take k (drop m p.before)) o s) count notes;
-      opens = opens;
+      notes = takes.notes;
+      opens = takes.opens;
       count = some.count ∙ sym some.seconds;
       stands = λ i inside.
           let item = some.items i (omega (arith, inside, some.seconds)) in

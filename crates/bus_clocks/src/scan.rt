@@ -12,9 +12,8 @@ use crate::feed::{Arrival, PLACES};
 use crate::laws::arrivals_are;
 use crate::line_bits::BLOCK;
 use crate::parted::{Parted, part};
-use crate::stretch::{note_bits, opening, standing_behind};
+use crate::stretch::{scan_noted, standing_behind};
 use bus_fcs::Check;
-use bus_line::PlaceLimit;
 use bus_line::laws::{frame_is_spelled, reports_are, reports_grow, settled_places};
 use bus_pairing::Line;
 use bus_watch::{ReportObserver, newest, observe_bits, show};
@@ -95,25 +94,10 @@ impl<C: Check> TwoClockAnalyser<C> {
         reports_are();
         frame_is_spelled();
         arrivals_are();
-        let number = self.second.place();
         let ahead = parted.ahead(from);
         let standing = standing_behind(&self.first, ahead);
-        let scanned = match self
-            .second
-            .scan(parted.second.octets(), from, parted.second.count())
-        {
-            Ok(scanned) => scanned,
-            Err(PlaceLimit) => unreachable!(),
-        };
+        let scanned = scan_noted(&mut self.second, &mut self.places, parted, from, &standing);
         let past = from + scanned.count;
-        let opening = opening(&self.second, scanned.event);
-        note_bits(
-            &mut self.places,
-            number,
-            &parted.before[from..past],
-            opening,
-            &standing,
-        );
         observe_bits(
             &mut self.first,
             &mut self.conversation,

@@ -4,10 +4,12 @@ ghost use Rattle.std.specs.Prelude.{◌≡◌, ◌+◌, ◌-◌, ◌<◌, ◌≤
 ghost use Rattle.bus_bits.specs.Limits.{most_places};
 ghost use Rattle.bus_line.specs.After.{After};
 ghost use Rattle.bus_watch.specs.Internal.Decodes.{Stands};
-ghost use Rattle.bus_clocks.specs.Internal.Stretch.{NotesMany, Opens, place_after};
+ghost use Rattle.bus_clocks.specs.Internal.Stretch.{NotesMany, Opens, TakesNoted, place_after};
 
+use crate::parted::Parted;
 use bus_fcs::Check;
-use bus_line::{Event, EventKind, LineDecoder};
+use bus_line::laws::reports_are;
+use bus_line::{Consumed, Event, EventKind, LineDecoder, PlaceLimit};
 use bus_tap::BitPlaces;
 use std::cmp::min;
 
@@ -90,4 +92,32 @@ pub(crate) fn note_bits(
         places.note(number + at as u64, false);
         at += 1;
     }
+}
+
+/// The second line takes its bits of a block from this one on, up to the first that decides a report, and the places
+/// of those are noted.
+pub(crate) fn scan_noted<C: Check>(
+    second: &mut LineDecoder<C>,
+    places: &mut BitPlaces,
+    parted: &Parted,
+    from: usize,
+    standing: &Standing,
+) -> Consumed
+    requires some { from < length parted.now.second }
+    requires reached { Stands C.check second.old }
+    requires places { second.old.place + (length parted.now.second - from) ≤ most_places }
+    requires standing { standing.now.origin + standing.now.taken ≤ most_places }
+    ensures { TakesNoted C.check second.old places.old parted.now from standing.now result second.new places.new }
+{
+    reports_are();
+    let number = second.place();
+    let bits = &parted.second;
+    let scanned = match second.scan(bits.octets(), from, bits.count()) {
+        Ok(scanned) => scanned,
+        Err(PlaceLimit) => unreachable!(),
+    };
+    let opening = opening(second, scanned.event);
+    let before = &parted.before[from..from + scanned.count];
+    note_bits(places, number, before, opening, standing);
+    scanned
 }

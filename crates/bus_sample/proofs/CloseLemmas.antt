@@ -5,7 +5,7 @@ use Rattle.bus_text.specs.Pages.{Pages}
 use Rattle.bus_text.specs.Put.{TextStopsAt}
 use Rattle.bus_sample.specs.Recording.{recorded}
 use Rattle.bus_sample.specs.Samples.{HasSize, SamplesBy, IsFrontOf}
-use Rattle.bus_sample.specs.Internal.Runs.{ReadStopsWith}
+use Rattle.bus_sample.specs.Internal.Runs.{RecordingStopsWith}
 use Rattle.bus_sample.specs.declared.reader.SampleRun.{SampleRun}
 use Rattle.bus_sample.specs.declared.fault.SampleFault.{SampleFault}
 use Rattle.bus_sample.specs.declared.fault.SampleFault.TheVariants.{Octets, CutOff, TooMany, Read, ReadsLimit, Write}
@@ -17,7 +17,8 @@ module _ (after start before now : Option (List ℕ)) (run : SampleRun) (size : 
   -- nothing was cut
   pub closed-whole : (fault : SampleFault) → ((sent : ℕ) → fault ≡ Write sent → ⊥) →
       ((text : List ℕ) → Pages start before run.marks.page.text run.marks.page.written text → Appends start now text) →
-      ReadStopsWith after start before run xs (Err fault) → SamplesBy run.options after start now xs (Err fault)
+      RecordingStopsWith after start before run xs (Err fault) →
+      SamplesBy run.options after start now xs (Err fault)
   closed-whole Octets none closed halts = absurd halts
   closed-whole (CutOff octet) none closed ends =
       (size, ends.0, ends.1, ends.2, closed _ ends.3.taken.marks.page)
@@ -30,7 +31,8 @@ module _ (after start before now : Option (List ℕ)) (run : SampleRun) (size : 
   pub closed-cut : (fault : SampleFault) (sent : ℕ) → ((n : ℕ) → fault ≡ Write n → ⊥) →
       ((text : List ℕ) → Pages start before run.marks.page.text run.marks.page.written text →
       TextStopsAt start now text sent) →
-      ReadStopsWith after start before run xs (Err fault) → SamplesBy run.options after start now xs (Err (Write sent))
+      RecordingStopsWith after start before run xs (Err fault) →
+      SamplesBy run.options after start now xs (Err (Write sent))
   closed-cut Octets sent none cut halts = absurd halts
   closed-cut (CutOff octet) sent none cut ends =
       (recorded run.options.form xs, _, whole-front _, inl refl, cut _ ends.3.taken.marks.page)

@@ -10,7 +10,7 @@ use Rattle.std.specs.Io.KnownBytes.{IsAtEnd}
 use Rattle.arrayvec.specs.ArrayVec.{array_vec_len}
 use Rattle.bus_sample.specs.Recording.{recorded, cut_record, size_of}
 use Rattle.bus_sample.specs.Samples.{IsFrontOf}
-use Rattle.bus_sample.specs.Internal.Runs.{HasTaken, HasRead, StopsWith, ReadStopsWith}
+use Rattle.bus_sample.specs.Internal.Runs.{RunAfter, HasRead, StopsWith, RecordingStopsWith}
 use Rattle.bus_sample.specs.declared.options.Form.{Form}
 use Rattle.bus_sample.specs.declared.reader.SampleRun.{SampleRun}
 use Rattle.bus_sample.specs.declared.fault.SampleFault.{SampleFault}
@@ -21,11 +21,11 @@ use Rattle.bus_sample.proofs.RecordLemmas.{recorded-grows}
 pub read-whole : (start now : Option (List ℕ)) (new : SampleRun) (form : Form) (xs ss : List ℕ)
     (r : Result (Unit {0}) SampleFault) → new.options.form ≡ form → recorded form xs ≡ ss → cut_record form xs ≡ [] →
     new.part.items ≡ [] → new.octets ≡ length xs →
-    MatchResult r (λ _. HasTaken start now new ss) (λ fault. StopsWith start now new ss fault) →
+    MatchResult r (λ _. RunAfter start now new ss) (λ fault. StopsWith start now new ss fault) →
     MatchResult r (λ _. HasRead start now new xs) (λ fault. StopsWith start now new (recorded form xs) fault)
 read-whole start now new form xs ss (Ok _) same is none part octets taken = record {
-  taken = subst (λ f. HasTaken start now new (recorded f xs)) (sym same)
-      (subst (λ samples. HasTaken start now new samples) (sym is) taken);
+  taken = subst (λ f. RunAfter start now new (recorded f xs)) (sym same)
+      (subst (λ samples. RunAfter start now new samples) (sym is) taken);
   part = part ∙ (sym none ∙ ap (λ f. cut_record f xs) (sym same));
   octets = octets;
 }
@@ -83,7 +83,7 @@ all-octets i ys all = grind (arith, common_steps)
 -- how the reading ended
 pub halts-finishes : (after start now : Option (List ℕ)) (run : SampleRun) (form : Form) (xs : List ℕ)
     (fault : SampleFault) → run.options.form ≡ form → StopsWith start now run (recorded form xs) fault →
-    ReadStopsWith after start now run xs (Err fault)
+    RecordingStopsWith after start now run xs (Err fault)
 halts-finishes after start now run form xs (Write sent) is halts = rw is halts
 halts-finishes after start now run form xs TooMany is halts = rw is halts
 halts-finishes after start now run form xs Octets is halts = absurd halts
@@ -95,7 +95,7 @@ pub ends-finishes : (after start now : Option (List ℕ)) (run : SampleRun) (xs 
     (r : Result (Unit {0}) SampleFault) → IsAtEnd after → HasRead start now run xs →
     MatchResult r (λ _. array_vec_len run.part ≡ 0)
     (λ fault. (0 < array_vec_len run.part) × (fault ≡ CutOff (run.octets - array_vec_len run.part))) →
-    ReadStopsWith after start now run xs r
+    RecordingStopsWith after start now run xs r
 ends-finishes after start now run xs (Ok _) end read none =
     (end, nothing (cut_record run.options.form xs) (sym (ap length read.part) ∙ none), read)
   where

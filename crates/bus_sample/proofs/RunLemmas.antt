@@ -7,7 +7,7 @@ use Rattle.bus_tap.specs.Tapped.{TapState, AdvancesTap, IsTapAfter, channels}
 use Rattle.bus_tap.specs.declared.sampler.Edges.{Edges}
 use Rattle.bus_sample.specs.Recording.{levels, arrivals}
 use Rattle.bus_sample.specs.Samples.{IsFrontOf}
-use Rattle.bus_sample.specs.Internal.Runs.{HasTaken, HasMarked}
+use Rattle.bus_sample.specs.Internal.Runs.{RunAfter, HasMarked}
 use Rattle.bus_sample.specs.declared.reader.SampleRun.{SampleRun}
 use Rattle.bus_sample.specs.declared.options.SampleOptions.{SampleOptions}
 
@@ -39,10 +39,10 @@ module _ (o : SampleOptions) (old new : TapState) (ss : List ℕ) (n s l : ℕ) 
 -- and the text that was put
 pub taken-more : (start before now : Option (List ℕ)) (run new : SampleRun) (ss : List ℕ) (n s l : ℕ) (e : Edges) →
     run.tap.hold ≡ run.options.hold → l ≡ channels run.options.wires s →
-    AdvancesTap run.tap (replicate n l) (bits_of_edges e) new.tap → HasTaken start before run ss →
+    AdvancesTap run.tap (replicate n l) (bits_of_edges e) new.tap → RunAfter start before run ss →
     new.options ≡ run.options →
     HasMarked start now new.marks (arrivals run.options ss ++ bits_of_edges e) →
-    HasTaken start now new (ss ++ replicate n s)
+    RunAfter start now new (ss ++ replicate n s)
 taken-more start before now run new ss n s l e hold is advances taken same marked =
     rw same (record {
       tap = tap-more run.options run.tap new.tap ss n s l e hold is advances taken.tap;

@@ -18,8 +18,8 @@ Tells true (Ok facts) start now status =
     × Appends start now (take sent (facts_text facts)))
 
 -- a recording was sampled, as was asked: what the reader gave before and after, and what both writers had and have
-abbrev pub Executes : Request → Option (List ℕ) → Option (List ℕ) → Option (List ℕ) → Option (List ℕ)
+abbrev pub ExecutesSampling : Request → Option (List ℕ) → Option (List ℕ) → Option (List ℕ) → Option (List ℕ)
     → Option (List ℕ) → Option (List ℕ) → ℕ → Type 0
-Executes request before after start now told telling status =
+ExecutesSampling request before after start now told telling status =
     (xs : List ℕ) × (answer : Result TapFacts SampleFault) × Consumes before after xs
     × SamplesBy request.options after start now xs answer × Tells request.tells_facts answer told telling status

@@ -1,7 +1,7 @@
 //! The program.
 
 ghost use Rattle.std.specs.Prelude.{◌≡◌, ◌^◌, ◌⊎◌};
-ghost use Rattle.bus_sample.specs.Executes.{Executes, Tells};
+ghost use Rattle.bus_sample.specs.Executes.{ExecutesSampling, Tells};
 ghost use Rattle.bus_sample.specs.declared.arguments.Request.{Request};
 
 use crate::arguments::{Refusal, Request, read_arguments};
@@ -33,7 +33,7 @@ pub fn run<R: Read, W: Write, E: Write>(
 ) -> u8
     ensures status { (result ≡ 0) ⊎ (result ≡ 2) }
     ensures executes { ((request : Request) × (request.options.reads ≡ 2 ^ 40)
-        × Executes request (R.remaining r.old) (R.remaining r.new) (W.contents w.old) (W.contents w.new)
+        × ExecutesSampling request (R.remaining r.old) (R.remaining r.new) (W.contents w.old) (W.contents w.new)
         (E.contents e.old) (E.contents e.new) result)
         ⊎ (R.remaining r.new ≡ R.remaining r.old) }
 {
@@ -46,7 +46,7 @@ pub fn run<R: Read, W: Write, E: Write>(
 /// Does what is asked for, and returns the status.
 fn execute<R: Read, W: Write, E: Write>(request: &Request, r: &mut R, w: &mut W, e: &mut E) -> u8
     ensures status { (result ≡ 0) ⊎ (result ≡ 2) }
-    ensures executes { Executes request.now (R.remaining r.old) (R.remaining r.new) (W.contents w.old)
+    ensures executes { ExecutesSampling request.now (R.remaining r.old) (R.remaining r.new) (W.contents w.old)
         (W.contents w.new) (E.contents e.old) (E.contents e.new) result }
 {
     let answer = sample_recording(&request.options, r, w);

@@ -4,9 +4,11 @@ ghost use Rattle.std.specs.Prelude.{◌≡◌, ◌+◌, ◌-◌, ◌<◌, ◌≤
 ghost use Rattle.std.specs.Prelude.{OnOk, IfOk};
 ghost use Rattle.std.specs.Prelude.{length, replicate, take, slice_index, IsTrue, ◌↔◌, Ok, Err};
 ghost use Rattle.std.specs.Io.KnownBytes.{Consumes};
+ghost use Rattle.bus_tap.specs.Tapped.{channels};
 ghost use Rattle.bus_sample.specs.Recording.{recorded, run_of, size_of};
 ghost use Rattle.bus_sample.specs.Samples.{HasSize, SamplesBy};
-ghost use Rattle.bus_sample.specs.Internal.Runs.{HasTaken, HasRead, StopsWith, ReadStopsWith, IsSameRecord, IsSound};
+ghost use Rattle.bus_sample.specs.Internal.Runs.{RunAfter, HasRead, StopsWith, RecordingStopsWith};
+ghost use Rattle.bus_sample.specs.Internal.Runs.{IsSameRecord, IsSoundRun};
 ghost use Rattle.bus_sample.specs.declared.options.Form.TheVariants.{Samples};
 ghost use Rattle.bus_sample.specs.declared.fault.SampleFault.TheVariants.{Octets, CutOff, Write};
 ghost use Rattle.arrayvec.specs.ArrayVec.{array_vec_len};
@@ -16,7 +18,7 @@ use crate::marks::Marks;
 use crate::octets::alike;
 use crate::options::{Form, SampleOptions};
 use arrayvec::ArrayVec;
-use bus_tap::{Tap, TapFacts, number_of};
+use bus_tap::{Tap, TapFacts, Wires, number_of};
 use std::io::{Read, Write};
 
 /// How many octets are asked for at once.
@@ -26,6 +28,8 @@ const ROOM: usize = 65536;
 #[derive(Drop)]
 pub(crate) struct SampleRun {
     options: SampleOptions,
+    /// The levels of each sample of an octet.
+    levels: [u8; 256],
     pub(crate) tap: Tap,
     pub(crate) marks: Marks,
     /// The octets of a record that is not whole yet.
@@ -41,6 +45,17 @@ fn is_cut(fault: &SampleFault) -> bool
     matches!(fault, SampleFault::Write(_))
 }
 
+/// The levels of each sample of an octet.
+fn levels_of(wires: &Wires) -> [u8; 256]
+    ensures { (sample : ℕ) → sample < 256 → slice_index result sample ≡ channels wires.now sample }
+{
+    let mut levels = [0; 256];
+    for sample in 0..256usize {
+        levels[sample] = wires.channels(sample as u64);
+    }
+    levels
+}
+
 impl SampleRun {
     /// Before the first octet.
     pub(crate) fn new(options: &SampleOptions) -> Result<Self, SampleFault>
@@ -48,13 +63,14 @@ impl SampleRun {
             (λ fault. (fault ≡ Octets) × ((size_of options.now.form < 1) ⊎ (8 < size_of options.now.form))) }
         ensures fresh { IfOk result (λ run. (start : Option (List ℕ)) → HasRead start start run []) }
         ensures given { IfOk result (λ run. (run.options ≡ options.now) × (run.octets ≡ 0)) }
-        ensures sound { IfOk result IsSound }
+        ensures sound { IfOk result IsSoundRun }
     {
         if options.form.size() < 1 || options.form.size() > 8 {
             return Err(SampleFault::Octets);
         }
         Ok(SampleRun {
             options: *options,
+            levels: levels_of(&options.wires),
             tap: Tap::new(options.hold, options.jump),
             marks: Marks::new(),
             part: ArrayVec::new(),
@@ -62,23 +78,23 @@ impl SampleRun {
         })
     }
 
-    /// Takes some of these samples with the same levels, up to those that bring bits, and puts these. Returns how many.
+    /// Takes some samples with these levels, up to those that bring bits, and puts these. Returns how many.
     fn consume_some<W: Write>(
         &mut self,
-        sample: u64,
+        levels: u8,
         count: u64,
         w: &mut W,
     ) -> Result<u64, SampleFault>
-        requires sound { IsSound self.old }
+        requires sound { IsSoundRun self.old }
         requires some { 1 ≤ count }
-        ensures taken { (start : Option (List ℕ)) (ss : List ℕ) → HasTaken start (W.contents w.old) self.old ss →
-            MatchResult result (λ n. HasTaken start (W.contents w.new) self.new (ss ++ replicate n sample))
+        ensures taken { (sample : ℕ) → levels ≡ channels self.old.options.wires sample →
+            (start : Option (List ℕ)) (ss : List ℕ) → RunAfter start (W.contents w.old) self.old ss →
+            MatchResult result (λ n. RunAfter start (W.contents w.new) self.new (ss ++ replicate n sample))
             (λ fault. StopsWith start (W.contents w.new) self.new (ss ++ replicate count sample) fault) }
         ensures count { IfOk result (λ n. (1 ≤ n) × (n ≤ count)) }
         ensures same { IsSameRecord self.old self.new }
-        ensures sound { IsSound self.new }
+        ensures sound { IsSoundRun self.new }
     {
-        let levels = self.options.wires.channels(sample);
         let taken = match self.tap.consume(levels, count) {
             Ok(taken) => taken,
             Err(_) => return Err(SampleFault::TooMany),
@@ -92,46 +108,53 @@ impl SampleRun {
         }
     }
 
-    /// Takes samples with the same levels, and puts the bits that arrive.
+    /// Takes samples with these levels, and puts the bits that arrive.
     fn consume_run<W: Write>(
         &mut self,
-        sample: u64,
+        levels: u8,
         count: u64,
         w: &mut W,
     ) -> Result<(), SampleFault>
-        requires { IsSound self.old }
-        ensures taken { (start : Option (List ℕ)) (ss : List ℕ) → HasTaken start (W.contents w.old) self.old ss →
-            MatchResult result (λ _. HasTaken start (W.contents w.new) self.new (ss ++ replicate count sample))
+        requires { IsSoundRun self.old }
+        ensures taken { (sample : ℕ) → levels ≡ channels self.old.options.wires sample →
+            (start : Option (List ℕ)) (ss : List ℕ) → RunAfter start (W.contents w.old) self.old ss →
+            MatchResult result (λ _. RunAfter start (W.contents w.new) self.new (ss ++ replicate count sample))
             (λ fault. StopsWith start (W.contents w.new) self.new (ss ++ replicate count sample) fault) }
         ensures same { IsSameRecord self.old self.new }
-        ensures sound { IsSound self.new }
+        ensures sound { IsSoundRun self.new }
     {
         let mut left = count;
         while left > 0 {
-            left -= self.consume_some(sample, left, w)?;
+            left -= self.consume_some(levels, left, w)?;
         }
         Ok(())
     }
 
     /// Takes what a record says.
     fn consume_record<W: Write>(&mut self, number: u64, w: &mut W) -> Result<(), SampleFault>
-        requires { IsSound self.old }
-        ensures taken { (start : Option (List ℕ)) (ss : List ℕ) → HasTaken start (W.contents w.old) self.old ss →
+        requires { IsSoundRun self.old }
+        ensures taken { (start : Option (List ℕ)) (ss : List ℕ) → RunAfter start (W.contents w.old) self.old ss →
             MatchResult result
-            (λ _. HasTaken start (W.contents w.new) self.new (ss ++ run_of self.old.options.form number))
+            (λ _. RunAfter start (W.contents w.new) self.new (ss ++ run_of self.old.options.form number))
             (λ fault. StopsWith start (W.contents w.new) self.new (ss ++ run_of self.old.options.form number) fault) }
         ensures same { IsSameRecord self.old self.new }
-        ensures sound { IsSound self.new }
+        ensures sound { IsSoundRun self.new }
     {
         match self.options.form {
-            Form::Samples { .. } => self.consume_run(number, 1, w),
-            Form::Runs => self.consume_run(number % 256, number / 256, w),
+            Form::Samples { .. } => {
+                let levels = self.options.wires.channels(number);
+                self.consume_run(levels, 1, w)
+            }
+            Form::Runs => {
+                let levels = self.options.wires.channels(number % 256);
+                self.consume_run(levels, number / 256, w)
+            }
         }
     }
 
     /// Takes the next octet.
     fn consume_octet<W: Write>(&mut self, octet: u8, w: &mut W) -> Result<(), SampleFault>
-        requires sound { IsSound self.old }
+        requires sound { IsSoundRun self.old }
         requires few { self.old.octets < 2 ^ 100 }
         ensures read { (start : Option (List ℕ)) (xs : List ℕ) → HasRead start (W.contents w.old) self.old xs →
             MatchResult result (λ _. HasRead start (W.contents w.new) self.new (xs ++ octet ∷ []))
@@ -139,7 +162,7 @@ impl SampleRun {
             fault) }
         ensures octets { self.new.octets ≡ self.old.octets + 1 }
         ensures options { self.new.options ≡ self.old.options }
-        ensures sound { IsSound self.new }
+        ensures sound { IsSoundRun self.new }
     {
         self.octets += 1;
         self.part.push(octet);
@@ -153,7 +176,7 @@ impl SampleRun {
 
     /// Takes some octets, up to the first fault.
     fn consume_octets<W: Write>(&mut self, octets: &[u8], w: &mut W) -> Result<(), SampleFault>
-        requires sound { IsSound self.old }
+        requires sound { IsSoundRun self.old }
         requires few { self.old.octets + length octets.now < 2 ^ 100 }
         ensures read { (start : Option (List ℕ)) (xs : List ℕ) → HasRead start (W.contents w.old) self.old xs →
             MatchResult result (λ _. HasRead start (W.contents w.new) self.new (xs ++ octets.now))
@@ -161,7 +184,7 @@ impl SampleRun {
             fault) }
         ensures octets { OnOk result (self.new.octets ≡ self.old.octets + length octets.now) }
         ensures options { self.new.options ≡ self.old.options }
-        ensures sound { IsSound self.new }
+        ensures sound { IsSoundRun self.new }
     {
         if self.options.form == (Form::Samples { octets: 1 }) {
             return self.consume_samples(octets, w);
@@ -175,7 +198,7 @@ impl SampleRun {
     /// Takes some samples of an octet each, up to the first fault.
     fn consume_samples<W: Write>(&mut self, octets: &[u8], w: &mut W) -> Result<(), SampleFault>
         requires form { self.old.options.form ≡ Samples 1 }
-        requires sound { IsSound self.old }
+        requires sound { IsSoundRun self.old }
         requires few { self.old.octets + length octets.now < 2 ^ 100 }
         ensures read { (start : Option (List ℕ)) (xs : List ℕ) → HasRead start (W.contents w.old) self.old xs →
             MatchResult result (λ _. HasRead start (W.contents w.new) self.new (xs ++ octets.now))
@@ -183,7 +206,7 @@ impl SampleRun {
             fault) }
         ensures octets { OnOk result (self.new.octets ≡ self.old.octets + length octets.now) }
         ensures options { self.new.options ≡ self.old.options }
-        ensures sound { IsSound self.new }
+        ensures sound { IsSoundRun self.new }
     {
         let mut at = 0;
         while at < octets.len() {
@@ -202,7 +225,7 @@ impl SampleRun {
         w: &mut W,
     ) -> Result<(), SampleFault>
         requires form { self.old.options.form ≡ Samples 1 }
-        requires sound { IsSound self.old }
+        requires sound { IsSoundRun self.old }
         requires few { self.old.octets + count < 2 ^ 100 }
         ensures read { (start : Option (List ℕ)) (xs : List ℕ) → HasRead start (W.contents w.old) self.old xs →
             MatchResult result (λ _. HasRead start (W.contents w.new) self.new (xs ++ replicate count octet))
@@ -210,15 +233,16 @@ impl SampleRun {
             (recorded self.old.options.form (xs ++ replicate count octet)) fault) }
         ensures octets { self.new.octets ≡ self.old.octets + count }
         ensures options { self.new.options ≡ self.old.options }
-        ensures sound { IsSound self.new }
+        ensures sound { IsSoundRun self.new }
     {
         self.octets += count as u128;
-        self.consume_run(u64::from(octet), count as u64, w)
+        let levels = self.levels[usize::from(octet)];
+        self.consume_run(levels, count as u64, w)
     }
 
     /// Takes what one read gave, and writes its text.
     fn consume_read<W: Write>(&mut self, octets: &[u8], w: &mut W) -> Result<(), SampleFault>
-        requires sound { IsSound self.old }
+        requires sound { IsSoundRun self.old }
         requires few { self.old.octets + length octets.now < 2 ^ 100 }
         ensures read { (start : Option (List ℕ)) (xs : List ℕ) → HasRead start (W.contents w.old) self.old xs →
             MatchResult result (λ _. HasRead start (W.contents w.new) self.new (xs ++ octets.now))
@@ -226,7 +250,7 @@ impl SampleRun {
             fault) }
         ensures octets { OnOk result (self.new.octets ≡ self.old.octets + length octets.now) }
         ensures options { self.new.options ≡ self.old.options }
-        ensures sound { IsSound self.new }
+        ensures sound { IsSoundRun self.new }
     {
         self.consume_octets(octets, w)?;
         match self.marks.page.write_out(w) {
@@ -254,13 +278,13 @@ impl SampleRun {
         r: &mut R,
         w: &mut W,
     ) -> Result<(), SampleFault>
-        requires sound { IsSound self.old }
+        requires sound { IsSoundRun self.old }
         requires fresh { (start : Option (List ℕ)) → HasRead start start self.old [] }
         requires none { self.old.octets ≡ 0 }
         ensures read { (xs : List ℕ) × Consumes (R.remaining r.old) (R.remaining r.new) xs
-            × ReadStopsWith (R.remaining r.new) (W.contents w.old) (W.contents w.new) self.new xs result }
+            × RecordingStopsWith (R.remaining r.new) (W.contents w.old) (W.contents w.new) self.new xs result }
         ensures options { self.new.options ≡ self.old.options }
-        ensures sound { IsSound self.new }
+        ensures sound { IsSoundRun self.new }
     {
         let mut buffer = [0; ROOM];
         for _turn in 0..self.options.reads {
@@ -276,9 +300,9 @@ impl SampleRun {
 
     /// Ends the text, writes it and flushes. Returns what was counted.
     pub(crate) fn end<W: Write>(&mut self, w: &mut W) -> Result<TapFacts, SampleFault>
-        requires { IsSound self.old }
+        requires { IsSoundRun self.old }
         ensures { (after start : Option (List ℕ)) (xs : List ℕ) →
-            ReadStopsWith after start (W.contents w.old) self.old xs (Ok tt)
+            RecordingStopsWith after start (W.contents w.old) self.old xs (Ok tt)
             → SamplesBy self.old.options after start (W.contents w.new) xs result }
     {
         match self.marks.end(w) {
@@ -289,9 +313,9 @@ impl SampleRun {
 
     /// Writes the text so far and flushes, unless a write failed. Returns how the whole ended.
     pub(crate) fn close_behind<W: Write>(&mut self, fault: SampleFault, w: &mut W) -> SampleFault
-        requires { IsSound self.old }
+        requires { IsSoundRun self.old }
         ensures { (after start : Option (List ℕ)) (xs : List ℕ) →
-            ReadStopsWith after start (W.contents w.old) self.old xs (Err fault)
+            RecordingStopsWith after start (W.contents w.old) self.old xs (Err fault)
             → SamplesBy self.old.options after start (W.contents w.new) xs (Err result) }
     {
         if is_cut(&fault) {

@@ -6,7 +6,7 @@ use Rattle.std.specs.Int.{abs_diff}
 use Rattle.std.proofs.lemmas.List.{get_or_append_left}
 use Rattle.std.proofs.Math.Seq.{get_or-append_seam}
 use Rattle.std.proofs.lemmas.Bool.{cases_lt}
-use Rattle.bus_tap.specs.Facts.{IsTallied, IsLongest, step, is_jump, jumps}
+use Rattle.bus_tap.specs.Facts.{IsTallied, IsLongest, spacing, is_jump, jumps}
 use Rattle.bus_tap.specs.Internal.Tallies.{where_is}
 use Rattle.bus_tap.specs.declared.facts.Occurrences.{Occurrences}
 use Rattle.bus_tap.specs.declared.facts.Gap.{Gap}
@@ -44,17 +44,17 @@ module _ (es : List ℕ) (s : ℕ) where
     last = last ∙ sym (last-at (length (es ++ s ∷ []) - 1) (omega (arith, length-more es s)));
   }
 
-  pub step-front : (k : ℕ) → k < length es → step (es ++ s ∷ []) k ≡ step es k
-  step-front k inside = rw (front-same k inside, front-same (k - 1) (omega (arith, inside))) refl
+  pub spacing-front : (k : ℕ) → k < length es → spacing (es ++ s ∷ []) k ≡ spacing es k
+  spacing-front k inside = rw (front-same k inside, front-same (k - 1) (omega (arith, inside))) refl
 
-  pub step-last : (k : ℕ) → k ≡ length es → 1 ≤ k → step (es ++ s ∷ []) k ≡ s - slice_index es (length es - 1)
-  step-last k is some =
+  pub spacing-last : (k : ℕ) → k ≡ length es → 1 ≤ k → spacing (es ++ s ∷ []) k ≡ s - slice_index es (length es - 1)
+  spacing-last k is some =
       rw (last-at k is, front-same (k - 1) (omega (arith, is, some)), is) refl
 
-  pub step-first : length es ≡ 0 → step (es ++ s ∷ []) (length es) ≡ 0
-  step-first none = rw none (omega arith)
+  pub spacing-first : length es ≡ 0 → spacing (es ++ s ∷ []) (length es) ≡ 0
+  spacing-first none = rw none (omega arith)
 
-  -- the longest step, which stays or is the last one
+  -- the longest spacing, which stays or is the last one
   pub longest-first : (g : Gap) → length es ≡ 0 → IsLongest g es → IsLongest g (es ++ s ∷ [])
   longest-first g none (inl (few, from, len)) = inl (omega (arith, none, length-more es s), from, len)
   longest-first g none (inr (k, at)) = absurd (omega (arith, none, at.inside))
@@ -68,12 +68,12 @@ module _ (es : List ℕ) (s : ℕ) where
       some = at.some;
       inside = omega (arith, at.inside, length-more es s);
       from = at.from ∙ sym (front-same (k - 1) (omega (arith, at.inside)));
-      reaches = at.reaches ∙ sym (step-front k at.inside);
-      first = λ j some before. rw (step-front j (omega (arith, before, at.inside))) (at.first j some before);
+      reaches = at.reaches ∙ sym (spacing-front k at.inside);
+      first = λ j some before. rw (spacing-front j (omega (arith, before, at.inside))) (at.first j some before);
       longest = λ j some inside. elim (cases_lt j (length es)) [
-        | inl before ↦ rw (step-front j before) (at.longest j some before)
+        | inl before ↦ rw (spacing-front j before) (at.longest j some before)
         | inr last ↦
-            rw (step-last j (omega (arith, inside, last, length-more es s)) some) less
+            rw (spacing-last j (omega (arith, inside, last, length-more es s)) some) less
       ];
     },
   )
@@ -88,19 +88,19 @@ module _ (es : List ℕ) (s : ℕ) where
       some = some;
       inside = omega (arith, length-more es s);
       from = from ∙ sym (front-same (length es - 1) (omega (arith, some)));
-      reaches = len ∙ sym (step-last (length es) refl some);
-      first = λ j one before. rw (step-front j before, len) (shorter j one before old);
+      reaches = len ∙ sym (spacing-last (length es) refl some);
+      first = λ j one before. rw (spacing-front j before, len) (shorter j one before old);
       longest = λ j one inside. elim (cases_lt j (length es)) [
         | inl before ↦
-            (let less : step es j < s - slice_index es (length es - 1) = shorter j one before old in
-            rw (step-front j before, len) (omega (arith, less)))
+            (let less : spacing es j < s - slice_index es (length es - 1) = shorter j one before old in
+            rw (spacing-front j before, len) (omega (arith, less)))
         | inr last ↦
-            rw (step-last j (omega (arith, inside, last, length-more es s)) one, len) (omega arith)
+            rw (spacing-last j (omega (arith, inside, last, length-more es s)) one, len) (omega arith)
       ];
     },
   )
     where
-      shorter : (j : ℕ) → 1 ≤ j → j < length es → IsLongest g es → step es j < s - slice_index es (length es - 1)
+      shorter : (j : ℕ) → 1 ≤ j → j < length es → IsLongest g es → spacing es j < s - slice_index es (length es - 1)
       shorter j one before (inl (few, from, len)) = absurd (omega (arith, one, before, few))
       shorter j one before (inr (k, at)) =
           omega (arith, at.longest j one before, more (omega (arith, one, before)))
@@ -112,8 +112,8 @@ module _ (es : List ℕ) (s : ℕ) where
       each-more (λ k. if is_jump most (es ++ s ∷ []) k then slice_index (es ++ s ∷ []) k ∷ [] else [])
       (λ k. if is_jump most es k then slice_index es k ∷ [] else []) es s
       (λ k inside. rw (
-        step-front k inside,
-        step-front (k - 1) (omega (arith, inside)),
+        spacing-front k inside,
+        spacing-front (k - 1) (omega (arith, inside)),
         front-same k inside,
       ) refl)
       ∙ ap (λ e. jumps most es ++ (if is_jump most (es ++ s ∷ []) (length es) then e ∷ [] else [])) last-more
@@ -127,28 +127,25 @@ module _ (es : List ℕ) (s : ℕ) where
       none = grind (arith, few)
 
   pub is-jump-at : (most : ℕ) → 2 ≤ length es → is_jump most (es ++ s ∷ []) (length es)
-      ≡ nat_lt most (abs_diff (s - slice_index es (length es - 1)) (step es (length es - 1)))
+      ≡ nat_lt most (abs_diff (s - slice_index es (length es - 1)) (spacing es (length es - 1)))
   is-jump-at most two =
-      ap (λ b. b && nat_lt most (abs_diff (step (es ++ s ∷ []) (length es)) (step (es ++ s ∷ []) (length es - 1)))) some
-      ∙ rw (step-last (length es) refl (omega (arith, two)), step-front (length es - 1) (omega (arith, two))) refl
+      ap (λ b. b && nat_lt most (abs_diff (spacing (es ++ s ∷ []) (length es))
+      (spacing (es ++ s ∷ []) (length es - 1)))) some
+      ∙ rw (spacing-last (length es) refl (omega (arith, two)), spacing-front (length es - 1) (omega (arith, two))) refl
     where
       some : nat_le 2 (length es) ≡ true
       some = grind (arith, two)
 
-  -- the step to it and the step before decide
+  -- the spacing before it and that before decide
   pub jumps-at : (o : Occurrences) (most last before : ℕ) → 2 ≤ length es → last ≡ slice_index es (length es - 1)
-      → before ≡ step es (length es - 1)
+      → before ≡ spacing es (length es - 1)
       → IsTallied o (jumps most es ++ where_is (nat_lt most (abs_diff (s - last) before)) s)
       → IsTallied o (jumps most (es ++ s ∷ []))
   jumps-at o most last before two is was tallied =
       subst (IsTallied o) (sym (jumps-more most
       ∙ ap (λ b. jumps most es ++ where_is b s) (is-jump-at most two
-      ∙ (ap (λ x. nat_lt most (abs_diff (s - x) (step es (length es - 1)))) (sym is)
+      ∙ (ap (λ x. nat_lt most (abs_diff (s - x) (spacing es (length es - 1)))) (sym is)
       ∙ ap (λ x. nat_lt most (abs_diff (s - last) x)) (sym was))))) tallied
-
--- no facts of no samples
-pub tallied-none : (o : Occurrences) → o.count ≡ 0 → o.first ≡ 0 → o.last ≡ 0 → IsTallied o []
-tallied-none o count first last = record { count = count; first = first; last = last }
 
 pub length-less : (es : List ℕ) (s : ℕ) → length (es ++ s ∷ []) - 1 ≡ length es
 length-less es s = omega (arith, length-more es s)

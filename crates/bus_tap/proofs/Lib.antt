@@ -10,3 +10,4 @@ pub mod SameSampleLemmas
 pub mod CountedLemmas
 pub mod FactsLemmas
 pub mod TapLemmas
+pub mod HeldLemmas

@@ -10,7 +10,7 @@ use Rattle.bus_tap.specs.Facts.{AreFacts, AreFactsOf, AreLevels, places_where, c
 use Rattle.bus_tap.specs.Sampled.{Channel, clock_of, data_of, counted_level, rises, sampled}
 use Rattle.bus_tap.specs.Sampled.{SamplerState, HeldState, IsHeldAfter, IsAfterSamples, edge}
 use Rattle.bus_tap.specs.Internal.Tallies.{where_is}
-use Rattle.bus_tap.specs.Internal.Held.{IsHeldAt, IsSettled, next_state, clock_state, data_state}
+use Rattle.bus_tap.specs.Internal.Held.{IsHeldAt, AreHeldAt, next_state, held_clock, held_data}
 use Rattle.std.specs.Prelude.{Option, MatchOption}
 use Rattle.bus_tap.specs.Arrival.{Arrival}
 use Rattle.bus_tap.specs.Tapped.{TapState, AdvancesTap}
@@ -123,32 +123,50 @@ same-next hold channel h s is = rw is (cases (channel s))
     cases true = refl
     cases false = refl
 
-module _ (hold : ℕ) (sampler : SamplerState) (s : ℕ) (of : sampler.hold ≡ hold) (settled : IsSettled sampler s) where
-  stays : (channel : Channel) (h : HeldState) (ss : List ℕ) → IsHeldAt channel h s
-      → IsHeldAfter sampler.hold channel h ss → IsHeldAfter sampler.hold channel h (ss ++ s ∷ [])
-  stays channel h ss is after =
-      subst (λ x. IsHeldAfter sampler.hold channel x (ss ++ s ∷ [])) (same-next sampler.hold channel h s is)
-      (held-more sampler.hold channel h ss s after)
+stays : (hold : ℕ) (channel : Channel) (h : HeldState) (ss : List ℕ) (s : ℕ) → IsHeldAt channel h s →
+    IsHeldAfter hold channel h ss → IsHeldAfter hold channel h (ss ++ s ∷ [])
+stays hold channel h ss s is after =
+    subst (λ x. IsHeldAfter hold channel x (ss ++ s ∷ [])) (same-next hold channel h s is)
+    (held-more hold channel h ss s after)
 
-  pub sampler-stays : (ss : List ℕ) → IsAfterSamples sampler ss → IsAfterSamples sampler (ss ++ s ∷ [])
-  sampler-stays ss after = record {
-    first_clock = stays (clock_of First) sampler.first_clock ss settled.first_clock after.first_clock;
-    first_bits = stays (data_of First) sampler.first_bits ss settled.first_bits after.first_bits;
-    second_clock = stays (clock_of Second) sampler.second_clock ss settled.second_clock after.second_clock;
-    second_bits = stays (data_of Second) sampler.second_bits ss settled.second_bits after.second_bits;
-  }
+sampler-stays : (sampler : SamplerState) (s : ℕ) → AreHeldAt sampler s → (ss : List ℕ) → IsAfterSamples sampler ss →
+    IsAfterSamples sampler (ss ++ s ∷ [])
+sampler-stays sampler s settled ss after = record {
+  first_clock = stays sampler.hold (clock_of First) _ ss s settled.first_clock after.first_clock;
+  first_bits = stays sampler.hold (data_of First) _ ss s settled.first_bits after.first_bits;
+  second_clock = stays sampler.hold (clock_of Second) _ ss s settled.second_clock after.second_clock;
+  second_bits = stays sampler.hold (data_of Second) _ ss s settled.second_bits after.second_bits;
+}
 
-  -- and its level counts before the sample and at it
-  level-stays : (channel : Channel) (h : HeldState) (ss : List ℕ) → IsHeldAfter sampler.hold channel h ss →
-      IsHeldAfter sampler.hold channel h (ss ++ s ∷ []) →
+-- a sampler with a sample more, which changes no level that counts
+pub record KeepsLevels (old new : SamplerState) : Type 0 where
+  pub hold : new.hold ≡ old.hold
+  pub clock : (line : Line) → (held_clock new line).level ≡ (held_clock old line).level
+  pub bits : (line : Line) → (held_data new line).level ≡ (held_data old line).level
+
+held-of-clock : (sampler : SamplerState) (line : Line) (ss : List ℕ) → IsAfterSamples sampler ss →
+    IsHeldAfter sampler.hold (clock_of line) (held_clock sampler line) ss
+held-of-clock sampler First ss after = after.first_clock
+held-of-clock sampler Second ss after = after.second_clock
+
+held-of-data : (sampler : SamplerState) (line : Line) (ss : List ℕ) → IsAfterSamples sampler ss →
+    IsHeldAfter sampler.hold (data_of line) (held_data sampler line) ss
+held-of-data sampler First ss after = after.first_bits
+held-of-data sampler Second ss after = after.second_bits
+
+module _ (hold : ℕ) (old new : SamplerState) (s : ℕ) (of : old.hold ≡ hold) (keeps : KeepsLevels old new)
+    (ss : List ℕ) (before : IsAfterSamples old ss) (after : IsAfterSamples new (ss ++ s ∷ [])) where
+  -- the same level counts before the sample and at it
+  level-stays : (channel : Channel) (h k : HeldState) → k.level ≡ h.level → IsHeldAfter old.hold channel h ss →
+      IsHeldAfter new.hold channel k (ss ++ s ∷ []) →
       counted_level hold channel (ss ++ s ∷ []) (length ss - 1) ≡ counted_level hold channel (ss ++ s ∷ []) (length ss)
-  level-stays channel h ss before after =
+  level-stays channel h k same one two =
       let last : length (ss ++ s ∷ []) - 1 ≡ length ss = omega (arith, length-more ss s) in
       ap (λ n. counted_level n channel (ss ++ s ∷ []) (length ss - 1)) (sym of)
-      ∙ (counted-front channel ss (s ∷ []) sampler.hold (length ss - 1) (omega (arith, before.some))
-      ∙ (sym before.counts ∙ (after.counts
-      ∙ (ap (counted_level sampler.hold channel (ss ++ s ∷ [])) last
-      ∙ ap (λ n. counted_level n channel (ss ++ s ∷ []) (length ss)) of))))
+      ∙ (counted-front channel ss (s ∷ []) old.hold (length ss - 1) (omega (arith, one.some))
+      ∙ (sym one.counts ∙ (sym same ∙ (two.counts
+      ∙ (ap (counted_level new.hold channel (ss ++ s ∷ [])) last
+      ∙ ap (λ n. counted_level n channel (ss ++ s ∷ []) (length ss)) (keeps.hold ∙ of))))))
 
   beq-self : (x y : Bool) → x ≡ y → not (beq x y) ≡ false
   beq-self true true same = refl
@@ -161,104 +179,104 @@ module _ (hold : ℕ) (sampler : SamplerState) (s : ℕ) (of : sampler.hold ≡ 
   rise-self false true same = absurd (cc)
   rise-self false false same = refl
 
+  clock-stays : (line : Line) → counted_level hold (clock_of line) (ss ++ s ∷ []) (length ss - 1)
+      ≡ counted_level hold (clock_of line) (ss ++ s ∷ []) (length ss)
+  clock-stays line =
+      level-stays (clock_of line) _ _ (keeps.clock line) (held-of-clock old line ss before)
+      (held-of-clock new line (ss ++ s ∷ []) after)
+
+  data-stays : (line : Line) → counted_level hold (data_of line) (ss ++ s ∷ []) (length ss - 1)
+      ≡ counted_level hold (data_of line) (ss ++ s ∷ []) (length ss)
+  data-stays line =
+      level-stays (data_of line) _ _ (keeps.bits line) (held-of-data old line ss before)
+      (held-of-data new line (ss ++ s ∷ []) after)
+
   -- so nothing is counted, and no bit arrives
-  module _ (ss : List ℕ) (after : IsAfterSamples sampler ss) where
-    abbrev next : IsAfterSamples sampler (ss ++ s ∷ [])
-    next = sampler-stays ss after
+  facts-stay : (jump : ℕ) (line : Line) (f : LineFacts) → AreFacts hold jump line f ss
+      → AreFacts hold jump line f (ss ++ s ∷ [])
+  facts-stay jump line f facts =
+      rw (
+        changes-more hold ss s (clock_of line),
+        changes-more hold ss s (data_of line),
+        high-more hold ss s line,
+        bits-more hold ss s line,
+        beq-self _ _ (clock-stays line),
+        beq-self _ _ (data-stays line),
+        rise-self _ _ (clock-stays line),
+        append-nil (places_where (changes hold (clock_of line) ss) (length ss)),
+        append-nil (places_where (changes hold (data_of line) ss) (length ss)),
+        append-nil (places_where (changes_high hold line ss) (length ss)),
+        append-nil (bit_samples hold line ss),
+      ) facts
 
-    clock-stays : (line : Line) → counted_level hold (clock_of line) (ss ++ s ∷ []) (length ss - 1)
-        ≡ counted_level hold (clock_of line) (ss ++ s ∷ []) (length ss)
-    clock-stays First = level-stays (clock_of First) sampler.first_clock ss after.first_clock next.first_clock
-    clock-stays Second = level-stays (clock_of Second) sampler.second_clock ss after.second_clock next.second_clock
+  no-edge : (line : Line) → edge hold (ss ++ s ∷ []) line (length ss) ≡ []
+  no-edge line = rw (rise-self _ _ (clock-stays line)) refl
 
-    data-stays : (line : Line) → counted_level hold (data_of line) (ss ++ s ∷ []) (length ss - 1)
-        ≡ counted_level hold (data_of line) (ss ++ s ∷ []) (length ss)
-    data-stays First = level-stays (data_of First) sampler.first_bits ss after.first_bits next.first_bits
-    data-stays Second = level-stays (data_of Second) sampler.second_bits ss after.second_bits next.second_bits
+  sampled-stays : sampled hold (ss ++ s ∷ []) ≡ sampled hold ss
+  sampled-stays =
+      sampled-more hold ss s ∙ (ap (λ xs. sampled hold ss ++ xs)
+      (ap (λ xs. xs ++ edge hold (ss ++ s ∷ []) Second (length ss)) (no-edge First) ∙ no-edge Second)
+      ∙ append-nil (sampled hold ss))
 
-    pub facts-stay : (jump : ℕ) (line : Line) (f : LineFacts) → AreFacts hold jump line f ss
-        → AreFacts hold jump line f (ss ++ s ∷ [])
-    facts-stay jump line f facts =
-        rw (
-          changes-more hold ss s (clock_of line),
-          changes-more hold ss s (data_of line),
-          high-more hold ss s line,
-          bits-more hold ss s line,
-          beq-self _ _ (clock-stays line),
-          beq-self _ _ (data-stays line),
-          rise-self _ _ (clock-stays line),
-          append-nil (places_where (changes hold (clock_of line) ss) (length ss)),
-          append-nil (places_where (changes hold (data_of line) ss) (length ss)),
-          append-nil (places_where (changes_high hold line ss) (length ss)),
-          append-nil (bit_samples hold line ss),
-        ) facts
+-- a tap with a sample more that changes no level
+pub passes-one : (t : TapState) (old new : SamplerState) (s : ℕ) → t.sampler ≡ Some old → KeepsLevels old new →
+    ((ss : List ℕ) → IsAfterSamples old ss → IsAfterSamples new (ss ++ s ∷ [])) →
+    (o : Option SamplerState) → o ≡ Some new → (n : ℕ) → n ≡ t.samples + 1 →
+    AdvancesTap t (s ∷ []) [] (record t { sampler = o; samples = n })
+passes-one t old new s is keeps next o so n count = record {
+  hold = refl;
+  jump = refl;
+  samples = count;
+  after = λ ss after.
+      let was = rw is at after.sampler in
+      let now = next ss was.1 in record {
+        samples = omega (arith, count, after.samples, length-more ss s);
+        sampler = rw so (keeps.hold ∙ was.0, now);
+        first = facts-stay t.hold old new s was.0 keeps ss was.1 now t.jump First t.first after.first;
+        second = facts-stay t.hold old new s was.0 keeps ss was.1 now t.jump Second t.second after.second;
+      };
+  sampled = λ ss after.
+      let was = rw is at after.sampler in
+      sampled-stays t.hold old new s was.0 keeps ss was.1 (next ss was.1) ∙ sym (append-nil (sampled t.hold ss));
+}
 
-    no-edge : (line : Line) → edge hold (ss ++ s ∷ []) line (length ss) ≡ []
-    no-edge line = rw (rise-self _ _ (clock-stays line)) refl
-
-    pub sampled-stays : sampled hold (ss ++ s ∷ []) ≡ sampled hold ss
-    sampled-stays =
-        sampled-more hold ss s ∙ (ap (λ xs. sampled hold ss ++ xs)
-        (ap (λ xs. xs ++ edge hold (ss ++ s ∷ []) Second (length ss)) (no-edge First) ∙ no-edge Second)
-        ∙ append-nil (sampled hold ss))
+pub replicate-last : (n s : ℕ) → replicate (suc n) s ≡ replicate n s ++ s ∷ []
+replicate-last n s =
+    let next : suc n ≡ n + 1 = omega arith in
+    ap (λ k. replicate k s) next ∙ replicate-more n s
 
 -- a settled tap passes samples
-pub passes : (t : TapState) (sampler : SamplerState) → t.sampler ≡ Some sampler → (s : ℕ) → IsSettled sampler s →
+passes : (t : TapState) (sampler : SamplerState) → t.sampler ≡ Some sampler → (s : ℕ) → AreHeldAt sampler s →
     (n : ℕ) → AdvancesTap t (replicate n s) [] (record t { samples = t.samples + n })
-passes t sampler is s settled zero = rw (samples-none) (advances-nothing t)
-  where
-    samples-none : t.samples + 0 ≡ t.samples
-    samples-none = omega arith
+passes t sampler is s settled zero =
+    let none : t.samples + 0 ≡ t.samples = omega arith in
+    rw none (advances-nothing t)
 passes t sampler is s settled (suc n) =
-    let next : suc n ≡ n + 1 = omega arith in
-    let more : replicate (suc n) s ≡ replicate n s ++ s ∷ [] =
-    ap (λ k. replicate k s) next ∙ replicate-more n s in
-    rw more
+    rw (replicate-last n s)
     (advances-further t (record t { samples = t.samples + n }) (record t { samples = t.samples + suc n })
-    (replicate n s) (s ∷ []) [] [] (passes t sampler is s settled n) (record {
-      hold = refl;
-      jump = refl;
-      samples = omega arith;
-      after = λ ss after.
-          let old = rw is at after.sampler in record {
-            samples = omega (arith, after.samples, length-more ss s);
-            sampler = rw is (old.0, sampler-stays t.hold sampler s old.0 settled ss old.1);
-            first = facts-stay t.hold sampler s old.0 settled ss old.1 t.jump First t.first after.first;
-            second = facts-stay t.hold sampler s old.0 settled ss old.1 t.jump Second t.second after.second;
-          };
-      sampled = λ ss after.
-          let old = rw is at after.sampler in
-          sampled-stays t.hold sampler s old.0 settled ss old.1 ∙ sym (append-nil (sampled t.hold ss));
-    }))
+    (replicate n s) (s ∷ []) [] [] (passes t sampler is s settled n)
+    (passes-one (record t { samples = t.samples + n }) sampler sampler s is
+    (record { hold = refl; clock = λ line. refl; bits = λ line. refl }) (sampler-stays sampler s settled)
+    t.sampler is (t.samples + suc n) (omega arith)))
 
 pub passes-settled : (t : TapState) (o : Option SamplerState) → t.sampler ≡ o → (s : ℕ) →
-    MatchOption o ⊥ (λ x. IsSettled x s) → (n : ℕ) →
+    MatchOption o ⊥ (λ x. AreHeldAt x s) → (n : ℕ) →
     AdvancesTap t (replicate n s) [] (record t { samples = t.samples + n })
 passes-settled t None is s settled n = absurd settled
 passes-settled t (Some sampler) is s settled n = passes t sampler is s settled n
 
 -- the levels that a sampler has are those that count
-held-of-clock : (sampler : SamplerState) (line : Line) (ss : List ℕ) → IsAfterSamples sampler ss →
-    IsHeldAfter sampler.hold (clock_of line) (clock_state sampler line) ss
-held-of-clock sampler First ss after = after.first_clock
-held-of-clock sampler Second ss after = after.second_clock
-
-held-of-data : (sampler : SamplerState) (line : Line) (ss : List ℕ) → IsAfterSamples sampler ss →
-    IsHeldAfter sampler.hold (data_of line) (data_state sampler line) ss
-held-of-data sampler First ss after = after.first_bits
-held-of-data sampler Second ss after = after.second_bits
-
 pub levels-now : (sampler : SamplerState) (line : Line) (ss : List ℕ) (i : ℕ) (l : Levels) → i ≡ length ss - 1 →
-    IsAfterSamples sampler ss → l.clock ≡ (clock_state sampler line).level →
-    l.bits ≡ (data_state sampler line).level → AreLevels sampler.hold line ss i l
+    IsAfterSamples sampler ss → l.clock ≡ (held_clock sampler line).level →
+    l.bits ≡ (held_data sampler line).level → AreLevels sampler.hold line ss i l
 levels-now sampler line ss i l at after clock bits = rw at (record {
   clock = clock ∙ (held-of-clock sampler line ss after).counts;
   bits = bits ∙ (held-of-data sampler line ss after).counts;
 })
 
 pub levels-before : (sampler : SamplerState) (line : Line) (ss : List ℕ) (s : ℕ) (l : Levels) →
-    IsAfterSamples sampler ss → l.clock ≡ (clock_state sampler line).level →
-    l.bits ≡ (data_state sampler line).level → AreLevels sampler.hold line (ss ++ s ∷ []) (length ss - 1) l
+    IsAfterSamples sampler ss → l.clock ≡ (held_clock sampler line).level →
+    l.bits ≡ (held_data sampler line).level → AreLevels sampler.hold line (ss ++ s ∷ []) (length ss - 1) l
 levels-before sampler line ss s l after clock bits =
     let now = levels-now sampler line ss (length ss - 1) l refl after clock bits in
     let inside : length ss - 1 < length ss = omega (arith, (held-of-clock sampler line ss after).some) in record {

@@ -33,14 +33,14 @@ abbrev pub bit_samples : ℕ → Line → List ℕ → List ℕ
 bit_samples hold line ss = places_where (rises hold (clock_of line) ss) (length ss)
 
 -- how far element `k` stands behind the one before
-abbrev pub step : List ℕ → ℕ → ℕ
-step es k = slice_index es k - slice_index es (k - 1)
+abbrev pub spacing : List ℕ → ℕ → ℕ
+spacing es k = slice_index es k - slice_index es (k - 1)
 
--- a step differs by more than `most` from the step before
+-- a spacing differs by more than `most` from that before
 abbrev pub is_jump : ℕ → List ℕ → ℕ → Bool
-is_jump most es k = nat_le 2 k && nat_lt most (abs_diff (step es k) (step es (k - 1)))
+is_jump most es k = nat_le 2 k && nat_lt most (abs_diff (spacing es k) (spacing es (k - 1)))
 
--- the elements to which such steps lead
+-- the elements to which such spacings lead
 abbrev pub jumps : ℕ → List ℕ → List ℕ
 jumps most es = flat_map (λ k. if is_jump most es k then slice_index es k ∷ [] else []) (places (length es))
 
@@ -50,14 +50,14 @@ pub record IsTallied (o : Occurrences) (es : List ℕ) : Type 0 where
   pub first : o.first ≡ slice_index es 0
   pub last : o.last ≡ slice_index es (length es - 1)
 
--- the first of the longest steps is the one to element `k`
+-- the first of the longest spacings is the one to element `k`
 pub record IsLongestAt (g : Gap) (es : List ℕ) (k : ℕ) : Type 0 where
   pub some : 1 ≤ k
   pub inside : k < length es
   pub from : g.from ≡ slice_index es (k - 1)
-  pub reaches : g.length ≡ step es k
-  pub first : (j : ℕ) → 1 ≤ j → j < k → step es j < g.length
-  pub longest : (j : ℕ) → 1 ≤ j → j < length es → step es j ≤ g.length
+  pub reaches : g.length ≡ spacing es k
+  pub first : (j : ℕ) → 1 ≤ j → j < k → spacing es j < g.length
+  pub longest : (j : ℕ) → 1 ≤ j → j < length es → spacing es j ≤ g.length
 
 -- the first of the longest steps, or nothing where there is none
 abbrev pub IsLongest : Gap → List ℕ → Type 0
@@ -72,7 +72,7 @@ pub record AreFactsOf (jump : ℕ) (f : LineFacts) (cs ls hs bs : List ℕ) : Ty
   pub bits : IsTallied f.bits bs
   pub gap : IsLongest f.gap bs
   pub jumps : IsTallied f.jumps (jumps jump bs)
-  pub step : f.step ≡ step bs (length bs - 1)
+  pub step : f.step ≡ spacing bs (length bs - 1)
 
 -- the facts of a line in these samples
 abbrev pub AreFacts : ℕ → ℕ → Line → LineFacts → List ℕ → Type 0

@@ -1,10 +1,11 @@
 //! What is counted in samples.
 
 ghost use Rattle.std.specs.Prelude.{◌≡◌, ◌+◌, ◌-◌, ◌≤◌, ◌<◌, ◌^◌, ◌&&◌, not, ◌++◌, ◌∷◌, [], List, ℕ, length};
-ghost use Rattle.std.specs.Prelude.{if◌then◌else◌};
-ghost use Rattle.std.specs.Bool.{beq};
-ghost use Rattle.bus_tap.specs.Facts.{AreFactsOf, AreWithin, IsTallied, IsLongest, step, jumps};
-ghost use Rattle.bus_tap.specs.Internal.Tallies.{where_is};
+ghost use Rattle.std.specs.Prelude.{if◌then◌else◌, Some, None};
+ghost use Rattle.bus_tap.specs.Facts.{AreFactsOf, AreWithin, IsTallied, IsLongest, spacing, jumps};
+ghost use Rattle.bus_tap.specs.Internal.Tallies.{where_is, AdvancesFacts};
+ghost use Rattle.bus_tap.specs.Internal.Held.{levels_in};
+ghost use Rattle.bus_pairing.specs.declared.line.Line.TheVariants.{First};
 
 /// Samples in which something happens. Samples are numbered from 0. The layout is C's.
 #[repr(C)]
@@ -70,6 +71,31 @@ pub struct Levels {
     pub bits: bool,
 }
 
+impl Levels {
+    /// Those of a line in a sample: the clock's in bit 0, that of the data in bit 1.
+    #[inline(always)]
+    pub(crate) fn of(sample: u8) -> Self
+        ensures { result ≡ levels_in First sample }
+    {
+        Levels {
+            clock: sample % 2 == 1,
+            bits: sample / 2 % 2 == 1,
+        }
+    }
+
+    /// The bit that arrives with these levels after others, if the clock rises: the level of the data before.
+    #[inline(always)]
+    pub(crate) fn bit_after(self, before: Levels) -> Option<bool>
+        ensures { result ≡ (if not before.clock && self.clock then Some before.bits else None) }
+    {
+        if !before.clock && self.clock {
+            Some(before.bits)
+        } else {
+            None
+        }
+    }
+}
+
 /// What is counted of a line. Levels are those that count.
 #[repr(C)]
 #[derive(Clone, Copy, Debug, PartialEq, Eq)]
@@ -124,11 +150,7 @@ impl LineFacts {
     pub(crate) fn note(&mut self, sample: u64, before: Levels, after: Levels, jump: u64)
         requires few { sample < 2 ^ 60 }
         requires within { AreWithin self.old sample }
-        ensures facts { (cs ls hs bs : List ℕ) → AreFactsOf jump self.old cs ls hs bs
-            → AreFactsOf jump self.new (cs ++ where_is (not (beq before.clock after.clock)) sample)
-            (ls ++ where_is (not (beq before.bits after.bits)) sample)
-            (hs ++ where_is (not (beq before.bits after.bits) && after.clock) sample)
-            (bs ++ where_is (not before.clock && after.clock) sample) }
+        ensures facts { AdvancesFacts jump self.old sample before after self.new }
         ensures within { AreWithin self.new (sample + 1) }
     {
         if before == after {
@@ -153,9 +175,9 @@ impl LineFacts {
         ensures bits { (es : List ℕ) → IsTallied self.old.bits es → IsTallied self.new.bits (es ++ sample ∷ []) }
         ensures gap { (es : List ℕ) → IsTallied self.old.bits es → IsLongest self.old.gap es
             → IsLongest self.new.gap (es ++ sample ∷ []) }
-        ensures step { (es : List ℕ) → IsTallied self.old.bits es → self.old.step ≡ step es (length es - 1)
-            → self.new.step ≡ step (es ++ sample ∷ []) (length es) }
-        ensures jumps { (es : List ℕ) → IsTallied self.old.bits es → self.old.step ≡ step es (length es - 1)
+        ensures step { (es : List ℕ) → IsTallied self.old.bits es → self.old.step ≡ spacing es (length es - 1)
+            → self.new.step ≡ spacing (es ++ sample ∷ []) (length es) }
+        ensures jumps { (es : List ℕ) → IsTallied self.old.bits es → self.old.step ≡ spacing es (length es - 1)
             → IsTallied self.old.jumps (jumps jump es) → IsTallied self.new.jumps (jumps jump (es ++ sample ∷ [])) }
         ensures others { (self.new.clock_changes ≡ self.old.clock_changes)
             × (self.new.data_changes ≡ self.old.data_changes)

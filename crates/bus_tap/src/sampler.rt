@@ -4,7 +4,7 @@ ghost use Rattle.std.specs.Prelude.{◌≡◌, ◌+◌, ◌≤◌, ◌/◌, ◌%
 ghost use Rattle.std.specs.Prelude.{if◌then◌else◌};
 ghost use Rattle.bus_pairing.specs.declared.line.Line.TheVariants.{First};
 ghost use Rattle.std.specs.Prelude.{IsTrue};
-ghost use Rattle.bus_tap.specs.Internal.Held.{held_state, next_state, clock_state, data_state, no_edges, IsSettled};
+ghost use Rattle.bus_tap.specs.Internal.Held.{held_state, next_state, held_clock, held_data, no_edges, AreHeldAt};
 ghost use Rattle.bus_tap.specs.Sampled.{IsAfterSamples, sampled, bits_of_edges, clock_of, data_of};
 
 use crate::facts::Levels;
@@ -193,8 +193,8 @@ impl Sampler {
     /// The levels of a line that count.
     #[inline(always)]
     pub(crate) fn levels(&self, line: Line) -> Levels
-        ensures clock { result.clock ≡ (clock_state self.now line).level }
-        ensures bits { result.bits ≡ (data_state self.now line).level }
+        ensures clock { result.clock ≡ (held_clock self.now line).level }
+        ensures bits { result.bits ≡ (held_data self.now line).level }
     {
         let levels = match line {
             Line::First => self.first,
@@ -209,7 +209,7 @@ impl Sampler {
     /// Whether samples with these levels change nothing.
     #[inline(always)]
     pub(crate) fn is_settled(&self, sample: u8) -> bool
-        ensures { IsTrue result → IsSettled self.now sample }
+        ensures { IsTrue result → AreHeldAt self.now sample }
     {
         self.first.is_settled(sample) && self.second.is_settled(sample / 4)
     }

@@ -1,6 +1,7 @@
 //! Bits from the samples of a recording, and what is counted in these.
 
 ghost use Rattle.std.specs.Prelude.{◌≡◌, ◌+◌, ◌-◌, ◌<◌, ◌≤◌, ◌↔◌, ◌++◌, ◌∷◌, [], List, ℕ, IfOk, IsErr, OnErr, IsTrue};
+ghost use Rattle.std.specs.Prelude.{IfSome};
 ghost use Rattle.std.specs.Prelude.{replicate, length, Some, None};
 ghost use Rattle.bus_bits.specs.Limits.{most_places};
 ghost use Rattle.bus_tap.specs.Sampled.{sampled, bits_of_edges};
@@ -38,6 +39,8 @@ pub struct Tap {
     pub(crate) samples: u64,
     /// None before the first sample.
     pub(crate) sampler: Option<Sampler>,
+    /// A sample with the levels that count, while no other is waited for; None where it is not known.
+    pub(crate) still: Option<u8>,
     pub(crate) first: LineFacts,
     pub(crate) second: LineFacts,
 }
@@ -131,6 +134,7 @@ impl Tap {
             jump,
             samples: 0,
             sampler: None,
+            still: None,
             first: LineFacts::none(),
             second: LineFacts::none(),
         }
@@ -150,26 +154,67 @@ impl Tap {
         if count > MOST || self.samples > MOST - count {
             return Err(SampleLimit);
         }
+        let before = match self.still() {
+            None => return Ok(self.consume_steps(sample, count)),
+            Some(before) => before,
+        };
+        if before == sample {
+            self.pass(sample, count);
+            return Ok(ConsumedSamples {
+                samples: count,
+                edges: Edges::NONE,
+            });
+        }
+        if count <= u64::from(self.hold) {
+            return Ok(self.consume_steps(sample, count));
+        }
+        let samples = u64::from(self.hold) + 1;
+        let edges = self.consume_held(before, sample);
+        if edges.is_none() {
+            self.pass(sample, count - samples);
+            return Ok(ConsumedSamples {
+                samples: count,
+                edges: Edges::NONE,
+            });
+        }
+        Ok(ConsumedSamples { samples, edges })
+    }
+
+    /// Takes samples as [`Tap::consume`] does, each by itself.
+    #[inline(never)]
+    fn consume_steps(&mut self, sample: u8, count: u64) -> ConsumedSamples
+        requires { self.old.samples + count ≤ most_places }
+        ensures some { (result.samples ≤ count) × (1 ≤ count → 1 ≤ result.samples) }
+        ensures taken { AdvancesTap self.old (replicate result.samples sample) (bits_of_edges result.edges) self.new }
+    {
         for taken in 0..count {
             if self.is_settled(sample) {
                 self.pass(sample, count - taken);
-                return Ok(ConsumedSamples {
+                return ConsumedSamples {
                     samples: count,
                     edges: Edges::NONE,
-                });
+                };
             }
             let edges = self.step(sample);
             if !edges.is_none() {
-                return Ok(ConsumedSamples {
+                return ConsumedSamples {
                     samples: taken + 1,
                     edges,
-                });
+                };
             }
         }
-        Ok(ConsumedSamples {
+        ConsumedSamples {
             samples: count,
             edges: Edges::NONE,
-        })
+        }
+    }
+
+    /// A sample that changes nothing, if one is known.
+    #[inline(always)]
+    fn still(&self) -> Option<u8>
+        ensures { IfSome result (λ sample. IsSettledTap self.now sample) }
+    {
+        self.still
     }
 
     /// Whether samples with these levels change nothing.
@@ -191,6 +236,30 @@ impl Tap {
         ensures { AdvancesTap self.old (replicate count sample) [] self.new }
     {
         self.samples += count;
+        self.still = Some(sample);
+    }
+
+    /// Takes as many samples with these levels as make them count, where those of `before` count and no other is waited
+    /// for. Returns the bits that arrive with the last.
+    #[inline(always)]
+    fn consume_held(&mut self, before: u8, sample: u8) -> Edges
+        requires settled { IsSettledTap self.old before }
+        requires room { self.old.samples + self.old.hold < most_places }
+        ensures settled { IsSettledTap self.new sample }
+        ensures taken { AdvancesTap self.old (replicate (self.old.hold + 1) sample) (bits_of_edges result) self.new }
+    {
+        let place = self.samples + u64::from(self.hold);
+        self.sampler = Some(Sampler::new(self.hold, sample));
+        self.still = Some(sample);
+        self.samples = place + 1;
+        let (old_first, first) = (Levels::of(before), Levels::of(sample));
+        let (old_second, second) = (Levels::of(before / 4), Levels::of(sample / 4));
+        self.first.note(place, old_first, first, self.jump);
+        self.second.note(place, old_second, second, self.jump);
+        Edges {
+            first: first.bit_after(old_first),
+            second: second.bit_after(old_second),
+        }
     }
 
     /// Takes a sample. Returns the bits that arrive with it.
@@ -201,6 +270,7 @@ impl Tap {
     {
         let step = step_sampler(&mut self.sampler, self.hold, sample);
         let place = self.samples;
+        self.still = None;
         self.first
             .note(place, step.first_before, step.first_after, self.jump);
         self.second

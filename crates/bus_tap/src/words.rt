@@ -133,6 +133,7 @@ impl TapWords {
             jump: self.jump,
             samples: self.samples,
             sampler: self.sampler(),
+            still: None,
             first: self.first,
             second: self.second,
         })

@@ -28,13 +28,13 @@ follows-on s calls call e =
 abbrev pub Gains : Port1Sender → List ℕ → ℕ → List Call → List ℕ → Type 0
 Gains sender old at more new = (calls : List Call) → SenderAfter sender calls → PutsBits old at (gained calls more) new
 
-pub flag-gains : (s : Port1Sender) (old new : List ℕ) (at : ℕ) → PutsBits old at (bits_from (126 ∷ []) 0 8) new →
+pub flag-gains : (s : Port1Sender) (old new : List ℕ) (at : ℕ) → PutsBits old at (bits_from (126 ∷ 0 ∷ []) 0 8) new →
     Gains s old at (Flag ∷ []) new
 unfolding bits_from
 flag-gains s old new at p calls f = p
 
-pub idle-gains : (s : Port1Sender) (old new : List ℕ) (at : ℕ) → PutsBits old at (bits_from (255 ∷ 127 ∷ []) 0 15) new →
-    Gains s old at (Idle ∷ []) new
+pub idle-gains : (s : Port1Sender) (old new : List ℕ) (at : ℕ) →
+    PutsBits old at (bits_from (255 ∷ 127 ∷ 0 ∷ []) 0 15) new → Gains s old at (Idle ∷ []) new
 unfolding bits_from
 idle-gains s old new at p calls f = p
 
@@ -86,7 +86,7 @@ module _ (o octets : List ℕ) (count : ℕ) (framed : bits_from octets 0 count 
 
 -- octets of ones have the bits of idles
 ones-are-idles : (k : ℕ) → k < 8 → (before : Option Call) →
-    bits_from (replicate 14 255) 0 (15 * k) ≡ line_behind before (idles k)
+    bits_from (replicate 15 255) 0 (15 * k) ≡ line_behind before (idles k)
 unfolding bits_from
 ones-are-idles zero l before = refl
 ones-are-idles (suc zero) l before = refl
@@ -99,15 +99,15 @@ ones-are-idles (suc (suc (suc (suc (suc (suc (suc zero))))))) l before = refl
 ones-are-idles (suc (suc (suc (suc (suc (suc (suc (suc k)))))))) l before = absurd (omega (arith, l))
 
 pub idles-gain : (s : Port1Sender) (old new : List ℕ) (at k n : ℕ) → k < 8 → n ≡ 15 * k →
-    PutsBits old at (bits_from (replicate 14 255) 0 n) new → Gains s old at (idles k) new
+    PutsBits old at (bits_from (replicate 15 255) 0 n) new → Gains s old at (idles k) new
 idles-gain s old new at k n l e p calls f =
     subst (λ (bits : List Bool). PutsBits old at bits new)
-    (ap (bits_from (replicate 14 255) 0) e ∙ ones-are-idles k l (last_or None calls)) p
+    (ap (bits_from (replicate 15 255) 0) e ∙ ones-are-idles k l (last_or None calls)) p
 
 pub idles-count : (s : Port1Sender) (k n : ℕ) → k < 8 → n ≡ 15 * k
     → (calls : List Call) → SenderAfter s calls → n ≡ length (gained calls (idles k))
 idles-count s k n few same calls follows =
-    same ∙ (sym (length-from (replicate 14 255) 0 (15 * k)) ∙ ap length (ones-are-idles k few (last_or None calls)))
+    same ∙ (sym (length-from (replicate 15 255) 0 (15 * k)) ∙ ap length (ones-are-idles k few (last_or None calls)))
 
 last-row : (n : ℕ) → last_or (Some Idle) (idles n) ≡ Some Idle
 last-row zero = refl

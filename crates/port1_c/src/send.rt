@@ -7,12 +7,12 @@ ghost use Rattle.port1_c.specs.Bits.{PutsBits};
 ghost use Rattle.port1_c.specs.Send.{SenderAfter, Sends, idles};
 ghost use Rattle.port1_c.specs.declared.status.TheConstants.{OK, BAD_LENGTH, BAD_STATE, BAD_ARGUMENT, NO_ROOM};
 
-use crate::call_bits::frame_bits;
+use crate::call_bits::{CallBits, spell_frame};
 use crate::put::put_bits;
 use crate::sender::Port1Sender;
 use crate::status::{BAD_ARGUMENT, BAD_LENGTH, BAD_STATE, NO_ROOM, OK};
 
-/// Puts bits where there is room for them, and says how many they are.
+/// Puts bits where there is room for them, and says how many they are. The source has an octet more.
 fn put(
     source: &[u8],
     first: usize,
@@ -22,7 +22,7 @@ fn put(
     bits: &mut usize,
 ) -> u32
     requires order { first ≤ end }
-    requires within { end ≤ 8 * length source.now }
+    requires within { end + 8 ≤ 8 * length source.now }
     requires begin { at.old ≤ 8 * length octets.old }
     ensures status { (result ≡ OK) ⊎ (result ≡ NO_ROOM) }
     ensures told { bits.new ≡ end - first }
@@ -81,7 +81,7 @@ pub extern "C" fn port1_send_flag(
     if sender.behind_flag > 1 {
         return BAD_STATE;
     }
-    let status = put(&[0x7e], 0, 8, octets, at, bits);
+    let status = put(&[0x7e, 0], 0, 8, octets, at, bits);
     if status == OK {
         sender.behind_flag = 1;
     }
@@ -108,7 +108,7 @@ pub extern "C" fn port1_send_idle(
     if sender.behind_flag > 1 {
         return BAD_STATE;
     }
-    let status = put(&[0xff, 0x7f], 0, 15, octets, at, bits);
+    let status = put(&[0xff, 0x7f, 0], 0, 15, octets, at, bits);
     if status == OK {
         sender.behind_flag = 0;
     }
@@ -139,7 +139,7 @@ pub extern "C" fn port1_send_align(
         return BAD_STATE;
     }
     let idles = *at % 8;
-    let status = put(&[0xff; 14], 0, 15 * idles, octets, at, bits);
+    let status = put(&[0xff; 15], 0, 15 * idles, octets, at, bits);
     if status == OK && idles > 0 {
         sender.behind_flag = 0;
     }
@@ -174,7 +174,8 @@ pub extern "C" fn port1_send_frame(
     if frame.len() < 2 || frame.len() > 256 {
         return BAD_LENGTH;
     }
-    let framed = frame_bits(frame);
+    let mut framed = CallBits::new();
+    spell_frame(frame, &mut framed);
     let first = first_bit(sender);
     let status = put(&framed.octets, first, framed.count, octets, at, bits);
     if status == OK {

@@ -4,7 +4,7 @@ use Rattle.std.specs.Io.KnownBytes.{IsAtEnd}
 use Rattle.bus_bits.specs.Capture.{CaptureFault}
 use Rattle.bus_calls.specs.Captures.{IsSameFault, HasFault}
 use Rattle.bus_calls.specs.Internal.Kinds.{KindView}
-use Rattle.bus_calls.specs.Internal.Sessions.{taken_of, whole_of}
+use Rattle.bus_calls.specs.Internal.Sessions.{capture_so_far, whole_of}
 use Rattle.bus_calls.specs.Internal.Watching.{WatchAfter, IsCutOff}
 use Rattle.bus_calls.specs.declared.run.CaptureRun.{CaptureRun}
 use Rattle.bus_calls.specs.declared.reader.Source.{Source}
@@ -20,11 +20,12 @@ octets_taken (source.Packed p) = 0
 module _ {A R X B : Type 0} (t : KindView A R X B) where
   -- the octets so far have no fault, and their bits were followed
   pub record IsClean (text : Bool) (start now : Option (List ℕ)) (run : CaptureRun A) (xs : List ℕ) : Type 0 where
-    pub clean : (taken_of t text run xs).fault ≡ None
-    pub bits : WatchAfter t start now run (taken_of t text run xs).bits
+    pub clean : (capture_so_far t text run xs).fault ≡ None
+    pub bits : WatchAfter t start now run (capture_so_far t text run xs).bits
 
   -- they are the whole input, and have no fault
-  pub record IsWhole (text : Bool) (after start now : Option (List ℕ)) (run : CaptureRun A) (xs : List ℕ) : Type 0 where
+  pub record IsWholeInput (text : Bool) (after start now : Option (List ℕ)) (run : CaptureRun A)
+      (xs : List ℕ) : Type 0 where
     pub at : IsAtEnd after
     pub clean : (whole_of t text run xs).fault ≡ None
     pub bits : WatchAfter t start now run (whole_of t text run xs).bits
@@ -35,14 +36,14 @@ module _ {A R X B : Type 0} (t : KindView A R X B) where
     pub cause : CaptureFault
     pub answered : IsSameFault fault cause
     pub found : HasFault t.form text (t.rest run.analyser) (t.watch.origin run.analyser) after xs cause
-    pub bits : WatchAfter t start now run (taken_of t text run xs).bits
+    pub bits : WatchAfter t start now run (capture_so_far t text run xs).bits
 
   -- how the reading of these octets ended, by so many reads at most, whose reader has `after` left
   abbrev pub ReadStopsWith : Bool → ℕ → Option (List ℕ) → Option (List ℕ) → Option (List ℕ) → CaptureRun A → List ℕ
       → Result (Unit {0}) ToolFault → Type 0
-  ReadStopsWith text reads after start now run xs (Ok _) = IsWhole text after start now run xs
+  ReadStopsWith text reads after start now run xs (Ok _) = IsWholeInput text after start now run xs
   ReadStopsWith text reads after start now run xs (Err Read) = IsClean text start now run xs
   ReadStopsWith text reads after start now run xs (Err ReadsLimit) = (reads ≤ length xs) × IsClean text start now run xs
   ReadStopsWith text reads after start now run xs (Err (Write sent)) =
-      IsCutOff t start now run (taken_of t text run xs).bits sent
+      IsCutOff t start now run (capture_so_far t text run xs).bits sent
   ReadStopsWith text reads after start now run xs (Err fault) = IsFaulty text after start now run xs fault

@@ -19,21 +19,21 @@ is_text (source.Packed p) = false
 
 module _ {A R X B : Type 0} (t : KindView A R X B) where
   -- what the analyser takes of the octets so far, and of octets that are the whole input
-  abbrev pub taken_of : Bool → CaptureRun A → List ℕ → CaptureOf X
-  taken_of text run xs = capture t.form text (t.rest run.analyser) (t.watch.origin run.analyser) xs
+  abbrev pub capture_so_far : Bool → CaptureRun A → List ℕ → CaptureOf X
+  capture_so_far text run xs = capture t.form text (t.rest run.analyser) (t.watch.origin run.analyser) xs
 
   abbrev pub whole_of : Bool → CaptureRun A → List ℕ → CaptureOf X
   whole_of text run xs = whole_capture t.form text (t.rest run.analyser) (t.watch.origin run.analyser) xs
 
   -- these octets were read: the front of a head, or a head and others after it
-  abbrev pub IsRead : List ℕ → Option B → List ℕ → Type 0
-  IsRead head None xs = (head ≡ xs) × (length xs < 16)
-  IsRead head (Some body) xs = t.is_body body xs
+  abbrev pub IsReadAs : List ℕ → Option B → List ℕ → Type 0
+  IsReadAs head None xs = (head ≡ xs) × (length xs < 16)
+  IsReadAs head (Some body) xs = t.is_body body xs
 
   -- these octets were read without fault
   abbrev pub IsReadBy : Source B → List ℕ → Type 0
   IsReadBy (source.Text text) xs = (t.form.text xs).fault ≡ None
-  IsReadBy (source.Packed p) xs = IsRead p.head.items p.body xs
+  IsReadBy (source.Packed p) xs = IsReadAs p.head.items p.body xs
 
   -- these octets of a text have no fault, and their bits were followed
   pub record OctetsAfter (start now : Option (List ℕ)) (run : CaptureRun A) (xs : List ℕ) : Type 0 where
@@ -55,7 +55,7 @@ module _ {A R X B : Type 0} (t : KindView A R X B) where
   -- these octets of a packed capture were taken, and their bits followed
   pub record PackedSourceAfter (start now : Option (List ℕ)) (p : PackedCapture B) (run : CaptureRun A)
       (xs : List ℕ) : Type 0 where
-    pub read : IsRead p.head.items p.body xs
+    pub read : IsReadAs p.head.items p.body xs
     pub bits : FeedAfter t start now run (t.form.packed xs).bits
 
   abbrev pub SourceAfter : Option (List ℕ) → Option (List ℕ) → Source B → CaptureRun A → List ℕ → Type 0
@@ -77,4 +77,4 @@ module _ {A R X B : Type 0} (t : KindView A R X B) where
   CaptureStopsWith start now run c fault = Faulty start now run c fault
 
   abbrev pub SourceStopsWith : Bool → Option (List ℕ) → Option (List ℕ) → CaptureRun A → List ℕ → ToolFault → Type 0
-  SourceStopsWith text start now run xs fault = CaptureStopsWith start now run (taken_of text run xs) fault
+  SourceStopsWith text start now run xs fault = CaptureStopsWith start now run (capture_so_far text run xs) fault

@@ -62,8 +62,8 @@ module _ {A R X B : Type 0} (t : KindView A R X B) where
       (pending (t.watch.dictionary run.analyser) (reports_by t.watch run.analyser b)))
 
   -- the report of these bits
-  abbrev pub reported : CaptureRun A → List X → List ℕ
-  reported run b =
+  abbrev pub report_text : CaptureRun A → List X → List ℕ
+  report_text run b =
       check_text t.form.is_two run.reporter.summary
       (tally (t.watch.dictionary run.analyser) (reports_by t.watch run.analyser b))
       (history (t.watch.depth run.analyser) (reports_by t.watch run.analyser b))

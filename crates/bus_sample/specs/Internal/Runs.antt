@@ -1,10 +1,11 @@
 -- What is known while a recording is read.
 use Rattle.std.specs.Prelude.{◌≡◌, ℕ, ◌+◌, ◌-◌, ◌*◌, ◌%◌, ◌<◌, ◌≤◌, List, [], length, Option, Result, Ok, Err}
+use Rattle.std.specs.Prelude.{slice_index}
 use Rattle.std.specs.Io.KnownBytes.{IsAtEnd}
 use Rattle.arrayvec.specs.ArrayVec.{array_vec_len}
 use Rattle.bus_bits.specs.Limits.{most_places}
 use Rattle.bus_tap.specs.Arrival.{Arrival}
-use Rattle.bus_tap.specs.Tapped.{IsTapAfter}
+use Rattle.bus_tap.specs.Tapped.{IsTapAfter, channels}
 use Rattle.bus_text.specs.Pages.{Pages}
 use Rattle.bus_text.specs.Put.{TextStopsAt}
 use Rattle.bus_sample.specs.Recording.{recorded, cut_record, levels, arrivals, size_of}
@@ -25,21 +26,22 @@ abbrev pub length_of : Marks → ℕ
 length_of marks = marks.page.written + array_vec_len marks.page.text
 
 -- these samples were taken, and their text was put
-pub record HasTaken (start now : Option (List ℕ)) (run : SampleRun) (samples : List ℕ) : Type 0 where
+pub record RunAfter (start now : Option (List ℕ)) (run : SampleRun) (samples : List ℕ) : Type 0 where
   pub tap : IsTapAfter run.tap (levels run.options samples)
   pub marks : HasMarked start now run.marks (arrivals run.options samples)
 
 -- the text is no longer than its samples allow, and there is room for an octet more of the open record
-pub record IsSound (run : SampleRun) : Type 0 where
+pub record IsSoundRun (run : SampleRun) : Type 0 where
   pub given : (run.tap.hold ≡ run.options.hold) × (run.tap.jump ≡ run.options.jump)
   pub size : HasSize run.options
+  pub levels : (sample : ℕ) → sample < 256 → slice_index run.levels sample ≡ channels run.options.wires sample
   pub samples : run.tap.samples ≤ most_places
   pub few : length_of run.marks ≤ 4 * run.tap.samples
   pub part : array_vec_len run.part < size_of run.options.form
 
 -- these octets were read
 pub record HasRead (start now : Option (List ℕ)) (run : SampleRun) (xs : List ℕ) : Type 0 where
-  pub taken : HasTaken start now run (recorded run.options.form xs)
+  pub taken : RunAfter start now run (recorded run.options.form xs)
   pub part : run.part.items ≡ cut_record run.options.form xs
   pub octets : run.octets ≡ length xs
 
@@ -57,13 +59,13 @@ abbrev pub IsSameRecord : SampleRun → SampleRun → Type 0
 IsSameRecord old new = (new.part ≡ old.part) × (new.octets ≡ old.octets) × (new.options ≡ old.options)
 
 -- how the reading of these octets ended, whose reader has `after` left
-abbrev pub ReadStopsWith : Option (List ℕ) → Option (List ℕ) → Option (List ℕ) → SampleRun → List ℕ
+abbrev pub RecordingStopsWith : Option (List ℕ) → Option (List ℕ) → Option (List ℕ) → SampleRun → List ℕ
     → Result (Unit {0}) SampleFault → Type 0
-ReadStopsWith after start now run xs (Ok _) =
+RecordingStopsWith after start now run xs (Ok _) =
     IsAtEnd after × (cut_record run.options.form xs ≡ []) × HasRead start now run xs
-ReadStopsWith after start now run xs (Err (CutOff octet)) =
+RecordingStopsWith after start now run xs (Err (CutOff octet)) =
     IsAtEnd after × (0 < length (cut_record run.options.form xs))
     × (octet ≡ length xs - length (cut_record run.options.form xs)) × HasRead start now run xs
-ReadStopsWith after start now run xs (Err Read) = HasRead start now run xs
-ReadStopsWith after start now run xs (Err ReadsLimit) = (run.options.reads ≤ length xs) × HasRead start now run xs
-ReadStopsWith after start now run xs (Err fault) = StopsWith start now run (recorded run.options.form xs) fault
+RecordingStopsWith after start now run xs (Err Read) = HasRead start now run xs
+RecordingStopsWith after start now run xs (Err ReadsLimit) = (run.options.reads ≤ length xs) × HasRead start now run xs
+RecordingStopsWith after start now run xs (Err fault) = StopsWith start now run (recorded run.options.form xs) fault

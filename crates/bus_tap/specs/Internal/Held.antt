@@ -1,9 +1,10 @@
 -- A sampler's fields, as they are seen, and a channel with one sample more.
-use Rattle.std.specs.Prelude.{◌≡◌, ℕ, ◌+◌, ◌≤◌, ◌==◌, Bool, None, if◌then◌else◌}
+use Rattle.std.specs.Prelude.{◌≡◌, ℕ, ◌+◌, ◌≤◌, ◌==◌, ◌&&◌, not, Bool, Option, Some, None, if◌then◌else◌}
 use Rattle.std.specs.Bool.{beq}
 use Rattle.bus_tap.specs.Sampled.{Channel, HeldState, SamplerState, clock_of, data_of}
 use Rattle.bus_pairing.specs.declared.line.Line.{Line}
 use Rattle.bus_pairing.specs.declared.line.Line.TheVariants.{First, Second}
+use Rattle.bus_tap.specs.declared.facts.Levels.{Levels}
 use Rattle.bus_tap.specs.declared.sampler.Edges.{Edges}
 use Rattle.bus_tap.specs.declared.sampler.HeldLevel.{HeldLevel}
 use Rattle.bus_tap.specs.declared.sampler.Sampler.TheInside.{Inside}
@@ -35,13 +36,13 @@ next_state hold h sample =
     record { level = h.level; others = h.others + 1 })
 
 -- the channels of a line, as they are kept
-abbrev pub clock_state : SamplerState → Line → HeldState
-clock_state s First = s.first_clock
-clock_state s Second = s.second_clock
+abbrev pub held_clock : SamplerState → Line → HeldState
+held_clock s First = s.first_clock
+held_clock s Second = s.second_clock
 
-abbrev pub data_state : SamplerState → Line → HeldState
-data_state s First = s.first_bits
-data_state s Second = s.second_bits
+abbrev pub held_data : SamplerState → Line → HeldState
+held_data s First = s.first_bits
+held_data s Second = s.second_bits
 
 -- no bit arrives
 abbrev pub no_edges : Edges
@@ -52,8 +53,16 @@ abbrev pub IsHeldAt : Channel → HeldState → ℕ → Type 0
 IsHeldAt channel h sample = h ≡ record { level = channel sample; others = 0 }
 
 -- so have all four
-pub record IsSettled (s : SamplerState) (sample : ℕ) : Type 0 where
+pub record AreHeldAt (s : SamplerState) (sample : ℕ) : Type 0 where
   pub first_clock : IsHeldAt (clock_of First) s.first_clock sample
   pub first_bits : IsHeldAt (data_of First) s.first_bits sample
   pub second_clock : IsHeldAt (clock_of Second) s.second_clock sample
   pub second_bits : IsHeldAt (data_of Second) s.second_bits sample
+
+-- the levels of a line in a sample
+abbrev pub levels_in : Line → ℕ → Levels
+levels_in line sample = record { clock = clock_of line sample; bits = data_of line sample }
+
+-- the bit of a line where all levels of sample `s` count after those of sample `b`
+abbrev pub bit_after : Line → ℕ → ℕ → Option Bool
+bit_after line b s = if not (clock_of line b) && clock_of line s then Some (data_of line b) else None

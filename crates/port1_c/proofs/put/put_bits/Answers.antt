@@ -1,21 +1,15 @@
-use Rattle.std.proofs.Common.{◌≡◌, ◌-◌, ℕ, ◌∙◌, subst, arith}
-use Rattle.bus_bits.specs.Bits.{bits_from}
-use Rattle.port1_c.specs.Bits.{PutsBits}
-use Rattle.port1_c.proofs.PutLemmas.{puts-none, puts-more}
+use Rattle.std.proofs.Common.{◌+◌, ◌-◌, ◌*◌, ◌/◌, ◌%◌, refl, arith}
+use Rattle.bus_bits.proofs.OctetLemmas.{least}
+use Rattle.port1_c.proofs.PutLemmas.{copies-puts, copies-then}
 use Rattle.port1_c.proofs.put.put_bits.Goals as goal
-
-pub loop-i-init : goal.loop-i-init
-loop-i-init c = puts-none c.args.octets.now c.args.at c.args.source.now c.args.first
-
-pub loop-i-preserved : goal.loop-i-preserved
-loop-i-preserved c =
-    puts-more c.args.octets.now c.loop-i.octets c.set_bit.new.octets c.args.source.now c.args.at c.args.first c.loop-i.i
-    c.loop-i.invariant
-    c.set_bit.ensures.long (c.set_bit.ensures.set ∙ c.get_bit.ensures) c.set_bit.ensures.kept
 
 pub returns : goal.returns
 returns c =
-    let e : c.loop-i.i ≡ c.args.end - c.args.first = omega (arith, c.loop-i.auto.i-end, c.loop-i-test.false) in
-    subst (λ (n : ℕ). PutsBits c.args.octets.now c.args.at (bits_from c.args.source.now c.args.first n) c.loop-i.octets)
-    e
-    c.loop-i.invariant
+    let count = c.args.end - c.args.first in
+    let head = c.min-head.result in
+    let done = head + 8 * ((count - head) / 8) in
+    copies-puts _ _ _ _ _ count
+    (copies-then _ _ _ _ _ _ done (count - done) count
+    (omega (arith, c.min-head.ensures, least ((8 - c.args.at % 8) % 8) count))
+    (copies-then _ _ _ _ _ _ head (8 * ((count - head) / 8)) done refl c.put_some.ensures c.put_octets.ensures)
+    c.put_some-2.ensures)

@@ -1,19 +1,14 @@
-use Rattle.std.proofs.Common.{◌≡◌, ◌≤◌, ◌*◌, ◌-◌, ℕ, List, ◌++◌, length, take}
-use Rattle.bus_bits.specs.Packed.{PairsAfter, pair_body}
+use Rattle.std.proofs.Common.{◌≡◌, ◌≤◌, ◌*◌, Bool, List, ◌++◌, length}
+use Rattle.std.specs.Prelude.{zip}
+use Rattle.bus_bits.specs.Bits.{bits_from}
 use Rattle.bus_tap.specs.Arrival.{Arrival}
 use Rattle.bus_calls.specs.Internal.Arrivals.{RestsAfter}
 use Rattle.bus_calls.proofs.arrival_block.ArrivalBlock.put_packed.Given as goal
 
-abbrev pub invariant-loop-taken : goal.invariant-loop-taken
-invariant-loop-taken l = record {
-  within : l.taken ≤ length l.octets;
-  few : length l.self ≤ 64 * l.taken;
+abbrev pub invariant-loop-at : goal.invariant-loop-at
+invariant-loop-at l = record {
+  few : length l.self ≤ 128 * l.at;
   most : l.rest.most ≡ l.initial.rest.most;
-  rests : (n : ℕ) (xs : List ℕ) (front : List Arrival) → PairsAfter n xs l.initial.body
-      → RestsAfter l.initial.rest (pair_body n xs).bits front
-      → PairsAfter n (xs ++ take l.taken l.octets) l.body
-      × RestsAfter l.rest (pair_body n (xs ++ take l.taken l.octets)).bits (front ++ l.self);
+  rests : (b : List (Bool × Bool)) (front : List Arrival) → RestsAfter l.initial.rest b front
+      → RestsAfter l.rest (b ++ zip (bits_from l.bits 0 (8 * l.at)) (bits_from l.lines 0 (8 * l.at))) (front ++ l.self);
 }
-
-abbrev pub decreases-loop-taken : goal.decreases-loop-taken
-decreases-loop-taken l = l.end - l.taken

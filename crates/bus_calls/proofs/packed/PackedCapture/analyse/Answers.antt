@@ -3,7 +3,7 @@ use Rattle.std.proofs.lemmas.Result.{err_from_is_err_and}
 use Rattle.std.proofs.lemmas.List.{take_all}
 use Rattle.bus_bits.specs.Capture.{CaptureOf, capped}
 use Rattle.bus_calls.specs.Captures.{fed_by}
-use Rattle.bus_calls.specs.Internal.Sessions.{BodyAfter, IsRead, SourceStopsWith}
+use Rattle.bus_calls.specs.Internal.Sessions.{BodyAfter, IsReadAs, SourceStopsWith}
 use Rattle.bus_calls.specs.Internal.Watching.{FeedAfter}
 use Rattle.bus_calls.proofs.WatchingLemmas.{same-both, same-self, item-next}
 use Rattle.bus_calls.proofs.CapturesLemmas.{fault-in, stops-more, front-grown}
@@ -123,7 +123,7 @@ loop-taken-init g c = record {
       let read = c.in_ok-taken.ensures.read xs followed.read in
       let front = xs ++ take c.in_ok-taken.taken c.args.octets.now in
       record {
-        read = subst (λ b. IsRead kind c.fill_head.new.self.head.items b front)
+        read = subst (λ b. IsReadAs kind c.fill_head.new.self.head.items b front)
             (sym c.take.ensures.value ∙ c.in-Some.is) read.0;
         bits = subst (FeedAfter kind start (g.W.Write.contents c.args.w.now) c.args.run.now) (sym read.1) followed.bits;
       };

@@ -6,7 +6,7 @@ use Rattle.bus_bits.specs.declared.format.packed_head.HeadFault.{HeadFault}
 use Rattle.bus_bits.specs.Capture.{CaptureOf}
 use Rattle.bus_bits.specs.Packed.{head_fault_of}
 use Rattle.bus_text.specs.declared.fault.ToolFault.{ToolFault}
-use Rattle.bus_calls.specs.Internal.Sessions.{IsRead}
+use Rattle.bus_calls.specs.Internal.Sessions.{IsReadAs}
 use Rattle.bus_calls.specs.Captures.{IsSameFault}
 use Rattle.bus_line.proofs.DecidesLemmas.{is-none}
 use Rattle.bus_calls.proofs.SessionsPackedLemmas.{err-mapped, ok-mapped, head-filled}
@@ -15,7 +15,7 @@ use Rattle.bus_calls.proofs.packed.PackedCapture.fill_head.Goals as goal
 pub returns-then-is_some-clause-read : goal.returns-then-is_some-clause-read
 returns-then-is_some-clause-read g c = λ xs read.
     let none = sym (append-nil xs) in (
-      subst (IsRead g.T.CaptureKind.kind c.args.self.now.head.items c.args.self.now.body) none read,
+      subst (IsReadAs g.T.CaptureKind.kind c.args.self.now.head.items c.args.self.now.body) none read,
       ap (λ (ys : List ℕ). (g.T.CaptureKind.kind.form.packed ys).bits) (sym none),
     )
 
@@ -26,7 +26,7 @@ returns-then-octets-missing-clause-read g c = λ xs is-read.
     let items = c.gather.new.self.head.items in
     let law = c.laws.ensures.form in
     let none = is-none c.args.self.now.body (sym c.is_some.ensures ∙ c.if-is_some.false) in
-    let read = subst (λ b. IsRead kind c.args.self.now.head.items b xs) none is-read in
+    let read = subst (λ b. IsReadAs kind c.args.self.now.head.items b xs) none is-read in
     let short : length (xs ++ os) < 16 =
     omega (arith, c.if-octets-missing.true, c.len-missing.ensures.value, ap length read.0, length-append xs os) in
     let all : items ≡ xs ++ os = c.gather.ensures.items ∙ ap (λ (ys : List ℕ). ys ++ os) read.0 in
@@ -34,7 +34,7 @@ returns-then-octets-missing-clause-read g c = λ xs is-read.
     ap (λ (d : CaptureOf g.row.T-Symbol.Denot). d.bits)
     ((law.short (xs ++ os) short).0 ∙ sym (law.short xs read.1).0) in
     rw (take_all (length os) os (omega arith)) (
-      subst (λ b. IsRead kind items b (xs ++ os)) (sym (c.gather.ensures.body ∙ none)) (all, short),
+      subst (λ b. IsReadAs kind items b (xs ++ os)) (sym (c.gather.ensures.body ∙ none)) (all, short),
       bits,
     )
 
@@ -47,7 +47,7 @@ returns-in_err-map_err-clause-read g c =
     let refused = err-mapped _ _ (λ (e : HeadFault) (t : ToolFault). IsSameFault t (head_fault_of e)) c.read_head.result
     (Err fault) fault refl c.in_err-map_err.ensures.cases c.read_head.ensures in
     let none = is-none c.args.self.now.body (sym c.is_some.ensures ∙ c.if-is_some.false) in
-    let read = subst (λ b. IsRead kind c.args.self.now.head.items b xs) none is-read in
+    let read = subst (λ b. IsReadAs kind c.args.self.now.head.items b xs) none is-read in
     let os = c.args.octets.now in
     let n = c.len-missing.result in
     let filled = head-filled c.args.self.now.head.items xs os c.head.result n read.0 c.len-missing.ensures.value read.1
@@ -64,7 +64,7 @@ pub returns-clause-read : goal.returns-clause-read
 returns-clause-read g c = λ xs is-read.
     let kind = g.T.CaptureKind.kind in
     let none = is-none c.args.self.now.body (sym c.is_some.ensures ∙ c.if-is_some.false) in
-    let read = subst (λ b. IsRead kind c.args.self.now.head.items b xs) none is-read in
+    let read = subst (λ b. IsReadAs kind c.args.self.now.head.items b xs) none is-read in
     let n = c.len-missing.result in
     let front = take (16 - n) c.args.octets.now in
     let head : c.head.result ≡ xs ++ front =

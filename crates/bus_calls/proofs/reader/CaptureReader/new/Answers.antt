@@ -1,7 +1,7 @@
 use Rattle.std.proofs.Common.{◌≡◌, None, arith, [], refl, sym, ap, subst}
 use Rattle.bus_bits.specs.Capture.{CaptureOf}
 use Rattle.bus_calls.specs.Internal.Watching.{FeedAfter, WatchAfter}
-use Rattle.bus_calls.specs.Internal.Sessions.{SourceAfter, IsRead}
+use Rattle.bus_calls.specs.Internal.Sessions.{SourceAfter, IsReadAs}
 use Rattle.bus_calls.specs.declared.reader.Source.{Source}
 use Rattle.bus_calls.specs.declared.run.CaptureRun.{CaptureRun}
 use Rattle.bus_calls.proofs.ReadingLemmas.{watched-none}
@@ -33,7 +33,7 @@ returns-clause-fresh g c =
       | else-options w ↦ subst (λ (s : Source g.row.T-Body.Denot). SourceAfter kind start start s run [])
           (sym w.source-is)
           (record {
-            read = subst (λ b. IsRead kind w.new.result.head.items b []) (sym w.new.ensures.1)
+            read = subst (λ b. IsReadAs kind w.new.result.head.items b []) (sym w.new.ensures.1)
                 (w.new.ensures.0, omega arith);
             bits = followed (kind.form.packed []) (law.form.short [] (omega arith)).0;
           })

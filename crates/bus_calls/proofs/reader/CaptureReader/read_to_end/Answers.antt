@@ -1,7 +1,7 @@
 use Rattle.std.proofs.Common.{rules, arith, Bool, ◌++◌, take, ◌∙◌, subst}
 use Rattle.std.proofs.lemmas.Result.{err_from_is_err_and}
 use Rattle.bus_calls.specs.Internal.Watching.{lines}
-use Rattle.bus_calls.specs.Internal.Sessions.{is_text, taken_of, SourceStopsWith}
+use Rattle.bus_calls.specs.Internal.Sessions.{is_text, capture_so_far, SourceStopsWith}
 use Rattle.bus_calls.specs.Internal.Reading.{IsClean, ReadStopsWith}
 use Rattle.bus_text.proofs.KnownBytesLemmas.{consumes_both, consumes_end, consumes_kept, longer}
 use Rattle.bus_calls.proofs.WatchingLemmas.{same-both}
@@ -79,7 +79,7 @@ returns-in_err-write_out-clause-read g c =
     (c.in_ok-analyse.ensures.taken start before.0 before.2)) in
     let here = subst (λ (b : Bool). IsClean kind b start (g.W.Write.contents c.analyse.new.w) self.run xs)
     (c.analyse.ensures.text ∙ c.loop-turn.invariant.text) clean in
-    let bits = (taken_of kind (is_text c.args.self.now.source) self.run xs).bits in
+    let bits = (capture_so_far kind (is_text c.args.self.now.source) self.run xs).bits in
     rw (failed.1, failed.2) (
       xs,
       consumes_both _ _ _ before.0 _ before.1 c.in-Ok.ensures.bytes.0,

@@ -1,6 +1,6 @@
 use Rattle.std.proofs.Common.{◌++◌, refl}
 use Rattle.std.proofs.lemmas.Result.{err_from_is_err_and}
-use Rattle.bus_calls.specs.Internal.Watching.{lines, reported}
+use Rattle.bus_calls.specs.Internal.Watching.{lines, report_text}
 use Rattle.bus_calls.proofs.run.CaptureRun.report.Goals as goal
 
 pub returns-in_err-put_report : goal.returns-in_err-put_report
@@ -14,7 +14,7 @@ returns-in_err-put_report g c =
 pub returns : goal.returns
 returns g c = λ start b followed.
     let kind = g.T.CaptureKind.kind in (
-      c.in_ok-close.ensures.closed start (lines kind c.args.self b ++ reported kind c.args.self b)
+      c.in_ok-close.ensures.closed start (lines kind c.args.self b ++ report_text kind c.args.self b)
           (c.in_ok-put_report.ensures.put start (lines kind c.args.self b) b followed.is_after followed.page),
       refl,
     )
@@ -24,5 +24,5 @@ returns-in_err-close g c =
     let failed = err_from_is_err_and c.from_residual-in_err-close.result c.from_residual-in_err-close.ensures.1 in
     rw (failed.1, failed.2) (λ start b followed.
     let kind = g.T.CaptureKind.kind in
-    c.in_err-close.ensures.closed start (lines kind c.args.self b ++ reported kind c.args.self b)
+    c.in_err-close.ensures.closed start (lines kind c.args.self b ++ report_text kind c.args.self b)
     (c.in_ok-put_report.ensures.put start (lines kind c.args.self b) b followed.is_after followed.page))

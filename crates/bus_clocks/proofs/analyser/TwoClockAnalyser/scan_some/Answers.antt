@@ -1,9 +1,7 @@
-use Rattle.std.proofs.Common.{◌≡◌, ◌+◌, ◌-◌, ◌++◌, ◌<◌, List, length, refl, sym, ap, ◌∙◌}
-use Rattle.std.proofs.Common.{subst, arith, Some, take, drop, Option}
+use Rattle.std.proofs.Common.{◌≡◌, ◌+◌, ◌-◌, ◌++◌, List, length, refl, ap, ◌∙◌}
+use Rattle.std.proofs.Common.{subst, arith, Some, Option}
 use Rattle.std.specs.Option.{option_to_list}
-use Rattle.bus_bits.specs.Bits.{bits_from}
 use Rattle.bus_bits.proofs.BitLemmas.{length-from}
-use Rattle.bus_line.specs.After.{due_of}
 use Rattle.bus_pairing.specs.Seen.{SeenReport}
 use Rattle.bus_pairing.specs.declared.line.Line.TheVariants.{First, Second}
 use Rattle.bus_tap.specs.Arrival.{Arrival, own}
@@ -16,57 +14,41 @@ use Rattle.bus_clocks.specs.Internal.Parts.{Parts, beyond, upto}
 use Rattle.bus_clocks.proofs.PartsLemmas.{count-beyond, is-stretch, stretch-firsts}
 use Rattle.bus_clocks.proofs.PushLemmas.{whole-located}
 use Rattle.bus_clocks.proofs.RoomLemmas.{own-count}
-use Rattle.bus_clocks.proofs.StretchLemmas.{arrivals-keep_up, leads-scanned, opening-scanned}
+use Rattle.bus_clocks.proofs.StretchLemmas.{arrivals-keep_up, leads-scanned}
 use Rattle.bus_clocks.proofs.StretchLemmas.{scanned-of, whole-scanned}
 use Rattle.bus_clocks.proofs.analyser.TwoClockAnalyser.scan_some.Given.{Over}
 use Rattle.bus_clocks.proofs.analyser.TwoClockAnalyser.scan_some.Goals as goal
 
-pub unreachable-requires : goal.unreachable-requires
-unreachable-requires g c =
-    let full = c.in-Err.ensures.limit.0 refl in
+pub scan_noted-scanned-requires-clause-places : goal.scan_noted-scanned-requires-clause-places
+scan_noted-scanned-requires-clause-places g c =
     let ys = c.requires.parts.0 in
+    let total = ap length c.requires.parts.1.second in
     omega (
       arith,
-      full,
       c.requires.parts.2,
       ap (λ (a : ClockState g.row.C.Denot). a.first.place + a.second.place) c.self.view_is,
       own-count (beyond c.args.from ys),
-      count-beyond c.args.from ys (omega (arith, c.requires.some, ap length c.requires.parts.1.second)),
+      count-beyond c.args.from ys (omega (arith, c.requires.some, total)),
       c.requires.some,
-      ap length c.requires.parts.1.second,
+      total,
     )
 
-pub note_bits-requires-clause-opening : goal.note_bits-requires-clause-opening
-note_bits-requires-clause-opening g c = λ k is.
-    let p = c.args.parted.now in
-    let m = c.args.from in
-    let n = c.in-Ok.scanned.count in
-    let reached = c.self.invariant.reached in
-    let bits = bits_from c.octets.result.now m n in
-    let count = length-from c.octets.result.now m n in
-    let some = is-stretch c.requires.parts.0 c.requires.parts.1 c.requires.some c.count.ensures.value
-    c.in-Ok.ensures.count (c.ahead-ahead.ensures c.requires.parts.0 c.requires.parts.1) refl in
-    let all : n ≡ m + n - m = omega arith in
-    let within = opening-scanned {old = clock_state c.self.inside} bits c.reports_are.ensures.due
-    (omega (arith, count, c.in-Ok.ensures.count.0)) c.in-Ok.ensures.advances
-    (λ b after. c.in-Ok.ensures.answer b after ∙ ap (λ j. due_of c.self.inside.second (b ++ bits) (length b + j - 1))
-    (sym count)) c.opening-opening.ensures c.self.invariant.arrivals reached k is in
-    subst (λ j. k < c.place-number.result + length (take j (drop m p.before))) all
-    (omega (
+pub overflow_add-past : goal.overflow_add-past
+overflow_add-past g c =
+    let parts = c.requires.parts.1 in
+    omega (
       arith,
-      within,
-      count,
-      some.count,
-      c.place-number.ensures.value,
-      reached.second.has_taken.place,
-      reached.origin,
-    ))
+      c.scan_noted-scanned.ensures.count.1,
+      ap length parts.second,
+      own-count c.requires.parts.0,
+      parts.few,
+    )
 
 pub observe_bits-requires-clause-some : goal.observe_bits-requires-clause-some
 observe_bits-requires-clause-some g c =
     let ys = c.requires.parts.0 in
     let parts = c.requires.parts.1 in
-    let some = is-stretch ys parts c.requires.some c.count.ensures.value c.in-Ok.ensures.count
+    let some = is-stretch ys parts c.requires.some refl c.scan_noted-scanned.ensures.count
     (c.ahead-ahead.ensures ys parts) (c.ahead.ensures ys parts) in
     omega (arith, some.past_is)
 
@@ -74,15 +56,15 @@ pub observe_bits-requires-clause-enough : goal.observe_bits-requires-clause-enou
 observe_bits-requires-clause-enough g c =
     let ys = c.requires.parts.0 in
     let parts = c.requires.parts.1 in
-    let some = is-stretch ys parts c.requires.some c.count.ensures.value c.in-Ok.ensures.count
+    let some = is-stretch ys parts c.requires.some refl c.scan_noted-scanned.ensures.count
     (c.ahead-ahead.ensures ys parts) (c.ahead.ensures ys parts) in
-    omega (arith, some.within, c.octets-2.ensures.enough)
+    omega (arith, some.within, c.octets.ensures.enough)
 
 pub observe_bits-requires-clause-places : goal.observe_bits-requires-clause-places
 observe_bits-requires-clause-places g c =
     let ys = c.requires.parts.0 in
     let parts = c.requires.parts.1 in
-    let some = is-stretch ys parts c.requires.some c.count.ensures.value c.in-Ok.ensures.count
+    let some = is-stretch ys parts c.requires.some refl c.scan_noted-scanned.ensures.count
     (c.ahead-ahead.ensures ys parts) (c.ahead.ensures ys parts) in
     omega (
       arith,
@@ -108,7 +90,7 @@ pub observe_bits-requires-clause-room : goal.observe_bits-requires-clause-room
 observe_bits-requires-clause-room g c =
     let ys = c.requires.parts.0 in
     let parts = c.requires.parts.1 in
-    let some = is-stretch ys parts c.requires.some c.count.ensures.value c.in-Ok.ensures.count
+    let some = is-stretch ys parts c.requires.some refl c.scan_noted-scanned.ensures.count
     (c.ahead-ahead.ensures ys parts) (c.ahead.ensures ys parts) in
     g.met.L.ReportObserver.has_less c.args.observer.now _ (c.ahead.result - c.ahead-ahead.result)
     (omega (arith, some.past_is, some.size, some.fits)) c.requires.parts.3
@@ -117,18 +99,14 @@ pub enter-is_decided-requires-clause-whole : goal.enter-is_decided-requires-clau
 enter-is_decided-requires-clause-whole g c =
     let ys = c.requires.parts.0 in
     let parts = c.requires.parts.1 in
-    let some = is-stretch ys parts c.requires.some c.count.ensures.value c.in-Ok.ensures.count
+    let some = is-stretch ys parts c.requires.some refl c.scan_noted-scanned.ensures.count
     (c.ahead-ahead.ensures ys parts) (c.ahead.ensures ys parts) in
     let xs = c.self.invariant.arrivals in
     let reached = c.self.invariant.reached in
-    let scanned = scanned-of g.C.Check.check (clock_state c.self.inside) c.in-Ok.scanned.event c.scan.new.self
-    c.note_bits.new.places ys c.octets.result.now
-    c.standing_behind-standing.result xs parts some reached c.octets.ensures.bits c.in-Ok.ensures.advances
-    c.in-Ok.ensures.answer
-    c.place-number.ensures.value (c.standing_behind-standing.ensures.taken (own First xs) reached.first)
-    c.standing_behind-standing.ensures.origin c.standing_behind-standing.ensures.ahead c.note_bits.ensures
-    c.opening-opening.ensures in
-    whole-located _ c.in-Ok.scanned.event c.located_option-event.result c.octets-octets.result.now
+    let scanned = scanned-of ys xs parts some reached c.scan_noted-scanned.ensures
+    (c.standing_behind-standing.ensures.taken (own First xs) reached.first) c.standing_behind-standing.ensures.origin
+    c.standing_behind-standing.ensures.ahead in
+    whole-located _ c.scan_noted-scanned.result.event c.located_option-event.result c.octets-octets.result.now
     c.located_option-event.ensures
     (whole-scanned c.reports_are.ensures.due c.frame_is_spelled.ensures scanned (own Second xs) reached.second _
     c.octets-octets.ensures.value)
@@ -137,7 +115,7 @@ pub enter-is_decided-requires-clause-room : goal.enter-is_decided-requires-claus
 enter-is_decided-requires-clause-room g c =
     let ys = c.requires.parts.0 in
     let parts = c.requires.parts.1 in
-    let some = is-stretch ys parts c.requires.some c.count.ensures.value c.in-Ok.ensures.count
+    let some = is-stretch ys parts c.requires.some refl c.scan_noted-scanned.ensures.count
     (c.ahead-ahead.ensures ys parts) (c.ahead.ensures ys parts) in
     keeps_up-room g.C.Check.check c.observe_bits.new.decoder c.observe_bits.new.conversation
     c.settled_places.ensures.frames c.settled_places.ensures.paid c.settled_places.ensures.within
@@ -145,7 +123,7 @@ enter-is_decided-requires-clause-room g c =
     (omega (
       arith,
       c.observe_bits.ensures.observes.led.place,
-      length-from c.octets-2.result.now c.ahead-ahead.result (c.ahead.result - c.ahead-ahead.result),
+      length-from c.octets.result.now c.ahead-ahead.result (c.ahead.result - c.ahead-ahead.result),
       some.past_is,
       some.size,
       some.fits,
@@ -157,49 +135,47 @@ pub show-requires-clause-room : goal.show-requires-clause-room
 show-requires-clause-room g c =
     let ys = c.requires.parts.0 in
     let parts = c.requires.parts.1 in
-    let some = is-stretch ys parts c.requires.some c.count.ensures.value c.in-Ok.ensures.count
+    let some = is-stretch ys parts c.requires.some refl c.scan_noted-scanned.ensures.count
     (c.ahead-ahead.ensures ys parts) (c.ahead.ensures ys parts) in
     c.observe_bits.ensures.left 1
     (g.met.L.ReportObserver.has_less c.args.observer.now _ (c.ahead.result - c.ahead-ahead.result + 1)
-    (omega (arith, some.past_is, some.size, some.fits, c.in-Ok.ensures.count.0))
+    (omega (arith, some.past_is, some.size, some.fits, c.scan_noted-scanned.ensures.count.0))
     c.requires.parts.3)
 
 abbrev next-state : (g : Over) (c : goal.After-show g) → ClockState g.row.C.Denot
 next-state g c = record {
   first = c.observe_bits.new.decoder;
-  second = c.scan.new.self;
+  second = c.scan_noted-scanned.new.second;
   conversation = c.enter-is_decided.new.conversation;
-  places = c.note_bits.new.places;
+  places = c.scan_noted-scanned.new.places;
 }
 
 -- what is seen of the second line's report, if there is one
 abbrev last-seen : (g : Over) (c : goal.After-show g) → Option SeenReport
 last-seen g c =
-    told_on (Some Second) c.scan.new.self.octets c.enter-is_decided.result c.enter-is_decided.new.conversation.last
+    told_on (Some Second) c.scan_noted-scanned.new.second.octets c.enter-is_decided.result
+    c.enter-is_decided.new.conversation.last
 
 leads-on : (g : Over) (c : goal.After-show g) (ys : List Arrival) → Parts ys c.args.parted.now →
     AdvancesWatchShown (two_clocks g.C.Check.check) (clock_state c.self.inside)
-    (upto c.in-Ok.scanned.count (beyond c.args.from ys)) (next-state g c)
+    (upto c.scan_noted-scanned.result.count (beyond c.args.from ys)) (next-state g c)
     (λ ss. g.L.ReportObserver.observes c.self.inside.conversation.dictionary c.args.observer.now c.args.out.now ss
     c.show.new.observer c.show.new.out)
 leads-on g c ys parts =
-    let some = is-stretch ys parts c.requires.some c.count.ensures.value c.in-Ok.ensures.count
+    let some = is-stretch ys parts c.requires.some refl c.scan_noted-scanned.ensures.count
     (c.ahead-ahead.ensures ys parts) (c.ahead.ensures ys parts) in
-    let asked = is-stretch c.requires.parts.0 c.requires.parts.1 c.requires.some c.count.ensures.value
-    c.in-Ok.ensures.count (c.ahead-ahead.ensures c.requires.parts.0 c.requires.parts.1)
+    let asked = is-stretch c.requires.parts.0 c.requires.parts.1 c.requires.some refl
+    c.scan_noted-scanned.ensures.count (c.ahead-ahead.ensures c.requires.parts.0 c.requires.parts.1)
     (c.ahead.ensures c.requires.parts.0 c.requires.parts.1) in
-    let zs = upto c.in-Ok.scanned.count (beyond c.args.from ys) in
+    let zs = upto c.scan_noted-scanned.result.count (beyond c.args.from ys) in
     let xs = c.self.invariant.arrivals in
     let reached = c.self.invariant.reached in
-    let scanned = scanned-of g.C.Check.check (clock_state c.self.inside) c.in-Ok.scanned.event c.scan.new.self
-    c.note_bits.new.places ys c.octets.result.now
-    c.standing_behind-standing.result xs parts some reached c.octets.ensures.bits c.in-Ok.ensures.advances
-    c.in-Ok.ensures.answer
-    c.place-number.ensures.value (c.standing_behind-standing.ensures.taken (own First xs) reached.first)
-    c.standing_behind-standing.ensures.origin c.standing_behind-standing.ensures.ahead c.note_bits.ensures
-    c.opening-opening.ensures in
-    let bits = stretch-firsts c.octets-2.result.now c.args.parted.now ys c.args.from c.in-Ok.scanned.count _ _ parts
-    some c.octets-2.ensures.bits in
+    let scanned = scanned-of ys xs parts some reached c.scan_noted-scanned.ensures
+    (c.standing_behind-standing.ensures.taken (own First xs) reached.first) c.standing_behind-standing.ensures.origin
+    c.standing_behind-standing.ensures.ahead in
+    let bits = stretch-firsts c.octets.result.now c.args.parted.now ys c.args.from
+    c.scan_noted-scanned.result.count _ _ parts
+    some c.octets.ensures.bits in
     let first = subst (λ b. DecodesMany g.C.Check.check (Some First) c.self.inside.first c.self.inside.conversation b
     c.observe_bits.new.decoder c.observe_bits.new.conversation
     (λ ss. g.L.ReportObserver.observes c.self.inside.conversation.dictionary c.args.observer.now c.args.out.now ss
@@ -210,7 +186,8 @@ leads-on g c ys parts =
     c.observe_bits.new.out (option_to_list last) c.show.new.observer c.show.new.out =
     rw (← dictionary, ← c.newest.ensures, ← c.octets-octets.ensures.value) c.show.ensures.observed in
     leads-scanned g.C.Check.check (clock_state c.self.inside) (next-state g c) c.observe_bits.new.conversation zs
-    c.in-Ok.scanned.event c.located_option-event.result last _ c.arrivals_are.ensures.grow c.arrivals_are.ensures.apart
+    c.scan_noted-scanned.result.event c.located_option-event.result last _ c.arrivals_are.ensures.grow
+    c.arrivals_are.ensures.apart
     c.reports_grow.ensures.grow c.reports_are.ensures.are c.reports_are.ensures.within c.reports_are.ensures.due
     (omega (
       arith,
@@ -231,23 +208,26 @@ invariant_of-self g c =
     let led = leads-on g c c.requires.parts.0 c.requires.parts.1 in
     record {
       depth = omega (arith, c.self.invariant.depth, led.sees.depth);
-      arrivals = c.self.invariant.arrivals ++ upto c.in-Ok.scanned.count (beyond c.args.from c.requires.parts.0);
+      arrivals = c.self.invariant.arrivals
+          ++ upto c.scan_noted-scanned.result.count (beyond c.args.from c.requires.parts.0);
       reached = led.sees.is_after c.self.invariant.arrivals c.self.invariant.reached;
     }
 
 pub returns-clause-told : goal.returns-clause-told
 returns-clause-told g c = λ ys parts.
-    let all : c.args.from + c.in-Ok.scanned.count - c.args.from ≡ c.in-Ok.scanned.count = omega arith in
+    let all : c.args.from + c.scan_noted-scanned.result.count - c.args.from
+    ≡ c.scan_noted-scanned.result.count = omega arith in
     rw (all, ← c.self.view_is) (leads-on g c ys parts)
 
 pub returns-clause-left : goal.returns-clause-left
 returns-clause-left g c = λ ys parts more room.
-    let some = is-stretch ys parts c.requires.some c.count.ensures.value c.in-Ok.ensures.count
+    let some = is-stretch ys parts c.requires.some refl c.scan_noted-scanned.ensures.count
     (c.ahead-ahead.ensures ys parts) (c.ahead.ensures ys parts) in
-    let all : c.args.from + c.in-Ok.scanned.count - c.args.from ≡ c.in-Ok.scanned.count = omega arith in
+    let all : c.args.from + c.scan_noted-scanned.result.count - c.args.from
+    ≡ c.scan_noted-scanned.result.count = omega arith in
     let here : g.L.ReportObserver.has_room c.args.observer.now
-    (length (upto c.in-Ok.scanned.count (beyond c.args.from ys)) + more) = rw all at room in
+    (length (upto c.scan_noted-scanned.result.count (beyond c.args.from ys)) + more) = rw all at room in
     c.show.ensures.left more
     (c.observe_bits.ensures.left (1 + more)
     (g.met.L.ReportObserver.has_less c.args.observer.now _ (c.ahead.result - c.ahead-ahead.result + (1 + more))
-    (omega (arith, some.past_is, some.size, c.in-Ok.ensures.count.0)) here))
+    (omega (arith, some.past_is, some.size, c.scan_noted-scanned.ensures.count.0)) here))

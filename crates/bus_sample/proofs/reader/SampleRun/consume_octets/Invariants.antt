@@ -1,5 +1,5 @@
 use Rattle.std.proofs.Common.{◌≡◌, ◌+◌, ◌++◌, List, ℕ, Option, take}
-use Rattle.bus_sample.specs.Internal.Runs.{HasRead, IsSound}
+use Rattle.bus_sample.specs.Internal.Runs.{HasRead, IsSoundRun}
 use Rattle.bus_sample.proofs.reader.SampleRun.consume_octets.Given as goal
 
 -- the octets so far were taken
@@ -10,5 +10,5 @@ invariant-loop-octet g l = record {
       HasRead start (g.W.Write.contents l.w) l.self (xs ++ take l.octet-index l.octets);
   octets : l.self.octets ≡ l.initial.self.octets + l.octet-index;
   options : l.self.options ≡ l.initial.self.options;
-  sound : IsSound l.self;
+  sound : IsSoundRun l.self;
 }

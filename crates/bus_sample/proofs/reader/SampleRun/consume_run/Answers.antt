@@ -6,7 +6,7 @@ use Rattle.bus_sample.proofs.reader.SampleRun.consume_run.Goals as goal
 pub loop-left-init : goal.loop-left-init
 loop-left-init g c = record {
   within = omega arith;
-  taken = λ start ss taken. rw (run-none ss c.args.count c.args.sample) taken;
+  taken = λ sample is start ss taken. rw (run-none ss c.args.count sample) taken;
   same = (refl, refl, refl);
   sound = c.requires;
 }
@@ -14,9 +14,10 @@ loop-left-init g c = record {
 pub returns-in_err-left-clause-taken : goal.returns-in_err-left-clause-taken
 returns-in_err-left-clause-taken g c =
     let raised = err_from_is_err_and c.from_residual.result c.from_residual.ensures.1 in
-    rw (raised.1, raised.2) (λ start ss taken.
-    rw (run-all ss c.args.count c.loop-left.left c.args.sample c.loop-left.invariant.within)
-    (c.in_err-left.ensures.taken start _ (c.loop-left.invariant.taken start ss taken)))
+    rw (raised.1, raised.2) (λ sample is start ss taken.
+    rw (run-all ss c.args.count c.loop-left.left sample c.loop-left.invariant.within)
+    (c.in_err-left.ensures.taken sample (rw (c.loop-left.invariant.same.2) is) start _
+    (c.loop-left.invariant.taken sample is start ss taken)))
 
 pub loop-left-preserved : goal.loop-left-preserved
 loop-left-preserved g c =
@@ -24,10 +25,11 @@ loop-left-preserved g c =
     let same = c.consume_some.ensures.same in
     let before = c.loop-left.invariant.same in record {
       within = omega (arith, c.loop-left.invariant.within);
-      taken = λ start ss taken.
-          rw (run-on ss c.args.count c.loop-left.left n c.args.sample c.loop-left.invariant.within
+      taken = λ sample is start ss taken.
+          rw (run-on ss c.args.count c.loop-left.left n sample c.loop-left.invariant.within
           c.in_ok-left.ensures.count.1)
-          (c.in_ok-left.ensures.taken start _ (c.loop-left.invariant.taken start ss taken));
+          (c.in_ok-left.ensures.taken sample (rw (before.2) is) start _
+          (c.loop-left.invariant.taken sample is start ss taken));
       same = (same.0 ∙ before.0, same.1 ∙ before.1, same.2 ∙ before.2);
       sound = c.consume_some.ensures.sound;
     }
@@ -35,4 +37,4 @@ loop-left-preserved g c =
 pub returns-clause-taken : goal.returns-clause-taken
 returns-clause-taken g c =
     let all : c.args.count - c.loop-left.left ≡ c.args.count = omega (arith, c.loop-left-test.false) in
-    λ start ss taken. rw all at (c.loop-left.invariant.taken start ss taken)
+    λ sample is start ss taken. rw all at (c.loop-left.invariant.taken sample is start ss taken)

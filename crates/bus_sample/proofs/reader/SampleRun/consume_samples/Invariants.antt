@@ -1,5 +1,5 @@
 use Rattle.std.proofs.Common.{◌≡◌, ◌-◌, ◌+◌, ◌≤◌, ◌++◌, List, ℕ, Option, take, length}
-use Rattle.bus_sample.specs.Internal.Runs.{HasRead, IsSound}
+use Rattle.bus_sample.specs.Internal.Runs.{HasRead, IsSoundRun}
 use Rattle.bus_sample.proofs.reader.SampleRun.consume_samples.Given as goal
 
 -- the samples so far were taken
@@ -11,7 +11,7 @@ invariant-loop-at g l = record {
       HasRead start (g.W.Write.contents l.w) l.self (xs ++ take l.at l.octets);
   octets : l.self.octets ≡ l.initial.self.octets + l.at;
   options : l.self.options ≡ l.initial.self.options;
-  sound : IsSound l.self;
+  sound : IsSoundRun l.self;
 }
 
 abbrev pub decreases-loop-at : goal.decreases-loop-at

@@ -7,22 +7,22 @@ use Rattle.bus_sample.proofs.RunLemmas.{taken-more, arrivals-more, count-of, run
 use Rattle.bus_sample.proofs.reader.SampleRun.consume_some.Goals as goal
 
 pub returns-in-Err-clause-taken : goal.returns-in-Err-clause-taken
-returns-in-Err-clause-taken g c = λ start ss taken. (
+returns-in-Err-clause-taken g c = λ sample is start ss taken. (
   omega (
     arith,
     c.in-Err.ensures.limit.0 refl,
-    count-of c.args.self.now.options c.args.self.now.tap ss c.args.count c.args.sample taken.tap,
+    count-of c.args.self.now.options c.args.self.now.tap ss c.args.count sample taken.tap,
   ),
   ss,
-  (replicate c.args.count c.args.sample, refl),
+  (replicate c.args.count sample, refl),
   taken.marks,
 )
 
 pub returns-in-Ok-put-clause-taken : goal.returns-in-Ok-put-clause-taken
-returns-in-Ok-put-clause-taken g c = λ start ss taken.
+returns-in-Ok-put-clause-taken g c = λ sample is start ss taken.
     let self = c.args.self.now in
     taken-more start (g.W.Write.contents c.args.w.now) (g.W.Write.contents c.put.new.w) self _ ss
-    c.in-Ok.taken.samples c.args.sample _ c.in-Ok.taken.edges c.requires.sound.given.0 c.channels-levels.ensures
+    c.in-Ok.taken.samples sample _ c.in-Ok.taken.edges c.requires.sound.given.0 is
     c.in-Ok.ensures.taken.2 taken refl (c.in-Ok-put.ensures.put start _ taken.marks)
 
 pub returns-in-Ok-put-clause-sound : goal.returns-in-Ok-put-clause-sound
@@ -32,6 +32,7 @@ returns-in-Ok-put-clause-sound g c =
     let some = c.in-Ok.ensures.taken.1 c.requires.some in record {
       given = (advances.hold ∙ sound.given.0, advances.jump ∙ sound.given.1);
       size = sound.size;
+      levels = sound.levels;
       samples = c.consume.ensures.fits;
       few = omega (
         arith,
@@ -39,29 +40,41 @@ returns-in-Ok-put-clause-sound g c =
         c.in-Ok-put.ensures.few,
         advances.samples,
         some,
-        length-replicate c.in-Ok.taken.samples c.channels-levels.result,
+        length-replicate c.in-Ok.taken.samples c.args.levels,
       );
       part = sound.part;
     }
 
+pub returns-in-Err-put-clause-sound : goal.returns-in-Err-put-clause-sound
+returns-in-Err-put-clause-sound g c =
+    let sound = c.requires.sound in
+    let advances = c.in-Ok.ensures.taken.2 in record {
+      given = (advances.hold ∙ sound.given.0, advances.jump ∙ sound.given.1);
+      size = sound.size;
+      levels = sound.levels;
+      samples = c.consume.ensures.fits;
+      few = rw (c.in-Err-put.ensures.kept) (omega (arith, sound.few, advances.samples));
+      part = sound.part;
+    }
+
 pub returns-in-Err-put-clause-taken : goal.returns-in-Err-put-clause-taken
-returns-in-Err-put-clause-taken g c = λ start ss taken.
+returns-in-Err-put-clause-taken g c = λ sample is start ss taken.
     let self = c.args.self.now in
     let n = c.in-Ok.taken.samples in (
-      ss ++ replicate n c.args.sample,
-      run-front ss c.args.count n c.args.sample c.in-Ok.ensures.taken.0,
-      rw (arrivals-more self.options self.tap c.consume.new.self ss n c.args.sample _ c.in-Ok.taken.edges
-          c.requires.sound.given.0 c.channels-levels.ensures c.in-Ok.ensures.taken.2 taken.tap)
+      ss ++ replicate n sample,
+      run-front ss c.args.count n sample c.in-Ok.ensures.taken.0,
+      rw (arrivals-more self.options self.tap c.consume.new.self ss n sample _ c.in-Ok.taken.edges
+          c.requires.sound.given.0 is c.in-Ok.ensures.taken.2 taken.tap)
           (c.in-Err-put.ensures.put start _ taken.marks),
     )
 
 pub returns-then-is_none-clause-taken : goal.returns-then-is_none-clause-taken
-returns-then-is_none-clause-taken g c = λ start ss taken.
+returns-then-is_none-clause-taken g c = λ sample is start ss taken.
     let self = c.args.self.now in
     let w = g.W.Write.contents c.args.w.now in
     let none : bits_of_edges c.in-Ok.taken.edges ≡ [] = ap bits_of_edges (c.if-is_none.ensures refl) in
     let marked : HasMarked start w self.marks (arrivals self.options ss ++ bits_of_edges c.in-Ok.taken.edges) =
     subst (λ xs. HasMarked start w self.marks (arrivals self.options ss ++ xs)) (sym none)
     (rw (append-nil (arrivals self.options ss)) taken.marks) in
-    taken-more start w w self _ ss c.in-Ok.taken.samples c.args.sample _ c.in-Ok.taken.edges
-    c.requires.sound.given.0 c.channels-levels.ensures c.in-Ok.ensures.taken.2 taken refl marked
+    taken-more start w w self _ ss c.in-Ok.taken.samples sample _ c.in-Ok.taken.edges
+    c.requires.sound.given.0 is c.in-Ok.ensures.taken.2 taken refl marked

@@ -1,6 +1,6 @@
 use Rattle.std.proofs.Common.{◌≡◌, ◌*◌, ◌≤◌, List, ℕ, length}
 use Rattle.std.specs.Io.KnownBytes.{Consumes}
-use Rattle.bus_sample.specs.Internal.Runs.{HasRead, IsSound}
+use Rattle.bus_sample.specs.Internal.Runs.{HasRead, IsSoundRun}
 use Rattle.bus_sample.proofs.reader.SampleRun.read_to_end.Given as goal
 
 -- some octets were read, at least one a turn, and taken
@@ -8,7 +8,7 @@ abbrev pub invariant-loop-turn : goal.invariant-loop-turn
 invariant-loop-turn g l = record {
   few : l.self.octets ≤ 65536 * l._turn;
   options : l.self.options ≡ l.initial.self.options;
-  sound : IsSound l.self;
+  sound : IsSoundRun l.self;
   read : (xs : List ℕ) × Consumes (g.R.Read.remaining l.initial.r) (g.R.Read.remaining l.r) xs
       × HasRead (g.W.Write.contents l.initial.w) (g.W.Write.contents l.w) l.self xs
       × (l._turn ≤ length xs);

@@ -1,5 +1,5 @@
 use Rattle.std.proofs.Common.{rules, ◌++◌, ◌∷◌, [], append-nil, sym, ap, ◌∙◌}
-use Rattle.bus_tap.specs.Facts.{step}
+use Rattle.bus_tap.specs.Facts.{spacing}
 use Rattle.bus_tap.proofs.FactsLemmas.{length-less, nothing-noted}
 use Rattle.bus_tap.proofs.facts.LineFacts.note.Goals as goal
 
@@ -14,7 +14,7 @@ returns-then-rises-clause-facts c = λ cs ls hs bs facts.
       gap = c.note_bit.ensures.gap bs facts.bits facts.gap;
       jumps = c.note_bit.ensures.jumps bs facts.bits facts.step facts.jumps;
       step = c.note_bit.ensures.step bs facts.bits facts.step
-          ∙ ap (step (bs ++ c.args.sample ∷ [])) (sym (length-less bs c.args.sample));
+          ∙ ap (spacing (bs ++ c.args.sample ∷ [])) (sym (length-less bs c.args.sample));
     })
 
 pub returns-else-rises-clause-facts : goal.returns-else-rises-clause-facts

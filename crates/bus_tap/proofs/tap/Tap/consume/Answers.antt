@@ -1,48 +1,23 @@
-use Rattle.std.proofs.Common.{◌≡◌, ◌+◌, ◌-◌, [], ◌∷◌, ◌++◌, replicate, refl, ap, ◌∙◌, subst, arith}
+use Rattle.std.proofs.Common.{◌≡◌, ◌+◌, ◌-◌, [], ◌++◌, replicate, refl, ap, ◌∙◌, subst, arith}
 use Rattle.bus_tap.specs.Sampled.{bits_of_edges}
-use Rattle.bus_tap.specs.Tapped.{AdvancesTap}
-use Rattle.bus_tap.proofs.TapLemmas.{advances-further, replicate-more, replicate-both}
+use Rattle.bus_tap.specs.Tapped.{TapState, AdvancesTap}
+use Rattle.bus_tap.proofs.TapLemmas.{advances-further, replicate-both}
 use Rattle.bus_tap.proofs.tap.Tap.consume.Goals as goal
 
-pub returns-then-is_settled-clause-taken : goal.returns-then-is_settled-clause-taken
-returns-then-is_settled-clause-taken c =
+pub returns-then-is_none-clause-taken : goal.returns-then-is_none-clause-taken
+returns-then-is_none-clause-taken c =
     let s = c.args.sample in
-    let all : c.args.count ≡ c.loop-taken.taken + (c.args.count - c.loop-taken.taken) =
-    omega (arith, c.loop-taken-test.true) in
-    let both : replicate c.args.count s ≡ replicate c.loop-taken.taken s
-    ++ replicate (c.args.count - c.loop-taken.taken) s =
-    ap (λ n. replicate n s) all
-    ∙ replicate-both c.loop-taken.taken (c.args.count - c.loop-taken.taken) s in (
+    let stood = c.args.self.now.hold + 1 in
+    let rest = c.args.count - (c.from-samples.result + 1) in
+    let hold = ap (λ (t : TapState). t.hold) c.self.view_is in
+    let all : c.args.count ≡ stood + rest =
+    omega (arith, hold, c.from.ensures, c.from-samples.ensures, c.if-count-from.false) in
+    let both : replicate c.args.count s ≡ replicate stood s ++ replicate rest s =
+    ap (λ n. replicate n s) all ∙ replicate-both stood rest s in (
       omega arith,
       (λ some. some),
-      rw both (advances-further c.args.self.now c.loop-taken.self c.pass.new.self _ _ [] []
-          c.loop-taken.invariant.advances c.pass.ensures),
-    )
-
-pub returns-then-not-is_none-clause-taken : goal.returns-then-not-is_none-clause-taken
-returns-then-not-is_none-clause-taken c = (
-  omega (arith, c.loop-taken-test.true),
-  (λ some. omega arith),
-  rw (replicate-more c.loop-taken.taken c.args.sample)
-      (advances-further c.args.self.now c.loop-taken.self c.step-edges.new.self _ _ [] _
-      c.loop-taken.invariant.advances c.step-edges.ensures),
-)
-
-pub loop-taken-preserved : goal.loop-taken-preserved
-loop-taken-preserved c = record {
-  room = c.loop-taken.invariant.room;
-  advances = rw (replicate-more c.loop-taken.taken c.args.sample)
-      (advances-further c.args.self.now c.loop-taken.self c.step-edges.new.self _ _ [] []
-      c.loop-taken.invariant.advances
-      (subst
-      (λ e. AdvancesTap c.loop-taken.self (c.args.sample ∷ []) (bits_of_edges e) c.step-edges.new.self)
-      (c.if-not-is_none.ensures refl) c.step-edges.ensures));
-}
-
-pub returns-clause-taken : goal.returns-clause-taken
-returns-clause-taken c =
-    let all : c.loop-taken.taken ≡ c.args.count = omega (arith, c.loop-taken-test.false) in (
-      omega arith,
-      (λ some. some),
-      rw (← all) c.loop-taken.invariant.advances,
+      rw both
+          (advances-further c.args.self.now c.consume_held-edges.new.self c.pass-then-is_none.new.self _ _ [] []
+          (subst (λ e. AdvancesTap c.args.self.now (replicate stood s) (bits_of_edges e) c.consume_held-edges.new.self)
+          (c.if-is_none.ensures refl) c.consume_held-edges.ensures.taken) c.pass-then-is_none.ensures),
     )
