@@ -13,8 +13,15 @@ static struct port1_entry entries[256];
 static struct port1_pair pair;
 static struct port1_seen seen;
 static struct port1_sender sender;
-static uint8_t sent[320], ones[256], has_begun;
-static uint64_t at, bits, first;
+static struct port1_tap tap;
+static struct port1_rest rest;
+static struct port1_clocks clocks;
+static struct port1_arrival arrivals[64];
+static uint8_t sent[320], ones[256], samples[26], has_begun, rests;
+static uint64_t at, bits, first, past, arrived;
+
+/* The clock and the data of both lines in the lowest bits of a sample. */
+static const struct port1_wires wires = {{1, 0, 0, 0}, {1, 1, 0, 0}, {1, 2, 0, 0}, {1, 3, 0, 0}};
 
 /* What a call returned last: it keeps a call from being the last thing that a function does. */
 static volatile uint32_t status;
@@ -70,7 +77,31 @@ MEASURED longest_sent(void) {
     status = port1_send_frame(&sender, ones, sizeof ones, sent, sizeof sent, &at, &bits);
 }
 
+/* Bits of both lines at 26 samples a bit, as 4 MHz takes them; the second clock is early by a quarter of a bit. */
+MEASURED sampled(void) {
+    for (uint32_t k = 0; k < 8 * sizeof polling; k++) {
+        for (uint32_t i = 0; i < sizeof samples; i++)
+            samples[i] = (uint8_t)((polling[k / 8] >> k % 8 & 1) * 10 + (i >= 13) + 4 * (i >= 6 && i < 19));
+        for (at = 0; at < sizeof samples;)
+            status = port1_tap_feed(&tap, samples, sizeof samples, 1, &at, arrivals, 64, &arrived);
+    }
+}
+
+static inline __attribute__((always_inline)) void arrive(const uint8_t *octets, uint32_t size) {
+    for (uint32_t k = 0; k < 16 * size; k++) {
+        const struct port1_arrival arrival = {(uint8_t)(1 + k % 2), octets[k / 16] >> k / 2 % 8 & 1};
+        status = port1_rest_push(&rest, &arrival, &rests);
+        status = port1_clocks_push(&clocks, &arrival, &report);
+    }
+}
+
+MEASURED arriving(void) { arrive(polling, sizeof polling); }
+MEASURED hardest_arriving(void) { arrive(hardest, sizeof hardest); }
+
 MEASURED others(void) {
+    at = sizeof samples;
+    status = port1_tap_push(&tap, 0, &at, arrivals, 64, &arrived);
+    status = port1_clocks_open(&clocks, 2, &has_begun, &first, &past);
     status = port1_line_open(&line, &has_begun, &first);
     at = 7;
     status = port1_send_flag(&sender, sent, sizeof sent, &at, &bits);
@@ -80,16 +111,23 @@ MEASURED others(void) {
     status = port1_line_init(&line, 256, 0);
     status = port1_sender_init(&sender);
     status = port1_pair_init(&pair);
+    status = port1_tap_init(&tap, &wires, 1, 2);
+    status = port1_rest_init(&rest, 400);
+    status = port1_clocks_init(&clocks, 256, 0);
 }
 
 int main(void) {
     status = port1_line_init(&line, 256, 0);
+    status = port1_tap_init(&tap, &wires, 1, 2);
+    status = port1_rest_init(&rest, 400);
+    status = port1_clocks_init(&clocks, 256, 0);
     for (uint32_t k = 0; k < 256; k++)
         entries[k] = (struct port1_entry){.known = 1, .length = 4, .answered = k < 128, .window = 1536};
     polling_1(), polling_8(), polling_32();
     hardest_1(), hardest_8(), hardest_32();
     high_first(), pushed(), paired();
     sent_again(), longest_sent();
+    sampled(), arriving(), hardest_arriving();
     others();
     return 0;
 }

@@ -46,6 +46,14 @@ static uint64_t at, bits, first;
 static struct port1_entry entries[129];
 static struct port1_pair pair;
 static struct port1_seen seen;
+static struct port1_tap tap;
+static struct port1_rest rest;
+static struct port1_clocks clocks;
+static struct port1_arrival arrivals[8];
+static uint64_t past, arrived;
+static uint8_t rests;
+
+static const struct port1_wires wires = {{1, 0, 0, 0}, {1, 1, 0, 0}, {1, 2, 0, 0}, {1, 3, 0, 0}};
 
 static void nothing(void) {}
 static void init(void) { port1_line_init(&line, 256, 0); }
@@ -78,6 +86,27 @@ static void pair_take(void) {
     port1_pair_take(&pair, entries, 129, 0, &reply, octets[1], 5, &seen);
 }
 
+static void tap_init(void) { port1_tap_init(&tap, &wires, 1, 2); }
+static void tap_push(void) { at = 3, port1_tap_push(&tap, 5, &at, arrivals, 8, &arrived); }
+static void tap_feed(void) {
+    static const uint8_t samples[] = {0, 0, 10, 10, 15, 15, 15, 15, 15, 15, 15, 15, 15, 15, 0, 0, 10, 5, 5, 1, 1};
+    for (at = 0; at < sizeof samples;)
+        port1_tap_feed(&tap, samples, sizeof samples, 1, &at, arrivals, 8, &arrived);
+}
+static void rest_init(void) { port1_rest_init(&rest, 400); }
+static void rest_push(void) {
+    static const struct port1_arrival arrival = {2, 1};
+    port1_rest_push(&rest, &arrival, &rests);
+}
+static void clocks_init(void) { port1_clocks_init(&clocks, 256, 0); }
+static void clocks_push(void) {
+    for (uint32_t i = 0; i < 16 * sizeof hardest; i++) {
+        const struct port1_arrival arrival = {(uint8_t)(1 + i % 2), hardest[i / 16] >> i / 2 % 8 & 1};
+        port1_clocks_push(&clocks, &arrival, &report);
+    }
+}
+static void clocks_open(void) { port1_clocks_open(&clocks, 2, &has_begun, &first, &past); }
+
 static const struct {
     const char *name;
     void (*call)(void);
@@ -94,6 +123,14 @@ static const struct {
     {"port1_send_align", send_align},
     {"port1_pair_init", pair_init},
     {"port1_pair_take", pair_take},
+    {"port1_tap_init", tap_init},
+    {"port1_tap_push", tap_push},
+    {"port1_tap_feed", tap_feed},
+    {"port1_rest_init", rest_init},
+    {"port1_rest_push", rest_push},
+    {"port1_clocks_init", clocks_init},
+    {"port1_clocks_push", clocks_push},
+    {"port1_clocks_open", clocks_open},
 };
 
 static uint32_t depth(void (*call)(void)) {

@@ -2,16 +2,17 @@
  * same on every processor; then how often each call returned each status, and how many reports of each kind came.
  *
  * STATES is how many states there are, 300000 unless defined. A state is a decoder, octets to take, a sender and
- * octets to send into. Half of the decoders are what taking traffic left, from an origin that is 0, random or near
- * 2^60. Of the others, half are such a decoder with one octet of its numbers changed, which is often no decoder, and
- * half are random octets. Each state goes through all rows of the table below: a call of the library has a function
- * there, which draws what it is given, calls it, and hashes what it may write. */
+ * octets to send into, a pairing, and a tap of two lines with its decoders (taps.h). Half of the decoders are what
+ * taking traffic left, from an origin that is 0, random or near 2^60. Of the others, half are such a decoder with one
+ * octet of its numbers changed, which is often no decoder, and half are random octets. Each state goes through all rows
+ * of the table below: a call of the library has a function there, which draws what it is given, calls it, and hashes
+ * what it may write. */
 #include "../bench/reversed.h"
 #include "port1.h"
+#include "taps.h"
 #include <inttypes.h>
 #include <stddef.h>
 #include <stdio.h>
-#include <string.h>
 
 #ifndef STATES
 #define STATES 300000
@@ -22,8 +23,6 @@
 #define TRAFFIC 3000
 #define STATUSES 8
 #define PAIR_ENTRIES 200
-
-static uint64_t random_state = 88172645463325252u, hash = 14695981039346656037u;
 
 /* What a receiver may write, and what a sender may write. */
 static struct {
@@ -47,38 +46,7 @@ static struct port1_line sound;                    /* a decoder that only the li
 static uint8_t room[TAKEN + 4], *taken = room;     /* octets to take, at any address */
 static uint8_t traffic[TRAFFIC];                   /* frames, flags and idle times one after the other */
 static uint32_t place;                             /* of the traffic that comes next */
-static uint32_t counts[16][STATUSES], reports[STATUSES];
-
-static uint64_t draw(void) {
-    random_state ^= random_state << 13;
-    random_state ^= random_state >> 7;
-    random_state ^= random_state << 17;
-    return random_state;
-}
-
-/* A number below the limit, without a division, which some processors lack. */
-static uint32_t below(uint32_t limit) { return (uint32_t)((draw() >> 32) * limit >> 32); }
-
-static void fill(void *object, uint32_t count) {
-    uint8_t *octets = object;
-    while (count > 0) {
-        uint64_t word = draw();
-        uint32_t some = count < sizeof word ? count : sizeof word;
-        memcpy(octets, &word, some);
-        octets += some;
-        count -= some;
-    }
-}
-
-/* Takes whole words of an object into the hash: FNV-1a with words of 32 bits. */
-static void note(const void *object, uint32_t count) {
-    const uint8_t *octets = object;
-    for (uint32_t k = 0; k < count; k += 4) {
-        uint32_t word;
-        memcpy(&word, octets + k, sizeof word);
-        hash = (hash ^ word) * 1099511628211u;
-    }
-}
+static uint32_t counts[24][STATUSES], reports[STATUSES];
 
 static uint32_t note_received(uint32_t status) {
     note(&status, sizeof status);
@@ -150,6 +118,7 @@ static void go_on(void) {
 
 static void make_state(void) {
     go_on();
+    clocks_go_on(taken);
     received.line = sound;
     if (below(2) == 0) {
         if (below(2) == 0)
@@ -297,6 +266,14 @@ static const struct {
     {"port1_send_align", send_align},
     {"port1_pair_init", make_pair},
     {"port1_pair_take", pair_take},
+    {"port1_tap_init", tap_init},
+    {"port1_tap_push", tap_push},
+    {"port1_tap_feed", tap_feed},
+    {"port1_rest_init", rest_init},
+    {"port1_rest_push", rest_push},
+    {"port1_clocks_init", clocks_init},
+    {"port1_clocks_push", clocks_push},
+    {"port1_clocks_open", clocks_open},
 };
 
 int main(void) {
