@@ -322,7 +322,7 @@ def on_two_clocks(asked: Sequence[Poll], period: int) -> Tuple[Wave, Wave, List[
         own = [start + (period + 1) * place for place in range(len(answer))]
         if poll.is_answer:
             samples = own[8] - line.rises[end]
-            counted = sum(1 for rise in line.rises if line.rises[end] <= rise < own[8])
+            counted = sum(1 for rise in line.rises if line.rises[end] < rise <= own[8])
             text = f"{samples * 1000 / RATE:.3f} ms, {counted} bits"
             times.append(Shown(line.rises[end], own[8], REPLY_TIMES, text))
         bits += answer
@@ -339,7 +339,7 @@ def two_lines_with_two_clocks(folder: Path) -> List[str]:
     return (
         differences(side_of(got, CONTROLLER), expected(first, DICTIONARY, CONTROLLER))
         + differences(side_of(got, ANSWERS), answers)
-        + differences(side_of(got, REPLY_TIMES), times)
+        + differences([one for one in side_of(got, REPLY_TIMES) if " ms" in one.text], times)
         + kinds_missing(answers, ["frame 108380f561 station 16", "frame 1183", "frame 108381", "damaged", "idle"])
         + ([] if len(times) > 20 else ["too few answers in the test"])
     )
@@ -358,6 +358,7 @@ def two_lines_with_one_clock(folder: Path) -> List[str]:
     wanted = [
         (first.rises[49], "0.096 ms, 16 bits"),
         (first.rises[163], "0.240 ms, 40 bits, late"),
+        (first.rises[260], "missing station 16 type 0"),
         (first.rises[358], "0.096 ms, 16 bits"),
     ]
     return (
@@ -416,33 +417,35 @@ def conversation(generator: random.Random, count: int) -> Tuple[str, str]:
     return lines[1], lines[2]
 
 
-def reply_times(first: str, second: str, dictionary: str, rises: Sequence[int]) -> List[Shown]:
-    """The time of each command that is answered by the listing of both lines, whose line before is the answer."""
+def verdicts(first: str, second: str, dictionary: str, rises: Sequence[int]) -> List[Shown]:
+    """What becomes of each command by the listing of both lines: its time where the line before is the answer."""
     marks = "".join(str(int(one) + 2 * int(two)) for one, two in zip(first, second))
     listing = listed(marks.encode(), ["--bits", "--two", "--dict", dictionary]).stdout.decode().splitlines()
-    times = []
+    found = []
     for before, line in zip(listing, listing[1:]):
-        words = line.split()
-        if words[3] not in ("answered", "late"):
-            continue
-        end, begin = int(words[2]), int(before.split()[1])
-        milliseconds = (rises[begin] - rises[end]) * 1000 / RATE
-        text = f"{milliseconds:.3f} ms, {begin - end} bits" + (", late" if words[3] == "late" else "")
-        times.append(Shown(rises[end], rises[begin], REPLY_TIMES, text))
-    return times
+        _, start, end, outcome, *rest = line.split()
+        if outcome in ("missing", "spoilt"):
+            text = " ".join([outcome, *rest[:4]])
+            found.append(Shown(rises[int(start)], rises[int(end)], REPLY_TIMES, text))
+        if outcome in ("answered", "late"):
+            begin, past = int(before.split()[1]), int(end)
+            milliseconds = (rises[begin] - rises[past]) * 1000 / RATE
+            text = f"{milliseconds:.3f} ms, {begin - past} bits" + (", late" if outcome == "late" else "")
+            found.append(Shown(rises[past], rises[begin], REPLY_TIMES, text))
+    return found
 
 
-def commands_that_are_answered(folder: Path) -> List[str]:
-    """There is a reply time just where the listing of both lines says `answered` or `late`."""
+def what_becomes_of_commands(folder: Path) -> List[str]:
+    """There is a reply time just where the listing of both lines says `answered` or `late`, and `missing` and `spoilt`
+    are shown where it says so."""
     built(folder)
     bits = conversation(random.Random(7), 1500)
     first = wave(bits[0])
     second = Wave(bits[1], first.rises, 3)
-    wanted = reply_times(*bits, TALK, first.rises)
+    wanted = verdicts(*bits, TALK, first.rises)
     got = annotations(folder, recording(first, second), f"{CHANNELS}:rxd=3{dictionary_in(folder, TALK)}")
-    late = sum(1 for one in wanted if one.text.endswith("late"))
-    counts = [] if late > 5 and len(wanted) > late + 20 else [f"{len(wanted)} answers, {late} late, are too few"]
-    return counts + differences(side_of(got, REPLY_TIMES), wanted)
+    kinds = [kind for kind in ("bits", "late", "missing", "spoilt") if sum(kind in one.text for one in wanted) < 10]
+    return [f"too few {kind} in the test" for kind in kinds] + differences(side_of(got, REPLY_TIMES), wanted)
 
 
 def answer_that_begins_too_early(folder: Path) -> List[str]:
@@ -621,7 +624,7 @@ TESTS = [
     longest_frame,
     two_lines_with_two_clocks,
     two_lines_with_one_clock,
-    commands_that_are_answered,
+    what_becomes_of_commands,
     answer_that_begins_too_early,
     piece_longer_than_what_is_kept,
     reply_time_after_many_bits,

@@ -1,12 +1,12 @@
 """The decoder: bits from samples, annotations from reports."""
 
-from bisect import bisect_left
-from typing import Any, List, NamedTuple, Optional, Tuple
+from bisect import bisect_right
+from typing import Any, Dict, List, NamedTuple, Optional, Tuple
 
 import sigrokdecode as srd
 
-from .dictionary import Dictionary, Frame
-from .library import line_decoder
+from .dictionary import Entry, entries_of, longest_of
+from .library import line_decoder, pairing_by
 
 TXC, TXD, RXC, RXD = range(4)
 
@@ -14,6 +14,7 @@ TXC, TXD, RXC, RXD = range(4)
 FRAME, DAMAGE, IDLE = range(3)
 CLASSES = 3
 REPLY_TIME = 2 * CLASSES
+NO_ANSWER = REPLY_TIME + 1
 
 # How a bit stands in the binary output, and at the end of each line there, which has so many bits.
 TEXTS = (b"0", b"1")
@@ -27,12 +28,11 @@ EDGES = 1 << 16
 SHORT = {"damaged": "D", "overlong": "O", "abort": "A", "idle": "I"}
 
 
-class Command(NamedTuple):
-    """A command that waits for its answer: the bit just past it, and its frame."""
+class Samples(NamedTuple):
+    """The samples of a piece: from the edge of its first bit to that of the bit just past it."""
 
-    past: int
-    sample: int
-    frame: Frame
+    begin: int
+    end: int
 
 
 class Line:
@@ -71,18 +71,8 @@ class Line:
         return self.samples[at] if at < len(self.samples) else self.samples[-1]
 
     def place_at(self, sample: int) -> int:
-        """The place of the first bit taken at a sample or after it."""
-        return self.base + bisect_left(self.samples, sample)
-
-
-def frame_texts(frame: Frame) -> List[str]:
-    """What is shown of a frame, the longest first."""
-    standing = frame.standing()
-    octets = f"frame {frame.octets.hex()}"
-    if frame.type is None:
-        return [f"{octets} {standing}" if frame.has_dictionary else octets, standing, "F"]
-    name = frame.name() or f"type {frame.type}"
-    return [f"{octets} {standing}", standing, f"{name} {frame.station}", name, str(frame.type)]
+        """The place of the last bit taken at a sample or before it."""
+        return max(self.base + bisect_right(self.samples, sample) - 1, 0)
 
 
 class Decoder(srd.Decoder):
@@ -116,13 +106,14 @@ class Decoder(srd.Decoder):
         ("answer-damage", "Damage on the line of the answers"),
         ("answer-idle", "Idle line of the answers"),
         ("reply-time", "Time from a command to its answer"),
+        ("no-answer", "Command without its answer"),
     )
     annotation_rows = (
         ("controller-frames", "Controller", (0,)),
         ("controller-damages", "Controller: damage and idle", (1, 2)),
         ("answer-frames", "Answers", (3,)),
         ("answer-damages", "Answers: damage and idle", (4, 5)),
-        ("reply-times", "Reply times", (6,)),
+        ("reply-times", "Reply times", (6, 7)),
     )
     binary = (
         ("bits", "Bits of the controller's line, as text"),
@@ -135,7 +126,6 @@ class Decoder(srd.Decoder):
     def reset(self) -> None:
         self.samplerate: Optional[int] = None
         self.lines: List[Line] = []
-        self.command: Optional[Command] = None
 
     def metadata(self, key: int, value: Any) -> None:
         if key == srd.SRD_CONF_SAMPLERATE:
@@ -144,45 +134,75 @@ class Decoder(srd.Decoder):
     def start(self) -> None:
         self.annotation = self.register(srd.OUTPUT_ANN)
         self.text = self.register(srd.OUTPUT_BINARY)
-        self.dictionary = Dictionary(self.options["dictionary"])
-        longest = self.options["longest"] or self.dictionary.longest()
-        self.lines = [Line(line_decoder(longest)) for _ in range(2)]
-        self.command = None
+        path = self.options["dictionary"]
+        self.entries: Optional[Dict[int, Entry]] = entries_of(path) if path else None
+        entries = self.entries or {}
+        self.lines = [Line(line_decoder(self.options["longest"] or longest_of(entries))) for _ in range(2)]
+        self.pairing = pairing_by(entries)
+        self.command = Samples(0, 0)  # of the last frame that a command may be
+        self.has_second = bool(self.has_channel(RXD))
 
-    def show_frame(self, number: int, report: Any, begin: int, end: int) -> None:
-        frame = self.dictionary.frame(report.octets)
-        self.put(begin, end, self.annotation, [CLASSES * number + FRAME, frame_texts(frame)])
-        command, self.command = self.command, None
-        if number == 0 and frame.awaits_answer():
-            self.command = Command(report.past, end, frame)
-        elif number == 1 and command is not None and begin >= command.sample and frame.answers(command.frame):
-            self.show_reply_time(command, begin)
+    def placed(self, report: Any) -> Any:
+        """A report of the answers' line, in places of the controller's."""
+        first, second = self.lines
+        begin, last = (first.place_at(second.sample_of(place)) for place in (report.first, report.past - 1))
+        return report._replace(first=begin, past=last + 1)
 
-    def show_reply_time(self, command: Command, begin: int) -> None:
-        """From the bit just past the command to the first of the answer; bits are counted on the controller's line."""
-        bits = self.lines[0].place_at(begin) - command.past
-        texts = [f"{bits} bits"]
+    def name_of(self, seen: Any) -> str:
+        """What the dictionary calls the type of a frame."""
+        if self.entries is None:
+            return ""
+        standing = seen.standing.name
+        if standing == "KNOWN":
+            return self.entries[seen.ftype].name
+        return "length" if standing == "WRONG_LENGTH" else "unknown"
+
+    def frame_texts(self, octets: bytes, seen: Any) -> List[str]:
+        """What is shown of a frame, the longest first; the longest is that of the listing of port1."""
+        frame = f"frame {octets.hex()}"
+        if seen.ftype is None:
+            standing = "untyped" if seen.control is None else f"control {seen.control}"
+            return [frame if self.entries is None else f"{frame} {standing}", standing, "F"]
+        name = self.name_of(seen)
+        standing = f"station {seen.station} type {seen.ftype} {name}".rstrip()
+        name = name or f"type {seen.ftype}"
+        return [f"{frame} {standing}", standing, f"{name} {seen.station}", name, str(seen.ftype)]
+
+    def show_verdict(self, verdict: Any, first: int, begin: int) -> None:
+        """The time to the answer, which begins at a place and a sample, or that there is none."""
+        outcome, command = verdict
+        texts = [outcome.name.lower()]
+        if texts[0] not in ("answered", "late"):
+            texts = [f"{texts[0]} station {command.station} type {command.ftype}", *texts]
+            self.put(*self.command, self.annotation, [NO_ANSWER, texts])
+            return
+        if begin < self.command.end:
+            return
+        late = ", late" if texts[0] == "late" else ""
+        bits = f"{first - command.past} bits"
+        texts = [bits + late]
         if self.samplerate:
-            milliseconds = (begin - command.sample) * 1000 / self.samplerate
-            texts = [f"{milliseconds:.3f} ms, {bits} bits", f"{milliseconds:.3f} ms"]
-        entry = command.frame.entry
-        if entry is not None and 0 < entry.window < bits:
-            texts = [f"{text}, late" for text in texts]
-        self.put(command.sample, begin, self.annotation, [REPLY_TIME, texts])
+            milliseconds = f"{(begin - self.command.end) * 1000 / self.samplerate:.3f} ms"
+            texts = [f"{milliseconds}, {bits}{late}", milliseconds + late]
+        self.put(self.command.end, begin, self.annotation, [REPLY_TIME, texts])
 
     def show(self, number: int, report: Any) -> None:
-        """Shows a report of a line."""
+        """Shows a report of a line, and what the library finds to follow from it."""
         line = self.lines[number]
         kind = report.kind.name.lower()
         begin, end = line.sample_of(report.first), line.sample_of(report.past)
+        report = self.placed(report) if number else report
+        seen = self.pairing.take(report, number + 1 if self.has_second else 0)
         if kind == "frame":
-            self.show_frame(number, report, begin, end)
-            return
-        words = f"{kind} {report.cause.name.lower()}" if report.cause else kind
-        shown = IDLE if kind == "idle" else DAMAGE
-        self.put(begin, end, self.annotation, [CLASSES * number + shown, [words, kind, SHORT[kind]]])
-        if kind != "idle":
-            self.command = None
+            shown, texts = FRAME, self.frame_texts(report.octets, seen)
+        else:
+            words = f"{kind} {report.cause.name.lower()}" if report.cause else kind
+            shown, texts = IDLE if kind == "idle" else DAMAGE, [words, kind, SHORT[kind]]
+        self.put(begin, end, self.annotation, [CLASSES * number + shown, texts])
+        if seen.verdict:
+            self.show_verdict(seen.verdict, report.first, begin)
+        if kind == "frame" and number == 0:
+            self.command = Samples(begin, end)
 
     def take(self, number: int, bit: int) -> None:
         """Takes a bit of a line at this sample. Nothing says when the samples end, so its text is not held back."""
@@ -199,14 +219,13 @@ class Decoder(srd.Decoder):
         return {clock: edge}, {clock: edge, data: "e"}
 
     def decode(self) -> None:
-        has_second = self.has_channel(RXD)
         conditions = list(self.edges_of(TXC, TXD))
-        if has_second:
+        if self.has_second:
             conditions += self.edges_of(RXC if self.has_channel(RXC) else TXC, RXD)
         while True:
             pins = self.wait(conditions)
             matched = self.matched
             if matched[0]:
                 self.take(0, pins[TXD] ^ matched[1])
-            if has_second and matched[2]:
+            if self.has_second and matched[2]:
                 self.take(1, pins[RXD] ^ matched[3])

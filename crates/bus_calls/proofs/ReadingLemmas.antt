@@ -1,6 +1,7 @@
 -- How the reading of a capture ends.
-use Rattle.std.proofs.Common.{◌≡◌, ℕ, ◌<◌, Bool, true, false, List, [], length, Option, Some, None, Result, Ok, Err}
+use Rattle.std.proofs.Common.{◌≡◌, ℕ, ◌+◌, ◌<◌, Bool, true, false, List, [], length, Option, Some, None, Result, Ok, Err}
 use Rattle.std.proofs.Common.{MatchResult, refl, sym, ap, ◌∙◌, subst, arith, append-nil, inl, inr}
+use Rattle.arrayvec.specs.ArrayVec.{array_vec_len}
 use Rattle.std.specs.Io.KnownBytes.{IsAtEnd}
 use Rattle.bus_dictionary.specs.Entry.{FrameType}
 use Rattle.bus_text.specs.declared.page.Page.{Page}
@@ -14,7 +15,7 @@ use Rattle.bus_calls.specs.Internal.Kinds.{KindView, KindLaws}
 use Rattle.bus_text.specs.Summary.{summary_of}
 use Rattle.bus_text.specs.Pages.{Pages}
 use Rattle.bus_text.specs.Put.{TextStopsAt}
-use Rattle.bus_calls.specs.Internal.Watching.{IsSound, WatchAfter, FeedAfter, IsCutOff, fed, lines, printed}
+use Rattle.bus_calls.specs.Internal.Watching.{IsSame, IsSound, WatchAfter, FeedAfter, IsCutOff, fed, lines, printed}
 use Rattle.bus_calls.specs.Internal.Sessions.{IsReadAs, IsReadBy, is_text}
 use Rattle.bus_calls.specs.Internal.Sessions.{SourceAfter, TextAfter, PackedSourceAfter, SourceStopsWith}
 use Rattle.bus_calls.specs.Internal.Reading.{IsClean, IsFaulty, ReadStopsWith}
@@ -66,26 +67,6 @@ pub follows-packed : {A R X B : Type 0} (kind : KindView A R X B) (start now : O
     → s ≡ source.Packed p → SourceAfter kind start now s w xs → PackedSourceAfter kind start now p w xs
 follows-packed kind start now s p w xs is followed = subst (λ x. SourceAfter kind start now x w xs) is followed
 
-pub text-follows : {A R X B : Type 0} (kind : KindView A R X B) (start now : Option (List ℕ)) (s : Source B)
-    (text later : TextCapture) (w : CaptureRun A) (xs : List ℕ) (r : Result (Unit {0}) ToolFault)
-    → s ≡ source.Text text → MatchResult r (λ _. TextAfter kind start now later w xs)
-    (λ f. SourceStopsWith kind true start now w xs f)
-    → MatchResult r (λ _. SourceAfter kind start now (source.Text later) w xs)
-    (λ f. SourceStopsWith kind (is_text s) start now w xs f)
-text-follows kind start now s text later w xs (Ok v) is taken = taken
-text-follows kind start now s text later w xs (Err f) is taken =
-    subst (λ (b : Bool). SourceStopsWith kind b start now w xs f) (sym (ap is_text is)) taken
-
-pub packed-follows : {A R X B : Type 0} (kind : KindView A R X B) (start now : Option (List ℕ)) (s : Source B)
-    (p q : PackedCapture B) (w : CaptureRun A) (xs : List ℕ) (r : Result (Unit {0}) ToolFault)
-    → s ≡ source.Packed p → MatchResult r (λ _. PackedSourceAfter kind start now q w xs)
-    (λ f. SourceStopsWith kind false start now w xs f)
-    → MatchResult r (λ _. SourceAfter kind start now (source.Packed q) w xs)
-    (λ f. SourceStopsWith kind (is_text s) start now w xs f)
-packed-follows kind start now s p q w xs (Ok v) is taken = taken
-packed-follows kind start now s p q w xs (Err f) is taken =
-    subst (λ (b : Bool). SourceStopsWith kind b start now w xs f) (sym (ap is_text is)) taken
-
 pub read-by : {A R X B : Type 0} (kind : KindView A R X B) (start now : Option (List ℕ)) (s : Source B)
     (w : CaptureRun A)
     (xs : List ℕ) → SourceAfter kind start now s w xs → IsReadBy kind s xs
@@ -121,6 +102,27 @@ turned {A} {R} {X} {B} kind start now later s w page xs turn = by-kind s
     by-kind (source.Text text) followed =
         record { at = followed.at; clean = followed.clean; bits = fed-on _ followed.bits }
     by-kind (source.Packed p) followed = record { read = followed.read; bits = fed-on _ followed.bits }
+
+module _ {A R X B : Type 0} (kind : KindView A R X B) (w : CaptureRun A) (page : Page) where
+  -- all is sound, and the same, still when the page has been written
+  pub sound-written : array_vec_len page.text ≡ 0
+      → page.written ≡ w.reporter.page.written + array_vec_len w.reporter.page.text → IsSound kind w
+      → IsSound kind (record w { reporter = record w.reporter { page = page } })
+  sound-written empty sum sound = record {
+    places = sound.places;
+    counts = sound.counts;
+    octets = omega (arith, sound.octets, sum, empty);
+  }
+
+  pub same-written : (u : CaptureRun A) → IsSame kind u w
+      → IsSame kind u (record w { reporter = record w.reporter { page = page } })
+  same-written u same = record {
+    printer = same.printer;
+    dictionary = same.dictionary;
+    depth = same.depth;
+    origin = same.origin;
+    rest = same.rest;
+  }
 
 -- what was read has no fault, and its bits were followed
 pub record IsUnplaced {A R X B : Type 0} (kind : KindView A R X B) (text : Bool) (start now : Option (List ℕ))

@@ -18,10 +18,6 @@ pub not-cut : (o : Option ShortWrite) → false ≡ is_some o → o ≡ None
 not-cut None is = refl
 not-cut (Some cut) is = absurd (cc)
 
-pub none-cut : (o : Option ShortWrite) → ((cut : ShortWrite) → o ≡ Some cut → ⊥) → o ≡ None
-none-cut None never = refl
-none-cut (Some cut) never = absurd (never cut refl)
-
 -- a writer that was cut off reports no more
 pub still-cut : (start now : Option (List ℕ)) (page : Page) (o : Option ShortWrite) (text more : List ℕ) →
     true ≡ is_some o → IsOut start now page o text → IsOut start now page o (text ++ more)

@@ -6,5 +6,4 @@ pub mod Known
 pub mod Lines
 pub mod Encode
 pub mod Encodes
-pub mod Executes
 pub mod Internal

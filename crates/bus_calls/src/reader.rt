@@ -98,26 +98,6 @@ impl<T: CaptureKind> CaptureReader<T> {
         })
     }
 
-    /// Takes some octets, up to the first fault.
-    fn analyse<W: Write>(&mut self, octets: &[u8], w: &mut W) -> Result<(), ToolFault>
-        requires sound { IsSound T.kind self.old.run }
-        requires few { octets_taken self.old.source + length octets.now < 2 ^ 100 }
-        ensures taken { (start : Option (List ℕ)) (xs : List ℕ) →
-            SourceAfter T.kind start (W.contents w.old) self.old.source self.old.run xs → MatchResult result
-            (λ _. SourceAfter T.kind start (W.contents w.new) self.new.source self.new.run (xs ++ octets.now))
-            (λ fault. SourceStopsWith T.kind (is_text self.old.source) start (W.contents w.new) self.new.run
-            (xs ++ octets.now) fault) }
-        ensures text { is_text self.new.source ≡ is_text self.old.source }
-        ensures few { OnOk result (octets_taken self.new.source ≤ octets_taken self.old.source + length octets.now) }
-        ensures same { IsSame T.kind self.old.run self.new.run }
-        ensures sound { IsSound T.kind self.new.run }
-    {
-        match &mut self.source {
-            Source::Text(text) => text.analyse(octets, &mut self.run, w),
-            Source::Packed(packed) => packed.analyse(octets, &mut self.run, w),
-        }
-    }
-
     /// What is wrong where the input ends here.
     fn finish(&self) -> Result<(), ToolFault>
         ensures { (xs : List ℕ) → IsReadBy T.kind self.now.source xs → MatchResult result
@@ -153,13 +133,17 @@ impl<T: CaptureKind> CaptureReader<T> {
         T::laws();
         let mut buffer = [0; ROOM];
         for _turn in 0..reads {
+            self.run.reporter.page.write_out(w)?;
             let count = match r.read(&mut buffer) {
                 Ok(0) => return self.finish(),
                 Ok(count) => count,
                 Err(_) => return Err(ToolFault::Read),
             };
-            self.analyse(&buffer[..count], w)?;
-            self.run.reporter.page.write_out(w)?;
+            let octets = &buffer[..count];
+            match &mut self.source {
+                Source::Text(text) => text.analyse(octets, &mut self.run, w)?,
+                Source::Packed(packed) => packed.analyse(octets, &mut self.run, w)?,
+            }
         }
         Err(ToolFault::ReadsLimit)
     }

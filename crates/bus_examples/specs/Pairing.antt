@@ -7,13 +7,13 @@ use Rattle.bus_examples.specs.declared.pairing.Received.{Received}
 use Rattle.bus_examples.specs.declared.pairing.PairFault.{PairFault}
 use Rattle.bus_examples.specs.declared.pairing.PairFault.TheVariants.{ShortFrame, NoRoom}
 
-abbrev pub heard_of : Received → LineReport
-heard_of r = line_report r.line (reported r.octets.items r.event)
+abbrev pub line_report_of : Received → LineReport
+line_report_of r = line_report r.line (reported r.octets.items r.event)
 
 -- the conversation stands after these reports, too
 abbrev pub Takes : ConversationState → List Received → ConversationState → Type 0
 Takes old reports new = (hs : List LineReport) → ConversationAfter old hs
-    → ConversationAfter new (hs ++ map heard_of reports)
+    → ConversationAfter new (hs ++ map line_report_of reports)
 
 -- how many reports were taken
 abbrev pub taken_of : PairFault → ℕ

@@ -27,23 +27,6 @@ module _ (es : List ℕ) (s : ℕ) where
   pub last-at : (i : ℕ) → i ≡ length es → slice_index (es ++ s ∷ []) i ≡ s
   last-at i is = ap (slice_index (es ++ s ∷ [])) is ∙ last-more
 
-  -- with the first one, and with one more
-  pub tallied-first : (o : Occurrences) → length es ≡ 0 → o.count ≡ 1 → o.first ≡ s → o.last ≡ s
-      → IsTallied o (es ++ s ∷ [])
-  tallied-first o none count first last = record {
-    count = omega (arith, count, none, length-more es s);
-    first = first ∙ sym (last-at 0 (sym none));
-    last = last ∙ sym (last-at (length (es ++ s ∷ []) - 1) (omega (arith, length-more es s)));
-  }
-
-  pub tallied-more : (o : Occurrences) → 1 ≤ length es → o.count ≡ length es + 1 → o.first ≡ slice_index es 0
-      → o.last ≡ s → IsTallied o (es ++ s ∷ [])
-  tallied-more o some count first last = record {
-    count = omega (arith, count, length-more es s);
-    first = first ∙ sym (front-same 0 (omega (arith, some)));
-    last = last ∙ sym (last-at (length (es ++ s ∷ []) - 1) (omega (arith, length-more es s)));
-  }
-
   pub spacing-front : (k : ℕ) → k < length es → spacing (es ++ s ∷ []) k ≡ spacing es k
   spacing-front k inside = rw (front-same k inside, front-same (k - 1) (omega (arith, inside))) refl
 
@@ -51,14 +34,7 @@ module _ (es : List ℕ) (s : ℕ) where
   spacing-last k is some =
       rw (last-at k is, front-same (k - 1) (omega (arith, is, some)), is) refl
 
-  pub spacing-first : length es ≡ 0 → spacing (es ++ s ∷ []) (length es) ≡ 0
-  spacing-first none = rw none (omega arith)
-
   -- the longest spacing, which stays or is the last one
-  pub longest-first : (g : Gap) → length es ≡ 0 → IsLongest g es → IsLongest g (es ++ s ∷ [])
-  longest-first g none (inl (few, from, len)) = inl (omega (arith, none, length-more es s), from, len)
-  longest-first g none (inr (k, at)) = absurd (omega (arith, none, at.inside))
-
   pub longest-stays : (g : Gap) → 2 ≤ length es → s - slice_index es (length es - 1) ≤ g.length → IsLongest g es
       → IsLongest g (es ++ s ∷ [])
   longest-stays g two less (inl (few, from, len)) = absurd (omega (arith, few, two))
@@ -78,33 +54,6 @@ module _ (es : List ℕ) (s : ℕ) where
     },
   )
 
-  pub longest-last : (g new : Gap) → 1 ≤ length es → new.length ≡ s - slice_index es (length es - 1)
-      → new.from ≡ slice_index es (length es - 1)
-      → (2 ≤ length es → g.length < s - slice_index es (length es - 1)) → IsLongest g es
-      → IsLongest new (es ++ s ∷ [])
-  longest-last g new some len from more old = inr (
-    length es,
-    record {
-      some = some;
-      inside = omega (arith, length-more es s);
-      from = from ∙ sym (front-same (length es - 1) (omega (arith, some)));
-      reaches = len ∙ sym (spacing-last (length es) refl some);
-      first = λ j one before. rw (spacing-front j before, len) (shorter j one before old);
-      longest = λ j one inside. elim (cases_lt j (length es)) [
-        | inl before ↦
-            (let less : spacing es j < s - slice_index es (length es - 1) = shorter j one before old in
-            rw (spacing-front j before, len) (omega (arith, less)))
-        | inr last ↦
-            rw (spacing-last j (omega (arith, inside, last, length-more es s)) one, len) (omega arith)
-      ];
-    },
-  )
-    where
-      shorter : (j : ℕ) → 1 ≤ j → j < length es → IsLongest g es → spacing es j < s - slice_index es (length es - 1)
-      shorter j one before (inl (few, from, len)) = absurd (omega (arith, one, before, few))
-      shorter j one before (inr (k, at)) =
-          omega (arith, at.longest j one before, more (omega (arith, one, before)))
-
   -- the jumps, of which this may be one more
   pub jumps-more : (most : ℕ) → jumps most (es ++ s ∷ [])
       ≡ jumps most es ++ (if is_jump most (es ++ s ∷ []) (length es) then s ∷ [] else [])
@@ -119,13 +68,6 @@ module _ (es : List ℕ) (s : ℕ) where
       ∙ ap (λ e. jumps most es ++ (if is_jump most (es ++ s ∷ []) (length es) then e ∷ [] else [])) last-more
 
   -- whether it is
-  pub is-jump-few : (most : ℕ) → length es ≤ 1 → is_jump most (es ++ s ∷ []) (length es) ≡ false
-  is-jump-few most few =
-      rw none refl
-    where
-      none : nat_le 2 (length es) ≡ false
-      none = grind (arith, few)
-
   pub is-jump-at : (most : ℕ) → 2 ≤ length es → is_jump most (es ++ s ∷ []) (length es)
       ≡ nat_lt most (abs_diff (s - slice_index es (length es - 1)) (spacing es (length es - 1)))
   is-jump-at most two =

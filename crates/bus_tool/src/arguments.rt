@@ -1,11 +1,11 @@
 //! The command line.
 
 ghost use Rattle.std.specs.Prelude.{◌≡◌, ◌^◌, IfOk};
-ghost use Rattle.bus_calls.specs.Executes.{AllowsReads};
+ghost use Rattle.bus_tool.specs.Executes.{AllowsReads};
 
 mod help;
 
-use bus_calls::Request;
+use crate::request::Request;
 use bus_text::{Kind, Options};
 use clap::{Arg, ArgAction, ArgMatches, Command, Error, value_parser};
 use std::alloc::Global;

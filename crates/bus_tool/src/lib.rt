@@ -3,6 +3,8 @@
 
 mod arguments;
 mod program;
+mod request;
+mod statuses;
 
 pub use bus_calls::{check_capture, encode_frames, list_capture};
 pub use bus_text::{Kind, Options, Summary, ToolFault, show_frame};

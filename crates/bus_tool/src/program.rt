@@ -1,12 +1,14 @@
 //! The program.
 
 ghost use Rattle.std.specs.Prelude.{◌≡◌, ◌≢◌, ◌≤◌, ◌^◌, ◌⊎◌};
-ghost use Rattle.bus_calls.specs.Executes.{AllowsReads, Executes};
-ghost use Rattle.bus_calls.specs.declared.request.Request.{Request};
+ghost use Rattle.bus_tool.specs.Executes.{AllowsReads, Executes};
+ghost use Rattle.bus_tool.specs.declared.request.Request.{Request};
 
 use crate::arguments::{Refusal, read_arguments};
-use bus_calls::{FAULT, execute, fail, status};
-use bus_text::{ToolFault, put_text};
+use crate::request::Request;
+use crate::statuses::{FAULT, fail, status, verdict};
+use bus_calls::{check_capture, encode_frames, list_capture};
+use bus_text::{ToolFault, put_text, show_frame};
 use clap::Error;
 use clap::error::ErrorKind;
 use std::alloc::{AllocError, Global};
@@ -29,10 +31,16 @@ pub fn run<R: Read, W: Write, E: Write>(
         × Executes request (R.remaining r.old) (R.remaining r.new) (W.contents w.old) (W.contents w.new) result)
         ⊎ ((R.remaining r.new ≡ R.remaining r.old) × (result ≢ 1)) }
 {
-    match read_arguments(alloc, words) {
-        Ok(request) => execute(alloc, &request, r, w, e),
-        Err(Refusal::Arguments(error)) => refuse(alloc, &error, w, e),
-        Err(Refusal::Kind) => fail(&ToolFault::Kind, e),
+    let request = match read_arguments(alloc, words) {
+        Ok(request) => request,
+        Err(Refusal::Arguments(error)) => return refuse(alloc, &error, w, e),
+        Err(Refusal::Kind) => return fail(&ToolFault::Kind, e),
+    };
+    match request {
+        Request::List(options) => status(list_capture(alloc, &options, r, w), e),
+        Request::Check(options) => verdict(check_capture(alloc, &options, r, w), e),
+        Request::Show { dictionary, hex } => status(show_frame(alloc, dictionary, hex, w), e),
+        Request::Encode { reads } => status(encode_frames(reads, r, w), e),
     }
 }
 

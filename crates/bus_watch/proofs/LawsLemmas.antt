@@ -85,9 +85,9 @@ line-due longest origin b below =
       due-moved origin r.kind r.first r.past,
     ))
 
-line-heard : (longest origin : ℕ) (b : List Bool) → DueBelow →
+line-reported : (longest origin : ℕ) (b : List Bool) → DueBelow →
     All (λ (h : LineReport). due h.report < origin + length b) (of_line (placed origin longest b))
-line-heard longest origin b below =
+line-reported longest origin b below =
     All-map (λ (h : LineReport). due h.report < origin + length b) (line_report None) (placed origin longest b)
     (line-due longest origin b below)
 
@@ -115,7 +115,7 @@ grows-by d longest origin b longer it below None due_is grown =
     let hs = of_line (placed origin longest b) in
     let same : of_line (placed origin longest longer) ≡ hs =
     ap of_line (grown ∙ append-nil (placed origin longest b)) in
-    rw (same, at-none d hs (origin + length b) (line-heard longest origin b below)) (sym (append-nil (seen d hs)))
+    rw (same, at-none d hs (origin + length b) (line-reported longest origin b below)) (sym (append-nil (seen d hs)))
 grows-by d longest origin b longer it below (Some r) due_is grown =
     let rs = placed origin longest b in
     let h : LineReport = line_report None (moved origin r) in
@@ -124,7 +124,7 @@ grows-by d longest origin b longer it below (Some r) due_is grown =
     due-moved origin r.kind r.first r.past ∙ ap (λ n. origin + n) is in
     let more : of_line (placed origin longest longer) ≡ of_line rs ++ h ∷ [] =
     ap of_line grown ∙ map-append (line_report None) rs (moved origin r ∷ []) in
-    rw (more, at-last d (of_line rs) h (origin + length b) (line-heard longest origin b below) at)
+    rw (more, at-last d (of_line rs) h (origin + length b) (line-reported longest origin b below) at)
     (seen-more d (of_line rs) h)
 
 pub seen-grows : OneMore → DueIsIt → DueBelow → SeenGrows

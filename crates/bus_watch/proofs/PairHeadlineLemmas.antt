@@ -51,15 +51,15 @@ whole-pair-run view e u cut are in-order sides answers = λ start pieces tolds n
     let longest = longest_of e.conversation.dictionary in
     let origin = e.first.origin in
     let all_told = both.1 ∙ sym (same-seen (two_lines view) start e ps alike.dictionary alike.origin) in
-    let all_heard = ap (map report_in) all_told ∙ in-order e.conversation.dictionary (merged origin longest ps) in
+    let all_reported = ap (map report_in) all_told ∙ in-order e.conversation.dictionary (merged origin longest ps) in
     let merges = sides longest origin ps in
     rw (← alike.dictionary, ← alike.depth, ← alike.origin)
     (record {
       told = all_told;
       first_framing =
-          (reports longest (firsts ps), are longest (firsts ps), ap (of_side First) all_heard ∙ merges.first);
+          (reports longest (firsts ps), are longest (firsts ps), ap (of_side First) all_reported ∙ merges.first);
       second_framing =
-          (reports longest (seconds ps), are longest (seconds ps), ap (of_side Second) all_heard ∙ merges.second);
+          (reports longest (seconds ps), are longest (seconds ps), ap (of_side Second) all_reported ∙ merges.second);
       first_bound = answers.first_room;
       second_bound = answers.second_room;
       first_buffered = answers.first_buffered _ is_after;

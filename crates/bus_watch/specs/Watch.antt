@@ -5,8 +5,8 @@ use Rattle.bus_dictionary.specs.Dictionary.{longest_of}
 use Rattle.bus_pairing.specs.LineReport.{LineReport}
 use Rattle.bus_pairing.specs.Seen.{SeenReport, seen}
 
--- of analysers A that take X: after which lists one may stand, what it was given, the place of the next X, and what is
--- heard of a list by an origin and a longest frame
+-- of analysers A that take X: after which lists one may stand, what it was given, the place of the next X, and the
+-- reports of a list by an origin and a longest frame
 pub record Watch (A X : Type 0) : Type 1 where
   pub is_after : A → List X → Type 0
   pub dictionary : A → List FrameType

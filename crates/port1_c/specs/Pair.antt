@@ -68,8 +68,8 @@ abbrev pub line_told : ℕ → Option Line
 line_told n = if n == 0 then None else (if n == 1 then Some First else Some Second)
 
 -- the report that the memory tells on a line, a frame having these octets
-abbrev pub heard_told : ℕ → Port1Report → List ℕ → LineReport
-heard_told line r octets =
+abbrev pub line_report_told : ℕ → Port1Report → List ℕ → LineReport
+line_report_told line r octets =
     record {
       line = line_told line;
       report =

@@ -3,7 +3,7 @@
 ghost use Rattle.std.specs.Prelude.{◌≡◌, ◌≢◌, ◌<◌, ◌↔◌, ◌⊎◌, List, [], ◌∷◌, ◌++◌, Some, IsSome, IfSome};
 ghost use Rattle.bus_pairing.specs.LineReport.{LineReport};
 ghost use Rattle.bus_pairing.specs.Seen.{seen_of};
-ghost use Rattle.port1_c.specs.Pair.{CanBeReport, IsCodedSeen, PairAfter, entries_told, heard_told, line_told};
+ghost use Rattle.port1_c.specs.Pair.{CanBeReport, IsCodedSeen, PairAfter, entries_told, line_report_told, line_told};
 ghost use Rattle.port1_c.specs.Pair.{no_reports, seen_told};
 ghost use Rattle.port1_c.specs.declared.status.TheConstants.{OK, BAD_ARGUMENT};
 
@@ -56,10 +56,10 @@ pub extern "C" fn port1_pair_take(
     ensures kept { result ≢ OK → (pair.new ≡ pair.old) × (seen.new ≡ seen.old) }
     ensures coded { result ≡ OK → IsCodedSeen seen.new }
     ensures waits { result ≡ OK → (hs : List LineReport) → PairAfter pair.old entries.now hs →
-        PairAfter pair.new entries.now (hs ++ heard_told line report.now octets.now ∷ []) }
+        PairAfter pair.new entries.now (hs ++ line_report_told line report.now octets.now ∷ []) }
     ensures says { result ≡ OK → (hs : List LineReport) → PairAfter pair.old entries.now hs →
-        seen_told seen.new (heard_told line report.now octets.now)
-        ≡ seen_of (entries_told 0 entries.now) hs (heard_told line report.now octets.now) }
+        seen_told seen.new (line_report_told line report.now octets.now)
+        ≡ seen_of (entries_told 0 entries.now) hs (line_report_told line report.now octets.now) }
 {
     let Some(line) = line_of(line) else {
         return BAD_ARGUMENT;

@@ -4,7 +4,7 @@ ghost use Rattle.std.specs.Prelude.{◌≡◌, ◌≢◌, ◌≤◌, ◌↔◌, 
 ghost use Rattle.std.specs.Option.{option_map};
 ghost use Rattle.bus_line.specs.Shown.{reported};
 ghost use Rattle.port1_c.specs.Line.{IsCoded, cause_told, report_told};
-ghost use Rattle.port1_c.specs.Pair.{CanBeReport, heard_told};
+ghost use Rattle.port1_c.specs.Pair.{CanBeReport, line_report_told};
 
 use bus_bits::Span;
 use bus_line::{Cause, Event, EventKind};
@@ -92,7 +92,7 @@ impl Port1Report {
     /// The event that it tells, if there can be such a one; that of a frame has four octets or more.
     pub(crate) fn event(&self, octets: &[u8]) -> Option<Event>
         ensures some { IsSome result ↔ CanBeReport self.now octets.now }
-        ensures value { IfSome result (λ e. reported octets.now e ≡ (heard_told 0 self.now octets.now).report) }
+        ensures value { IfSome result (λ e. reported octets.now e ≡ (line_report_told 0 self.now octets.now).report) }
         ensures frame { IfSome result (λ e. e.kind ≡ EventKind.Frame → 4 ≤ length octets.now) }
     {
         let kind = match self.kind {

@@ -1,7 +1,6 @@
 import { BLOCK } from "./decoder.js";
 
-/** So many bits of the first line without one of the second bring the second to rest, by fifteen ones. */
-const SILENCE = 400;
+/** How many ones bring a line to rest. */
 const REST = 15;
 
 /** Where the bits of the second line stand: each at the place of the last bit of the first line before it. */
@@ -57,41 +56,6 @@ function lastNotAbove(numbers, most) {
     else high = middle;
   }
   return low - 1;
-}
-
-/**
- * Bits of two lines: of each its octets, how many bits they have, and of each bit how many came before it.
- * @typedef {{ octets: Uint8Array[], counts: number[], ranks: Uint32Array[] }} Block
- */
-
-/** How many bits a block has. */
-const MOST = 8 * BLOCK;
-
-/** Collects bits in the order of arrival, and hands them on in blocks. */
-class Blocks {
-  /** @param {(block: Block) => void} hand */
-  constructor(hand) {
-    this.hand = hand;
-    this.octets = [new Uint8Array(BLOCK), new Uint8Array(BLOCK)];
-    this.counts = [0, 0];
-    this.ranks = [new Uint32Array(MOST), new Uint32Array(MOST)];
-  }
-
-  /** @param {number} line @param {number} bit */
-  push(line, bit) {
-    const own = this.counts[line]++;
-    const octets = this.octets[line];
-    octets[own >> 3] = (own & 7 ? octets[own >> 3] : 0) | (bit << (own & 7));
-    this.ranks[line][own] = own + this.counts[1 - line];
-    if (own + 1 === MOST) this.flush();
-  }
-
-  flush() {
-    const { counts, ranks } = this;
-    const octets = this.octets.map((some, line) => some.subarray(0, (counts[line] + 7) >> 3));
-    if (counts[0] + counts[1] > 0) this.hand({ octets, counts, ranks });
-    this.counts = [0, 0];
-  }
 }
 
 /** The bits of one line, packed, in chunks. */
@@ -165,40 +129,25 @@ export class KeptArrivals {
   }
 }
 
-/**
- * Takes bits in the order of arrival, keeps them, and hands them on in blocks. Where the second line falls silent, it
- * is brought to rest.
- */
+/** Takes bits in the order of arrival, keeps and decodes them. A second line that falls silent is brought to rest. */
 export class Arrivals {
-  /** @param {KeptArrivals} kept @param {(block: Block) => void} hand */
-  constructor(kept, hand) {
+  /** @param {KeptArrivals} kept @param {import("./clocked.js").ClockedDecoder} decoder */
+  constructor(kept, decoder) {
     this.kept = kept;
-    this.blocks = new Blocks(hand);
-    this.silent = SILENCE; // as before the first bit of the second line
-    this.ones = REST;
+    this.decoder = decoder;
   }
 
   /** @param {number} line @param {number} bit */
   arrive(line, bit) {
     this.kept.push(line, bit);
-    this.blocks.push(line, bit);
+    this.decoder.push(line, bit);
   }
 
   /** @param {number} line @param {number} bit */
   push(line, bit) {
     this.arrive(line, bit);
-    if (line === 1) {
-      this.silent = 0;
-      this.ones = bit ? Math.min(REST, this.ones + 1) : 0;
-    } else if (this.silent < SILENCE) {
-      this.silent += 1;
-      if (this.silent === SILENCE && this.ones < REST) this.rest();
-    }
-  }
-
-  rest() {
+    if (!this.decoder.rests()) return;
     for (let count = 0; count < REST; count++) this.arrive(1, 1);
-    this.ones = REST;
   }
 
   /**
@@ -218,8 +167,6 @@ export class Arrivals {
     for (let at = 0; at < marks; at++) this.add((octet >> (2 * at)) & 3);
   }
 
-  /** Hands on what has been collected. */
-  flush() {
-    this.blocks.flush();
-  }
+  /** Nothing is held back. */
+  flush() {}
 }

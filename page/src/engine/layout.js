@@ -41,6 +41,9 @@ export const TAP = {
   secondData: 328,
 };
 
+export const CLOCKS = { size: 864, first: 0, second: 360 };
+export const REST = { size: 24 };
+
 /** How many types there are. */
 export const TYPES = 256;
 

@@ -18,6 +18,11 @@ const PAGE = 65536;
  *   arrived: bigint) => number} port1_tap_push
  * @property {(tap: bigint, octets: bigint, count: bigint, width: number, at: bigint, arrivals: bigint, room: bigint,
  *   arrived: bigint) => number} port1_tap_feed
+ * @property {(rest: bigint, most: bigint) => number} port1_rest_init
+ * @property {(rest: bigint, arrival: bigint, rests: bigint) => number} port1_rest_push
+ * @property {(clocks: bigint, longest: bigint, origin: bigint) => number} port1_clocks_init
+ * @property {(clocks: bigint, arrival: bigint, report: bigint) => number} port1_clocks_push
+ * @property {(clocks: bigint, line: number, begun: bigint, first: bigint, past: bigint) => number} port1_clocks_open
  */
 
 /** The C library, compiled for WebAssembly with 64-bit memory. Pointers and numbers of octets are BigInts. */

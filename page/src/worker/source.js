@@ -1,7 +1,8 @@
 import { Arrivals, KeptArrivals } from "../engine/arrivals.js";
 import { KeptBits } from "../engine/bits.js";
 import { PackedReader, Packer, TextReader } from "../engine/capture.js";
-import { ClockedDecoder, Decoder } from "../engine/decoder.js";
+import { ClockedDecoder } from "../engine/clocked.js";
+import { Decoder } from "../engine/decoder.js";
 import { libraryOf } from "../engine/library.js";
 import { Sampler } from "../engine/sampler.js";
 import { Fault } from "../../../scripts/modules/fault.js";
@@ -96,8 +97,8 @@ export async function read(job, heard) {
 function roadOf(kind, library, entries) {
   if (kind === "arrivals") {
     const bits = new KeptArrivals();
-    const decoder = new ClockedDecoder(library, entries, bits.places);
-    return { bits, decoder, sink: new Arrivals(bits, (block) => decoder.takeBlock(block)) };
+    const decoder = new ClockedDecoder(library, entries);
+    return { bits, decoder, sink: new Arrivals(bits, decoder) };
   }
   const bits = new KeptBits();
   const decoder = new Decoder(library, kind, entries);

@@ -40,7 +40,7 @@ newest false last = None
 abbrev pub told_on : Option Line → List ℕ → Bool → Finding → Option SeenReport
 told_on line octets is_decided last = option_map (found_on line octets) (newest is_decided last)
 
--- a report of a line or none, as it is heard
+-- a report of a line or none, as one of the bus
 abbrev pub line_reports_of : Option Line → Option Report → List LineReport
 line_reports_of line o = map (line_report line) (option_to_list o)
 

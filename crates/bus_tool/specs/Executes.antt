@@ -8,8 +8,8 @@ use Rattle.bus_text.specs.declared.fault.ToolFault.{ToolFault}
 use Rattle.bus_calls.specs.Lists.{Lists}
 use Rattle.bus_calls.specs.Checks.{Checks}
 use Rattle.bus_calls.specs.Encodes.{Encodes}
-use Rattle.bus_calls.specs.declared.request.Request.{Request}
-use Rattle.bus_calls.specs.declared.request.Request.TheVariants as request
+use Rattle.bus_tool.specs.declared.request.Request.{Request}
+use Rattle.bus_tool.specs.declared.request.Request.TheVariants as request
 
 -- nothing was damaged, overlong, missing, spoilt or late
 abbrev pub IsFaultless : Summary → Type 0

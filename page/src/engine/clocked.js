@@ -1,0 +1,70 @@
+import { OPEN } from "../../../scripts/modules/listing/kinds.js";
+import { longestOf } from "./decoder.js";
+import { ARRIVAL, CLOCKS, REPORT, REST } from "./layout.js";
+import { Reporter } from "./reporter.js";
+
+/** @typedef {import("../../../scripts/modules/dictionary/dictionary.js").Entry} Entry */
+/** @typedef {import("./library.js").Library} Library */
+
+/** So many bits of the first line without one of the second bring the second to rest. */
+const SILENCE = 400n;
+
+/** Decodes two lines with a clock each, whose bits come in the order of arrival. */
+export class ClockedDecoder {
+  /** @param {Library} library @param {Entry[]|null} entries of a dictionary */
+  constructor(library, entries) {
+    this.library = library;
+    this.reporter = new Reporter(library, entries);
+    this.memory = [CLOCKS.size, REST.size, ARRIVAL.size, REPORT.size, 1, 8, 8].map((size) => library.allocate(size));
+    this.pointers = this.memory.map(BigInt);
+    const [clocks, rest] = this.pointers;
+    library.demand(library.calls.port1_clocks_init(clocks, BigInt(longestOf(entries)), 0n), "port1_clocks_init");
+    library.demand(library.calls.port1_rest_init(rest, SILENCE), "port1_rest_init");
+  }
+
+  get listing() {
+    return this.reporter.listing;
+  }
+
+  /**
+   * Takes a bit that arrives.
+   * @param {number} line 0 or 1
+   * @param {number} bit
+   */
+  push(line, bit) {
+    const { library } = this;
+    const [at, , arrival, report] = this.memory;
+    const [clocks, , arrived, told] = this.pointers;
+    library.octets[arrival + ARRIVAL.line] = line + 1;
+    library.octets[arrival + ARRIVAL.bit] = bit;
+    library.demand(library.calls.port1_clocks_push(clocks, arrived, told), "port1_clocks_push");
+    if (library.view.getUint32(report + REPORT.kind, true) === 0) return;
+    this.reporter.tell(line + 1, at + (line === 0 ? CLOCKS.first : CLOCKS.second), report);
+  }
+
+  /** Whether fifteen ones of the second line arrive right after the bit that was taken last, which bring it to rest. */
+  rests() {
+    const { library } = this;
+    const [, rest, arrived, , flag] = this.pointers;
+    library.demand(library.calls.port1_rest_push(rest, arrived, flag), "port1_rest_push");
+    return library.octets[this.memory[4]] === 1;
+  }
+
+  /** Writes down what is open at the end of the capture. */
+  end() {
+    for (const number of [1, 2]) this.tellOpen(number);
+    this.reporter.tellPending(1);
+    return this.listing;
+  }
+
+  /** @param {number} number 1 or 2 */
+  tellOpen(number) {
+    const { library } = this;
+    const [, , , , begun, first, past] = this.memory;
+    const [clocks, , , , ...open] = this.pointers;
+    const [flag, from, to] = open;
+    library.demand(library.calls.port1_clocks_open(clocks, number, flag, from, to), "port1_clocks_open");
+    if (library.octets[begun] === 0) return;
+    this.listing.addPiece(number, library.number(first), library.number(past), OPEN, 0);
+  }
+}
