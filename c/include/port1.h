@@ -61,8 +61,8 @@ extern "C" {
 #endif
 
 /* The version of this header and of the library that came with it. */
-#define PORT1_VERSION "2.0.0"
-#define PORT1_VERSION_MAJOR 2
+#define PORT1_VERSION "3.0.0"
+#define PORT1_VERSION_MAJOR 3
 #define PORT1_VERSION_MINOR 0
 #define PORT1_VERSION_PATCH 0
 

@@ -113,7 +113,7 @@ fn with_levels<'a>(alloc: Global, command: Command<'a>) -> Result<Command<'a>, E
 fn whole_command<'a>(alloc: Global) -> Result<Command<'a>, Error> {
     let command = Command::new(alloc, "port1-sample")
         .bin_name("port1-sample")?
-        .version("2.0.0")
+        .version("3.0.0")
         .about("Takes the bits of the Port 1 bus from the samples of a logic analyser")
         .override_usage("port1-sample [OPTIONS] TXC TXD [RXC RXD] < SAMPLES")
         .after_help(AFTER)
