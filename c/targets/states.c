@@ -186,19 +186,19 @@ static uint32_t open_piece(void) {
 
 static uint32_t make_sender(void) { return note_sent(port1_sender_init(&sent.sender)); }
 
-static uint32_t send_flag(void) {
+/* Sends what is no frame. */
+static uint32_t send_by(uint32_t (*call)(struct port1_sender *, uint8_t *, uint64_t, uint64_t *, uint64_t *)) {
     uint64_t count = below(SENT + 1);
     uint8_t *octets = given(sent.octets + below(4), count);
     sent.at = place_in(count);
-    return note_sent(port1_send_flag(&sent.sender, octets, count, &sent.at, &sent.bits));
+    return note_sent(call(&sent.sender, octets, count, &sent.at, &sent.bits));
 }
 
-static uint32_t send_idle(void) {
-    uint64_t count = below(SENT + 1);
-    uint8_t *octets = given(sent.octets + below(4), count);
-    sent.at = place_in(count);
-    return note_sent(port1_send_idle(&sent.sender, octets, count, &sent.at, &sent.bits));
-}
+static uint32_t send_flag(void) { return send_by(port1_send_flag); }
+
+static uint32_t send_idle(void) { return send_by(port1_send_idle); }
+
+static uint32_t send_align(void) { return send_by(port1_send_align); }
 
 static uint32_t send_frame(void) {
     static uint8_t frame[264];
@@ -210,13 +210,6 @@ static uint32_t send_frame(void) {
         memset(frame, 0xff, sizeof frame);
     sent.at = below(4) > 0 ? below(64) : place_in(count);
     return note_sent(port1_send_frame(&sent.sender, begin, length, octets, count, &sent.at, &sent.bits));
-}
-
-static uint32_t send_align(void) {
-    uint64_t count = below(SENT + 1);
-    uint8_t *octets = given(sent.octets + below(4), count);
-    sent.at = place_in(count);
-    return note_sent(port1_send_align(&sent.sender, octets, count, &sent.at, &sent.bits));
 }
 
 static uint32_t make_pair(void) {

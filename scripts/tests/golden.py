@@ -16,7 +16,7 @@ from pathlib import Path
 from typing import Any, Callable, Dict, Iterator, List, NamedTuple, Sequence
 
 from needs import needs
-from tests import failing_bus, listings
+from tests import listings
 from tests.case import SCRIPTS, TOP, Run, Test, plain, ran
 
 RUNS: List[Run] = []
@@ -67,21 +67,6 @@ def session() -> bytes:
     return packed.getvalue()
 
 
-def bus_that_fails() -> bytes:
-    """What the generator of examples/port1-failure.bits says of it, as a listing."""
-    listing = listings.Listing()
-    for told in sorted(failing_bus.failing_bus().told, key=lambda told: told.first):
-        kind = 0 if told.station == 16 else 1
-        if told.fate == "destroyed":
-            listing.damage(1, told.first)
-        elif told.fate == "missing":
-            listing.command(told.station, kind, told.first)
-            listing.verdict("missing", told.station, kind, told.first)
-        else:
-            listing.exchange(told.station, kind, told.first, told.reply_bits, told.fate)
-    return listing.octets()
-
-
 @lru_cache(maxsize=None)
 def made() -> List[bytes]:
     words = ["node", "--input-type=module", "--eval", MADE_LISTINGS]
@@ -100,7 +85,7 @@ def inputs() -> Iterator[Any]:
     yield "no dictionary", lambda: listings.PLAIN
     yield "good", listings.good_listing().octets
     yield "gap", listings.polled(50, range(33, 38), [10, 35, 45]).octets
-    yield "failing", bus_that_fails
+    yield "failing", listings.failing_listing
     yield "big", big
     yield from ((f"random {number}", lambda number=number: made()[number]) for number in range(MADE))
 

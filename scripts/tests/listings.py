@@ -74,6 +74,21 @@ class Listing:
         return "".join(text[2:] + "\n" for text in self.texts).encode()
 
 
+def failing_listing() -> bytes:
+    """What the generator of examples/port1-failure.bits says of it, as a listing."""
+    listing = Listing()
+    for told in sorted(failing_bus().told, key=lambda told: told.first):
+        kind = 0 if told.station == 16 else 1
+        if told.fate == "destroyed":
+            listing.damage(1, told.first)
+        elif told.fate == "missing":
+            listing.command(told.station, kind, told.first)
+            listing.verdict("missing", told.station, kind, told.first)
+        else:
+            listing.exchange(told.station, kind, told.first, told.reply_bits, told.fate)
+    return listing.octets()
+
+
 def good_listing() -> Listing:
     """Four commands, one each 10 ms, which are answered 100 bits later."""
     listing = Listing()

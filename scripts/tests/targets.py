@@ -17,15 +17,10 @@ BUILD = TOP / "c" / "targets" / "build"
 USAGE = "usage: build FOLDER TARGET.. [-- OPTION..]\n"
 
 RUNS: List[Run] = [
-    Run("no word", [str(BUILD)], b"", stderr=f"{USAGE}build: a folder and a target are needed\n", status=2),
-    Run("no target", [str(BUILD), "out"], b"", stderr=f"{USAGE}build: a folder and a target are needed\n", status=2),
-    Run(
-        "options alone",
-        [str(BUILD), "out", "--", "-O2"],
-        b"",
-        stderr=f"{USAGE}build: a folder and a target are needed\n",
-        status=2,
-    ),
+    *[
+        Run(name, [str(BUILD), *words], b"", stderr=f"{USAGE}build: a folder and a target are needed\n", status=2)
+        for name, words in [("no word", []), ("no target", ["out"]), ("options alone", ["out", "--", "-O2"])]
+    ],
     Run(
         "a target that is none",
         [str(BUILD), "out", "thumbv7m-none-eabi", "sparc"],

@@ -10,10 +10,21 @@ import time
 from pathlib import Path
 from typing import List, NamedTuple, Sequence
 
-from needs import Skipped, needs
+from needs import needs
 from tests.case import SCRIPTS, SECONDS, TOP, Run
 from tests.killed import problems_of_kills
-from tests.watched import DICTIONARY, RATE, SIMULATOR, Cabinet, Fault, child_of, judged, schedule, watched_with_kills
+from tests.watched import (
+    DICTIONARY,
+    RATE,
+    SIMULATOR,
+    Cabinet,
+    Fault,
+    child_of,
+    disk_of,
+    judged,
+    schedule,
+    watched_with_kills,
+)
 
 RUNS: List[Run] = []
 
@@ -45,29 +56,19 @@ def a_day(folder: Path) -> List[str]:
 
 def full_disk(folder: Path) -> List[str]:
     """On a disk of 12 MB every incident is told, the watch goes on to the end, and the disk is never full."""
-    disk = folder / "watch"
-    disk.mkdir()
-    mounted = subprocess.run(["mount", "-t", "tmpfs", "-o", "size=12m", "none", disk], capture_output=True)
-    if mounted.returncode != 0:
-        raise Skipped("no disk of 12 MB: it takes root to mount one")
-    try:
+    with disk_of(12, folder):
         cabinet = Cabinet(folder, schedule(3, 1800, 10), ["--floor", "1M", "--keep", "4M"])
         run = cabinet.run(0, 1800 * RATE)
         problems = [problem for problem in judged(cabinet, [run]) if not problem.startswith("not saved")]
         problems = [problem for problem in problems if not problem.endswith("is not there")]
         lines = run.stderr.splitlines()
         return problems + ([] if run.status == 0 and len(lines) < 20 else [f"status {run.status}, {lines[:5]}"])
-    finally:
-        subprocess.run(["umount", disk], check=True)
 
 
 def stalls(folder: Path) -> List[str]:
     """In real time: a `port1` held up, a source that stalls, a dictionary read again: no faults of the cabinet."""
     cabinet = Cabinet(folder, [], speed="1")
-    source = cabinet.simulator(0, 60 * RATE)
-    watch = cabinet.watch(source.stdout, None)
-    assert source.stdout is not None
-    source.stdout.close()
+    source, watch = cabinet.start(0, 60 * RATE)
     time.sleep(3)
     watch.send_signal(signal.SIGHUP)
     time.sleep(1.5)
@@ -89,10 +90,7 @@ def stalls(folder: Path) -> List[str]:
 def port1_is_killed(folder: Path) -> List[str]:
     """Where `port1` ends, one line says so, with status 2, and a new run goes on."""
     cabinet = Cabinet(folder, [], speed="1")
-    source = cabinet.simulator(0, 60 * RATE)
-    watch = cabinet.watch(source.stdout, None)
-    assert source.stdout is not None
-    source.stdout.close()
+    source, watch = cabinet.start(0, 60 * RATE)
     time.sleep(2)
     os.kill(child_of(watch), signal.SIGKILL)
     _, err = watch.communicate(timeout=SECONDS)
@@ -207,10 +205,7 @@ def wrong_forms(folder: Path) -> List[str]:
 def lost_input(folder: Path) -> List[str]:
     """In real time: samples that are lost are told with their length, and are no fault of the cabinet."""
     cabinet = Cabinet(folder, [Fault(15 * RATE, int(16.5 * RATE), "lose", 0)], speed="1")
-    source = cabinet.simulator(0, 40 * RATE)
-    watch = cabinet.watch(source.stdout, None)
-    assert source.stdout is not None
-    source.stdout.close()
+    source, watch = cabinet.start(0, 40 * RATE)
     out, _ = watch.communicate(timeout=SECONDS)
     source.communicate(timeout=SECONDS)
     records = [json.loads(line) for line in out.decode().splitlines()]

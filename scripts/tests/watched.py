@@ -4,10 +4,11 @@ import json
 import random
 import subprocess
 import time
+from contextlib import contextmanager
 from pathlib import Path
 from typing import Any, Dict, Iterator, List, NamedTuple, Optional, Sequence, Tuple
 
-from needs import needs
+from needs import Skipped, needs
 from tests.case import SCRIPTS, SECONDS, TOP, Word
 
 RATE, ROUND = 153600, 6144
@@ -74,6 +75,20 @@ def child_of(watch: "subprocess.Popen[bytes]") -> int:
     return 0
 
 
+@contextmanager
+def disk_of(megabytes: int, folder: Path) -> Iterator[Path]:
+    """The folder of a watch, as a disk of its own."""
+    disk = folder / "watch"
+    disk.mkdir()
+    mounted = subprocess.run(["mount", "-t", "tmpfs", "-o", f"size={megabytes}m", "none", disk], capture_output=True)
+    if mounted.returncode != 0:
+        raise Skipped(f"no disk of {megabytes} MB: it takes root to mount one")
+    try:
+        yield disk
+    finally:
+        subprocess.run(["umount", disk], check=True)
+
+
 class Watched(NamedTuple):
     """A run of the watch: the places of each recorder that it had, what it wrote, and its status."""
 
@@ -127,12 +142,20 @@ class Cabinet(NamedTuple):
         pipes = {"stdin": source, "stdout": subprocess.PIPE, "stderr": subprocess.PIPE}
         return subprocess.Popen([*words, *date, *form, "--floor", "0", *self.words], start_new_session=True, **pipes)
 
+    def start(
+        self, begin: int, past: int, date: Optional[int] = None
+    ) -> Tuple["subprocess.Popen[bytes]", "subprocess.Popen[bytes]"]:
+        """The simulator of some places, and a watch that reads it."""
+        source = self.simulator(begin, past)
+        watch = self.watch(source.stdout, date)
+        assert source.stdout is not None
+        source.stdout.close()
+        return source, watch
+
     def run(self, begin: int, past: int, kill: Optional[float] = None, is_begun: bool = False) -> Watched:
         """Runs the watch on some places; it is killed after so many seconds, or so long after an incident began."""
-        source = self.simulator(begin, past)
-        watch = self.watch(source.stdout, begin)
-        assert source.stdout is not None and watch.stdout is not None
-        source.stdout.close()
+        source, watch = self.start(begin, past, begin)
+        assert watch.stdout is not None
         out = b""
         while is_begun and b'"begun"' not in out:
             out += watch.stdout.readline()

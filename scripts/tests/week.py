@@ -15,9 +15,9 @@ import time
 from pathlib import Path
 from typing import Dict, List, NamedTuple, Optional, Sequence, Tuple
 
-from needs import Skipped, needs
+from needs import needs
 from tests.case import SCRIPTS
-from tests.watched import BEGIN, DICTIONARY, RATE, SIMULATOR, Cabinet, Fault, Watched, judged, schedule
+from tests.watched import BEGIN, DICTIONARY, RATE, SIMULATOR, Cabinet, Fault, Watched, disk_of, judged, schedule
 
 RUNS: List[object] = []
 
@@ -213,12 +213,7 @@ def problems_of_days(
 ) -> List[str]:
     """What is wrong with some days, or as many of them as fit into some seconds."""
     needs("node")
-    disk = folder / "watch"
-    disk.mkdir()
-    mounted = subprocess.run(["mount", "-t", "tmpfs", "-o", "size=600m", "none", disk], capture_output=True)
-    if mounted.returncode != 0:
-        raise Skipped("no disk of 600 MB: it takes root to mount one")
-    try:
+    with disk_of(600, folder) as disk:
         week = Week(folder, plan_of(41, days, kills, full), days, seconds, form)
         filler = threading.Thread(target=fill, args=(disk, week.plan), daemon=True)
         filler.start()
@@ -228,8 +223,6 @@ def problems_of_days(
         print(f"status of each run {[run.status for run in week.runs]}; said {(folder / 'said').read_text()}", flush=True)
         problems = (problem for problem in judged(week.cabinet, week.runs) if not problem.startswith("not saved"))
         return [problem for problem in problems if not problem.endswith("is not there")]  # old folders go
-    finally:
-        subprocess.run(["umount", disk], check=True)
 
 
 def an_hour_of_all(folder: Path) -> List[str]:

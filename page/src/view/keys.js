@@ -15,6 +15,21 @@ export function isOther(event) {
   return isTyped || event.ctrlKey || event.metaKey || event.altKey;
 }
 
+/**
+ * Does what a table says of a key that an element takes for itself.
+ * @template T
+ * @param {KeyboardEvent} event
+ * @param {{ keys: string[], act: (target: T) => void }[]} table
+ * @param {T} target
+ */
+export function act(event, table, target) {
+  const found = isOther(event) ? undefined : table.find(({ keys }) => keys.includes(event.key));
+  if (!found) return;
+  event.preventDefault();
+  event.stopPropagation();
+  found.act(target);
+}
+
 /** The help that lists the keys, from the tables by which the page takes them. */
 export class Help {
   /** @param {[string, { shown: string, words: string }[]][]} parts of the page, with their keys */

@@ -1,6 +1,6 @@
 import { Clock } from "./clock.js";
 import { element, make } from "./dom.js";
-import { isOther } from "./keys.js";
+import { act } from "./keys.js";
 import { latest } from "./latest.js";
 
 /** @typedef {import("../worker/desk.js").FarDesk} Desk */
@@ -60,7 +60,7 @@ export class Lines {
     );
     this.box.addEventListener("scroll", () => this.scrolled());
     this.box.addEventListener("wheel", (event) => this.turned(event), { passive: false });
-    this.box.addEventListener("keydown", (event) => this.pressed(event));
+    this.box.addEventListener("keydown", (event) => act(event, ACTS, this));
     this.view.addEventListener("click", (event) => this.clicked(event));
     new ResizeObserver(() => this.count > 0 && this.fit()).observe(this.box);
   }
@@ -139,15 +139,6 @@ export class Lines {
     if (isAtEnd) return; // so that the page goes on
     event.preventDefault();
     this.show(this.top + (Math.abs(step) < 1 ? Math.sign(step) : step));
-  }
-
-  /** @param {KeyboardEvent} event */
-  pressed(event) {
-    const found = ACTS.find(({ keys }) => keys.includes(event.key));
-    if (!found || isOther(event)) return;
-    event.preventDefault();
-    event.stopPropagation();
-    found.act(this);
   }
 
   /**

@@ -3,7 +3,7 @@ import { select } from "d3-selection";
 import { zoom, zoomIdentity } from "d3-zoom";
 import { Clock } from "./clock.js";
 import { element, make } from "./dom.js";
-import { isOther } from "./keys.js";
+import { act } from "./keys.js";
 import { latest } from "./latest.js";
 import { Overview } from "./overview.js";
 import { NARROW, Picture } from "./picture.js";
@@ -40,18 +40,18 @@ const MOVE = 0.4; // the share of what is in view by which it moves
  * @param {string} words
  * @param {(timeline: Timeline) => void} does
  */
-const act = (keys, shown, name, words, does) => ({ keys, shown, name, words, act: does });
+const key = (keys, shown, name, words, does) => ({ keys, shown, name, words, act: does });
 
 /** The keys of the timeline, for the help. */
 export const TIMELINE_KEYS = [
-  act(["+", "="], "+", "+", "zoom in", (timeline) => timeline.zoomBy(2)),
-  act(["-"], "-", "\u2212", "zoom out", (timeline) => timeline.zoomBy(1 / 2)),
-  act(["ArrowLeft"], LEFTWARDS, LEFTWARDS, "earlier", (timeline) => timeline.moveBy(-MOVE)),
-  act(["ArrowRight"], RIGHTWARDS, RIGHTWARDS, "later", (timeline) => timeline.moveBy(MOVE)),
-  act(["Home"], "Home", "Whole", "the whole file", (timeline) => timeline.showAll()),
-  act([","], ",", "", "choose the line before", (timeline) => timeline.walk(-1)),
-  act(["."], ".", "", "choose the line after", (timeline) => timeline.walk(1)),
-  act(["Enter"], "Enter", "", "show what is chosen large, down to its bits", (timeline) => timeline.open()),
+  key(["+", "="], "+", "+", "zoom in", (timeline) => timeline.zoomBy(2)),
+  key(["-"], "-", "\u2212", "zoom out", (timeline) => timeline.zoomBy(1 / 2)),
+  key(["ArrowLeft"], LEFTWARDS, LEFTWARDS, "earlier", (timeline) => timeline.moveBy(-MOVE)),
+  key(["ArrowRight"], RIGHTWARDS, RIGHTWARDS, "later", (timeline) => timeline.moveBy(MOVE)),
+  key(["Home"], "Home", "Whole", "the whole file", (timeline) => timeline.showAll()),
+  key([","], ",", "", "choose the line before", (timeline) => timeline.walk(-1)),
+  key(["."], ".", "", "choose the line after", (timeline) => timeline.walk(1)),
+  key(["Enter"], "Enter", "", "show what is chosen large, down to its bits", (timeline) => timeline.open()),
 ];
 
 /** A timeline with a lane for each station: commands above, answers below, and signs where something is wrong. */
@@ -121,18 +121,9 @@ export class Timeline {
 
   listen() {
     const node = this.svg.node();
-    node.addEventListener("keydown", (event) => this.pressed(event));
+    node.addEventListener("keydown", (event) => act(event, TIMELINE_KEYS, this));
     node.addEventListener("click", (event) => this.pickNear(event));
     this.scroll.addEventListener("wheel", (event) => this.turned(event), { capture: true, passive: true });
-  }
-
-  /** @param {KeyboardEvent} event */
-  pressed(event) {
-    const found = TIMELINE_KEYS.find(({ keys }) => keys.includes(event.key));
-    if (!found || isOther(event)) return;
-    event.preventDefault();
-    event.stopPropagation();
-    found.act(this);
   }
 
   /**

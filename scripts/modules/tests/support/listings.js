@@ -21,19 +21,8 @@ export function runsOf(command) {
 
 const FAILING_BUS = `
 sys.path.insert(0, sys.argv[1])
-from tests.failing_bus import failing_bus
-from tests.listings import Listing
-listing = Listing()
-for command in sorted(failing_bus().told, key=lambda command: command.first):
-    kind = 0 if command.station == 16 else 1
-    if command.fate == "destroyed":
-        listing.damage(1, command.first)
-    elif command.fate == "missing":
-        listing.command(command.station, kind, command.first)
-        listing.verdict("missing", command.station, kind, command.first)
-    else:
-        listing.exchange(command.station, kind, command.first, command.reply_bits, command.fate)
-json.dump(listing.octets().decode(), sys.stdout)
+from tests.listings import failing_listing
+json.dump(failing_listing().decode(), sys.stdout)
 `;
 
 /** What the generator of examples/port1-failure.bits says of it, as a listing of two lines. */
