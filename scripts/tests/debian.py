@@ -11,7 +11,8 @@ from typing import Dict, Iterator, List, NamedTuple, Sequence, Tuple
 from needs import LOADER_OF_ARM, Skipped, needs, needs_file
 from tests import installing
 from tests.case import ONE_CALL, SECONDS, TOP, Run, Test, Word, packed
-from tests.packages import ARCHIVE, ONE_FRAME, captures, orders, told, unlike
+from tests.packages import ARCHIVE, ONE_FRAME, told, unlike
+from tests.python_module import captures, orders
 from tests.releasing import LIBRARY_FOR_ARM, packages, tarball, version
 
 RUNS: List[Run] = []

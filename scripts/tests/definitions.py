@@ -4,7 +4,6 @@ import importlib
 import os
 import random
 import shutil
-import struct
 import subprocess
 import sys
 from pathlib import Path

@@ -16,7 +16,7 @@ from pathlib import Path
 from typing import Any, Callable, Dict, Iterator, List, NamedTuple, Sequence
 
 from needs import needs
-from tests import listings
+from tests import listings, summaries
 from tests.case import SCRIPTS, TOP, Run, Test, plain, ran
 
 RUNS: List[Run] = []
@@ -84,7 +84,7 @@ def inputs() -> Iterator[Any]:
     yield "two lines", lambda: listings.TWO_LINES
     yield "no dictionary", lambda: listings.PLAIN
     yield "good", listings.good_listing().octets
-    yield "gap", listings.polled(50, range(33, 38), [10, 35, 45]).octets
+    yield "gap", summaries.polled(50, range(33, 38), [10, 35, 45]).octets
     yield "failing", listings.failing_listing
     yield "big", big
     yield from ((f"random {number}", lambda number=number: made()[number]) for number in range(MADE))

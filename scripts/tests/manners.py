@@ -71,10 +71,10 @@ def called(name: str, words: List[Word], **options) -> "subprocess.CompletedProc
 MODULES: Dict[str, List[str]] = {
     "bus-limits": ["limits"],
     "bus-report": ["reports"],
-    "bus-summary": ["listings"],
+    "bus-summary": ["summaries"],
     "by-definition": ["definitions"],
     "check-dictionary": ["dictionaries"],
-    "dictionary-to-lua": ["wireshark"],
+    "dictionary-to-lua": ["dissector"],
     "draft-dictionary": ["listings"],
     "flip-bits": ["packing"],
     "list-in-parts": ["parts"],
@@ -87,12 +87,12 @@ MODULES: Dict[str, List[str]] = {
     "port1-extcap": ["extcap"],
     "unpack-bits": ["packing"],
     "c/targets/build": ["targets"],
-    "bindings/python": ["packages"],
+    "bindings/python": ["python_module"],
     "bindings/sigrok": ["sigrok"],
 }
 
 # What the tests of the other modules share.
-SHARED = {"__init__", "cabinet", "case", "failing_bus", "watched"}
+SHARED = {"__init__", "cabinet", "case", "failing_bus", "python_texts", "watched"}
 
 
 def every_script_is_tested(_: Path) -> List[str]:

@@ -532,7 +532,6 @@ def tools_that_are_missing(folder: Path) -> List[str]:
     return problems
 
 
-
 TESTS: List[Test] = [
     one_version,
     packages_by_name,
