@@ -1,4 +1,5 @@
 import { BLOCK } from "./decoder.js";
+import { countBefore } from "./search.js";
 
 /** How many ones bring a line to rest. */
 const REST = 15;
@@ -49,13 +50,7 @@ export class Places {
  * @param {number} most
  */
 function lastNotAbove(numbers, most) {
-  let [low, high] = [0, numbers.length];
-  while (low < high) {
-    const middle = (low + high) >> 1;
-    if (numbers[middle] <= most) low = middle + 1;
-    else high = middle;
-  }
-  return low - 1;
+  return countBefore(numbers.length, (at) => numbers[at] <= most) - 1;
 }
 
 /** The bits of one line, packed, in chunks. */

@@ -5,7 +5,7 @@ import { commandOf } from "./command.js";
 import { element, make } from "./dom.js";
 import { grouped } from "./units.js";
 
-/** @typedef {import("../worker/desk.js").Summary} Summary */
+/** @typedef {import("../worker/summary.js").Summary} Summary */
 /** @typedef {import("./clock.js").Clock} Clock */
 /** @typedef {import("./incidents.js").Incident} Incident */
 /** @typedef {import("./job.js").Asked} Asked */

@@ -8,7 +8,7 @@ import { Timeline } from "./timeline.js";
 import { duration, grouped } from "./units.js";
 
 /** @typedef {import("../worker/desk.js").FarDesk} Desk */
-/** @typedef {import("../worker/desk.js").Summary} Summary */
+/** @typedef {import("../worker/summary.js").Summary} Summary */
 
 const NOTHING_CHOSEN = "Nothing is chosen: choose a mark, a line, or a time of a sentence.";
 

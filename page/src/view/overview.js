@@ -53,7 +53,7 @@ export class Overview {
   /**
    * @param {Scale} whole
    * @param {number} width
-   * @param {Pick<import("../worker/desk.js").Summary, "findings"|"warnings"> & { rate: number }} told
+   * @param {Pick<import("../worker/summary.js").Summary, "findings"|"warnings"> & { rate: number }} told
    * @param {[first: number, past: number]} view
    */
   draw(whole, width, { findings, warnings, rate }, view) {

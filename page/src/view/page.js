@@ -26,7 +26,7 @@ import { whyNot } from "./words.js";
 /** @typedef {import("../../../scripts/modules/recording/doubts.js").Warning} Warning */
 /** @typedef {import("../worker/desk.js").FarDesk} Desk */
 /** @typedef {import("../worker/desk.js").Found} Found */
-/** @typedef {import("../worker/desk.js").Summary} Summary */
+/** @typedef {import("../worker/summary.js").Summary} Summary */
 /** @typedef {import("./given.js").Given} Given */
 /** @typedef {import("./heading.js").Report} Report */
 /** @typedef {import("./incidents.js").Incident} Incident */

@@ -3,7 +3,7 @@ import { readDictionary } from "../../../scripts/modules/dictionary/dictionary.j
 import { draftOf } from "../../../scripts/modules/dictionary/draft.js";
 import { Fault } from "../../../scripts/modules/fault.js";
 import { findingsOf as findingsOfBus } from "../../../scripts/modules/findings/findings.js";
-import { FRAME, isUnfit, KINDS } from "../../../scripts/modules/listing/kinds.js";
+import { FRAME, KINDS } from "../../../scripts/modules/listing/kinds.js";
 import { NO_HEAD } from "../../../scripts/modules/listing/listing.js";
 import { octetsOf } from "../../../scripts/modules/octets.js";
 import { channelsOf } from "../../../scripts/modules/recording/forms.js";
@@ -17,24 +17,23 @@ import { report } from "../../../scripts/modules/statistics/report.js";
 import { repliesOf } from "../../../scripts/modules/statistics/replies.js";
 import { tableOf } from "../../../scripts/modules/statistics/table.js";
 import { verdictOf } from "../../../scripts/modules/statistics/verdict.js";
+import { countBefore } from "../engine/search.js";
 import { found } from "./filter.js";
 import { formOf, HEAD } from "./forms.js";
 import { Lanes } from "./lanes.js";
 import { warningsOfLevels } from "./levels.js";
 import { isRecording, read } from "./source.js";
 import { structureOf } from "./structure.js";
+import { countsOf, namesOf, timesOf } from "./summary.js";
 
 /** @typedef {import("../../../scripts/modules/dictionary/dictionary.js").Entry} Entry */
 /** @typedef {import("../../../scripts/modules/listing/listing.js").Listing} Listing */
 /** @typedef {import("../../../scripts/modules/recording/doubts.js").Warning} Warning */
 /** @typedef {import("../../../scripts/modules/statistics/wrong.js").Known} Known */
-/** @typedef {import("./lanes.js").Lane} Lane */
-/** @typedef {import("./lanes.js").Mark} Mark */
-/** @typedef {import("./lanes.js").Track} Track */
 /** @typedef {import("./main.js").Task} Task */
 /** @typedef {import("./source.js").Bits} Bits */
 /** @typedef {import("./source.js").RecordingSource} RecordingSource */
-/** @typedef {import("./structure.js").Structure} Structure */
+/** @typedef {import("./summary.js").Summary} Summary */
 
 /**
  * What the page asks to be read: what is read and how, the rate in bits a second, the text of the dictionary or
@@ -46,36 +45,6 @@ import { structureOf } from "./structure.js";
 /**
  * What a file is, and the channels of a recording.
  * @typedef {import("./forms.js").Found & { channels: string[] }} Found
- */
-
-/** @typedef {Record<"gap"|"missing"|"late"|"spoilt"|"damage", number>} Counts that the verdict shows */
-
-/**
- * The times to answers of a kind of commands, in bits, each with how often it came.
- * @typedef {{ name: string, inTime: [number, number][], late: [number, number][] }} Times
- */
-
-/**
- * What is known of a file that was read.
- *
- * @typedef {object} Summary
- * @property {number} count of lines of the listing
- * @property {number} frames
- * @property {number} damaged
- * @property {boolean} isOfTwo whether the bus has two lines
- * @property {Warning[]} warnings
- * @property {number} first the place where the file begins, and the one just after its end
- * @property {number} past
- * @property {boolean} hasBits
- * @property {import("../../../scripts/modules/findings/findings.js").Finding[]} findings
- * @property {number[]} stations
- * @property {import("../../../scripts/modules/statistics/verdict.js").Verdict} verdict
- * @property {Counts} counts
- * @property {ReturnType<typeof tableOf>} table
- * @property {ReturnType<typeof damageOf>} damage
- * @property {Times[]} replies
- * @property {string|null} fault at which reading stopped
- * @property {string[]} notes on a recording, its warnings among them
  */
 
 /**
@@ -189,11 +158,8 @@ export class Desk {
     return {
       ...{ count: listing.length, frames: bus.frames, damaged: bus.damaged, isOfTwo: this.lanes.isOfTwo, warnings },
       ...{ first: end === null ? first : 0, past: Math.max(past, end ?? 0), hasBits: this.bits !== null },
-      ...{ findings: found.findings, stations: this.lanes.stations },
-      verdict,
-      counts: countsOf(bus, found.gapCount),
-      table: tableOf(bus),
-      damage: damageOf(bus),
+      ...{ findings: found.findings, stations: this.lanes.stations, verdict },
+      ...{ counts: countsOf(bus, found.gapCount), table: tableOf(bus), damage: damageOf(bus) },
       replies: timesOf(repliesOf(bus)),
     };
   }
@@ -276,14 +242,8 @@ export class Desk {
    * @param {number} row
    */
   positionOf(row) {
-    if (!this.rows) return row;
-    let [low, high] = [0, this.rows.length];
-    while (low < high) {
-      const middle = (low + high) >> 1;
-      if (this.rows[middle] < row) low = middle + 1;
-      else high = middle;
-    }
-    return low;
+    const { rows } = this;
+    return rows ? countBefore(rows.length, (at) => rows[at] < row) : row;
   }
 
   /**
@@ -335,45 +295,4 @@ function entriesOf({ dictionary, form }) {
     if (form === "listing" && fault instanceof Fault) return null;
     throw fault;
   }
-}
-
-/**
- * What is sent to each station, by the names that the dictionary gives.
- * @param {Bus} bus
- */
-function namesOf(bus) {
-  /** @type {Map<number, string>} */
-  const names = new Map();
-  for (const [{ station, type }, { name }] of bus.commands.sorted()) {
-    const own = name && !isUnfit(name) ? name : `type ${type}`;
-    names.set(station, names.has(station) ? `${names.get(station)}, ${own}` : own);
-  }
-  return names;
-}
-
-/**
- * The numbers that the verdict shows.
- * @param {Bus} bus
- * @param {number} gap
- * @returns {Counts}
- */
-function countsOf(bus, gap) {
-  const counts = { gap, missing: 0, late: 0, spoilt: 0 };
-  for (const [, { verdicts }] of bus.commands.sorted()) {
-    for (const name of /** @type {const} */ (["missing", "late", "spoilt"])) counts[name] += verdicts[name];
-  }
-  return { ...counts, damage: bus.damaged };
-}
-
-/**
- * The times to answers of each kind of commands, as pairs of a time and how often it came.
- * @param {ReturnType<typeof repliesOf>} replies
- * @returns {Times[]}
- */
-function timesOf({ kinds }) {
-  return kinds.map(({ kind, name, inTime, late }) => ({
-    name: `station ${kind.station} type ${kind.type}${name ? ` ${name}` : ""}`,
-    inTime: [...inTime.counts],
-    late: [...late.counts],
-  }));
 }

@@ -1,11 +1,11 @@
-import { ABORT, DAMAGED, FRAME, KINDS, OVERLONG } from "../../../scripts/modules/listing/kinds.js";
-import { ANSWER } from "../../../scripts/modules/port1.js";
+import { countBefore } from "../engine/search.js";
+import { DAMAGE, STATIONS, rowsByTrack, sizeOfStation, tracksOf } from "./tracks.js";
 
 /** @typedef {import("../../../scripts/modules/findings/findings.js").Stretch} Stretch */
-/** @typedef {import("../../../scripts/modules/listing/kinds.js").LineKind} LineKind */
 /** @typedef {import("../../../scripts/modules/listing/listing.js").Listing} Listing */
-
-/** @typedef {"command"|"answer"|"other"|LineKind|"damage"} TrackName */
+/** @typedef {import("./tracks.js").Rows} Rows */
+/** @typedef {import("./tracks.js").TrackName} TrackName */
+/** @typedef {import("./tracks.js").WholeTrack} WholeTrack */
 
 /**
  * What is said of a lane, and the times without a kind of commands.
@@ -15,12 +15,6 @@ import { ANSWER } from "../../../scripts/modules/port1.js";
 /** @typedef {LaneHead & { stations: number[], tracks: WholeTrack[] }} WholeLane with all of its lines */
 /** @typedef {LaneHead & { tracks: Track[] }} Lane as far as it is in view */
 
-/**
- * The lines of a track, in the order of their first bits, and those that are long.
- * @typedef {{ id: TrackName, isSign: boolean, rows: Uint32Array, long: Uint32Array }} WholeTrack
- */
-
-/** @typedef {Uint32Array|null} Rows of a track, if it has any */
 /** @typedef {{ row: number, first: number, past: number, text: string }} Mark */
 
 /**
@@ -53,121 +47,13 @@ const MOST_STATIONS = 24;
 const SIGN_BINS = 5;
 
 /**
- * The tracks of a station: three of ticks, the rest of signs.
- * @type {TrackName[]}
- */
-const TRACKS = ["command", "answer", "other", "late", "missing", "spoilt", "stray", "pending"];
-const [COMMAND, OF_ANSWERS, OTHER] = [0, 1, 2];
-const FIRST_SIGN = 3;
-
-/** Stations, and then the tracks of damage: of a listing of one line, of line 1 and of line 2. */
-const STATIONS = 256;
-const DAMAGE = STATIONS * TRACKS.length;
-
-/** The track of signs of a kind of lines, -1 where it has none; and which kinds are damage. */
-const SIGN_OF_KIND = Int8Array.from(KINDS, (name) => TRACKS.indexOf(name, FIRST_SIGN));
-const IS_DAMAGE = Uint8Array.from(KINDS, (_, kind) => Number([DAMAGED, OVERLONG, ABORT].includes(kind)));
-
-/**
- * The number of the track to which a line of a listing belongs, or -1.
- * @param {Listing} listing
- * @param {number} at
- */
-function trackOf({ kinds, lines, stations, types }, at) {
-  const kind = kinds[at];
-  if (IS_DAMAGE[kind]) return DAMAGE + lines[at];
-  const own = kind === FRAME ? trackOfFrame(types[at]) : SIGN_OF_KIND[kind];
-  return own < 0 ? -1 : TRACKS.length * stations[at] + own;
-}
-
-/** @param {number} type */
-function trackOfFrame(type) {
-  if (type < 0) return OTHER;
-  return type >= ANSWER ? OF_ANSWERS : COMMAND;
-}
-
-/**
  * How many of a track's lines begin before a place.
  * @param {Float64Array} firsts
  * @param {Uint32Array} rows
  * @param {number} place
  */
-function countBefore(firsts, rows, place) {
-  let [low, high] = [0, rows.length];
-  while (low < high) {
-    const middle = (low + high) >> 1;
-    if (firsts[rows[middle]] < place) low = middle + 1;
-    else high = middle;
-  }
-  return low;
-}
-
-/**
- * The lines of a listing by the numbers of their tracks, each in the order of its first bits.
- * @param {Listing} listing
- */
-function sorted(listing) {
-  const counts = new Uint32Array(DAMAGE + 3);
-  for (let at = 0; at < listing.length; at++) {
-    const track = trackOf(listing, at);
-    if (track >= 0) counts[track] += 1;
-  }
-  const tracks = Array.from(counts, (count) => (count > 0 ? new Uint32Array(count) : null));
-  counts.fill(0);
-  for (let at = 0; at < listing.length; at++) {
-    const track = trackOf(listing, at);
-    if (track >= 0) /** @type {Uint32Array} */ (tracks[track])[counts[track]++] = at;
-  }
-  for (const rows of tracks) if (rows !== null) putInOrder(listing, rows);
-  return tracks;
-}
-
-/**
- * Lines are in the order in which they were decided, which for most tracks is that of their first bits.
- * @param {Listing} listing
- * @param {Uint32Array} rows
- */
-function putInOrder({ firsts }, rows) {
-  for (let at = 1; at < rows.length; at++) {
-    if (firsts[rows[at]] < firsts[rows[at - 1]]) {
-      rows.sort((one, other) => firsts[one] - firsts[other] || one - other);
-      return;
-    }
-  }
-}
-
-/** @param {Listing} listing @param {Uint32Array[]} parts */
-function joined(listing, parts) {
-  const rows = new Uint32Array(parts.reduce((sum, part) => sum + part.length, 0));
-  parts.reduce((at, part) => (rows.set(part, at), at + part.length), 0);
-  putInOrder(listing, rows);
-  return rows;
-}
-
-/**
- * The tracks of one station, or of several together.
- * @param {Listing} listing
- * @param {Rows[]} tracks
- * @param {number[]} stations
- */
-function tracksOf(listing, tracks, stations) {
-  return TRACKS.flatMap((id, number) => {
-    const parts = /** @type {Uint32Array[]} */ (
-      stations.map((station) => tracks[TRACKS.length * station + number]).filter((part) => part !== null)
-    );
-    if (parts.length === 0) return [];
-    return [{ id, isSign: number >= FIRST_SIGN, rows: parts.length === 1 ? parts[0] : joined(listing, parts) }];
-  });
-}
-
-/**
- * How many lines a station has.
- * @param {Rows[]} tracks
- * @param {number} station
- */
-function sizeOfStation(tracks, station) {
-  const own = tracks.slice(TRACKS.length * station, TRACKS.length * (station + 1));
-  return own.reduce((sum, rows) => sum + (rows?.length ?? 0), 0);
+function rowsBefore(firsts, rows, place) {
+  return countBefore(rows.length, (at) => firsts[rows[at]] < place);
 }
 
 /**
@@ -193,7 +79,7 @@ export class Lanes {
     this.listing = listing;
     this.isOfTwo = listing.length > 0 && listing.lines[0] !== 0;
     this.range = rangeOf(listing);
-    const tracks = sorted(listing);
+    const tracks = rowsByTrack(listing);
     const sizeOf = (/** @type {number} */ station) => sizeOfStation(tracks, station);
     this.stations = Array.from({ length: STATIONS }, (_, station) => station).filter((station) => sizeOf(station) > 0);
     const ofStations = shared(this.stations, sizeOf).map((some) => this.ofStations(some, tracks, gaps, names));
@@ -256,7 +142,7 @@ export class Lanes {
     const { firsts } = this.listing;
     const tracks = lanes.flatMap((lane) => lane.tracks.filter(({ isSign }) => !isSign));
     /** @param {WholeTrack} track */
-    const within = ({ rows }) => countBefore(firsts, rows, past) - countBefore(firsts, rows, first - LONG);
+    const within = ({ rows }) => rowsBefore(firsts, rows, past) - rowsBefore(firsts, rows, first - LONG);
     return tracks.reduce((sum, track) => sum + within(track), 0);
   }
 
@@ -270,8 +156,8 @@ export class Lanes {
    */
   trackBetween({ id, isSign, rows, long }, first, past, bins, areFew) {
     const { firsts } = this.listing;
-    const [from, to] = [countBefore(firsts, rows, first - LONG), countBefore(firsts, rows, past)];
-    const told = { id, isSign, count: to - countBefore(firsts, rows, first), total: rows.length };
+    const [from, to] = [rowsBefore(firsts, rows, first - LONG), rowsBefore(firsts, rows, past)];
+    const told = { id, isSign, count: to - rowsBefore(firsts, rows, first), total: rows.length };
     const isExact = isSign ? to - from <= MOST_SIGNS : areFew;
     if (isExact) return { ...told, marks: this.marks(rows.subarray(from, to), long, first) };
     return { ...told, ...this.bins(rows, first, past, isSign ? Math.ceil(bins / SIGN_BINS) : bins) };
@@ -303,9 +189,9 @@ export class Lanes {
     const { firsts } = this.listing;
     const counts = new Uint32Array(bins);
     const leaders = new Uint32Array(bins);
-    let before = countBefore(firsts, rows, first);
+    let before = rowsBefore(firsts, rows, first);
     for (let bin = 0; bin < bins; bin++) {
-      const next = countBefore(firsts, rows, first + ((past - first) * (bin + 1)) / bins);
+      const next = rowsBefore(firsts, rows, first + ((past - first) * (bin + 1)) / bins);
       counts[bin] = next - before;
       leaders[bin] = rows[before] ?? 0;
       before = next;
