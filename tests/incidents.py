@@ -11,7 +11,8 @@ from pathlib import Path
 from typing import Dict, Iterator, List, Sequence, Tuple
 
 import browser
-from paged import Test, address_of, opened, read_file
+from engine import Test
+from paged import address_of, opened, read_file
 from viewed import EXAMPLE, NO_ANSWER, RATE, dictionary, talk, text_at
 
 # The rounds in which station 2 does not answer: its first command then begins after 20 * 20 + 11 ms.

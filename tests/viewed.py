@@ -15,7 +15,8 @@ from pathlib import Path
 from typing import Callable, Dict, Iterator, List, NamedTuple, Sequence, Tuple
 
 import browser
-from paged import Test, address_of, opened, read_file
+from engine import Test
+from paged import address_of, opened, read_file
 
 TOP = Path(__file__).resolve().parent.parent
 
