@@ -12,8 +12,9 @@ from typing import Dict, Iterator, List, Sequence, Tuple
 
 import browser
 from engine import Test
+from inputs import NO_ANSWER, RATE, dictionary, talk, text_at
 from paged import address_of, opened, read_file
-from viewed import EXAMPLE, NO_ANSWER, RATE, dictionary, talk, text_at
+from viewed import EXAMPLE
 
 # The rounds in which station 2 does not answer: its first command then begins after 20 * 20 + 11 ms.
 SILENT = range(20, 30)
