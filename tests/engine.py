@@ -15,9 +15,9 @@ from zipfile import ZIP_DEFLATED, ZipFile
 from built import newest_of, sources_of
 from jobs import NAMES, PROGRAM, SECONDS, TOP, Job, bench
 from jobs import broken_jobs, example_jobs, generated_jobs, program_lists, text_job, traffic_jobs
-from library import TAPPED, simulated, talk
 from needs import NODE_MODULES, Skipped, needs, needs_file, needs_module
 from table.vectors import VECTORS
+from workbench import TAPPED, simulated, talk
 
 BUILT = TOP / "page" / "out" / "port1.html"
 

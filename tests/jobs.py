@@ -11,15 +11,15 @@ TOP = Path(__file__).resolve().parent.parent
 
 sys.path.append(str(TOP / "c" / "tests"))
 
-from library import Bench, captures, octets_of, talk, traffic
 from needs import Skipped
+from workbench import Bench, captures, octets_of, talk, traffic
 
 # How long anything may take, in seconds.
 SECONDS = 1800
 
 PROGRAM = Path(os.environ.get("PORT1") or TOP / "crates" / "port1" / "out" / "port1")
 
-# A dictionary whose names a careless page would run, and the talk of c/tests/library.py in its types.
+# A dictionary whose names a careless page would run, and the talk of c/tests/workbench.py in its types.
 NAMES = """\
 version = 2
 [[frame]]

@@ -14,8 +14,8 @@ from typing import Iterator, List, NamedTuple, Sequence, Tuple
 import browser
 from engine import Test, engine_of
 from jobs import NAMES, TOP, bench, broken_jobs, program_lists, text_job
-from library import talk
 from needs import needs, needs_module
+from workbench import talk
 
 
 @contextmanager
