@@ -40,7 +40,7 @@ UNWANTED = [
 GONE = re.compile(
     r"\b(?:ClosesPage|CutsIt|FeedHalts|FollowsBody|FollowsOctets|FollowsPacked|FollowsText|HaltsIn|JournalState"
     r"|LeadsTold|LineWords|PairListener|RunsPast|RunsTo|RunsToStop|SeesPairs|Teller|are_sound|bus_capture|bus_encode"
-    r"|bus_serve|bus_talk|heard_on|may_answer|may_wait|would_take)\b"
+    r"|bus_serve|bus_talk|fold_some|heard_(?:at|in|on)|may_answer|may_wait|reports_heard|would_take)\b"
 )
 SOURCES = {".antt", ".c", ".edit", ".edits", ".h", ".js", ".md", ".py", ".rt", ".toml"}
 

@@ -1,4 +1,4 @@
-// A reader of the lines of `port1 list`, for the tests: the regular expression and the rules of common/listing.py.
+// A reader of the lines of `port1 list`, for the tests, by a regular expression.
 
 const LINE = new RegExp(
   "^(?:([12]) )?(\\d+) (\\d+) (?:" +
