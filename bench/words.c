@@ -2,12 +2,11 @@
  *
  *     words text|packed < CAPTURE
  *
- * It keeps the raw bits packed, whatever the form of the capture, and looks in each word for runs of six
- * ones and more, which alone can be flags, aborts and idle lines. Only where a flag closes a piece does it
- * take the inserted 0s out of the bits of that piece, 48 at a time. With AVX2, BMI2 and PCLMUL, which
- * -march=native allows where the processor has them, it reads a text, takes out 0s, divides and writes
- * hexadecimal by these, else by shifts and tables. It takes octets in memory as words, the lowest first,
- * as x86 and ARM do. */
+ * It keeps the raw bits packed, whatever the form of the capture. In each word it looks for runs of six ones
+ * and more, which alone can be flags, aborts and idle lines. Only where a flag closes a piece does it take
+ * the inserted 0s out of the bits of that piece, 48 at a time. It reads a text, takes out 0s, divides and
+ * writes hexadecimal by AVX2, BMI2 and PCLMUL where -march=native allows them, else by shifts and tables. It
+ * takes octets in memory as words, the lowest first, as x86 and ARM do. */
 #include "listing.h"
 
 #if defined(__AVX2__) && defined(__BMI2__) && defined(__PCLMUL__)
@@ -137,8 +136,8 @@ static inline void say_line(uint64_t from, uint64_t past, const char *what, size
 static inline uint64_t kept_of(uint64_t bits, uint64_t kept) { return _pext_u64(bits, kept); }
 
 /* Whether the check of so many octets is good: whether their polynomial, and ones for the last sixteen
- * bits, is divisible by that of the check. 128 bits are folded into the next 128, the last into 64, and
- * these multiplied by the inverse, which gives a quotient of 48 bits just where there is no rest. */
+ * bits, is divisible by that of the check. 128 bits are folded into the next 128, and the last into 64.
+ * These are multiplied by the inverse, which gives a quotient of 48 bits just where there is no rest. */
 static inline int is_good(size_t count) {
     const __m128i by_128 = _mm_set_epi64x(0x7eea000000000000, (long long)0xa95d000000000000);
     const __m128i by_64 = _mm_set_epi64x(0, 0x042b000000000000);

@@ -130,8 +130,8 @@ def named_bodies(crates: Path) -> List[Edit]:
 
 
 def misfits(edits: Iterable[Edit], top: Path) -> Iterator[str]:
-    """The edits that do not fit the files of a work tree, each with its first change that does not, and those that have
-    no change, or the name of another."""
+    """The edits that do not fit the files of a work tree, each with its first change that does not. Those without a
+    change, or with the name of another, are among them."""
     names: Set[str] = set()
     for edit in edits:
         if not edit.changes or edit.name in names:

@@ -1,12 +1,13 @@
-/* Nanoseconds for an octet of a packed capture, fed in chunks of 1, 2, 7, 8, 32 and 4096 octets to the C library, and
- * to the HDLC receivers of libspandsp and libosmocore where these are installed. A table on standard output; the
- * fastest of RUNS runs, 9 unless given. Each says how many good frames it found, which must be alike for all but the
+/* Nanoseconds for an octet of a packed capture, fed in chunks of 1, 2, 7, 8, 32 and 4096 octets. It is fed to the C
+ * library, and to the HDLC receivers of libspandsp and libosmocore where these are installed. A table on standard
+ * output; the fastest of RUNS runs, 9 unless given. Each says how many good frames it found, which must be alike for all but the
  * first frames of libspandsp, whose receiver wants a flag or two before it begins.
  *
  *     feed CAPTURE [RUNS]
  *
- * With the number of a receiver, from 0 on in the order of the table, and of a chunk's octets it feeds that one once,
- * by the function `drive`, for a program that counts instructions; the status is 3 where it is not installed.
+ * With the number of a receiver, from 0 on in the order of the table, and of a chunk's octets it feeds that one once.
+ * It does so by the function `drive`, for a program that counts instructions. The status is 3 where the receiver is
+ * not installed.
  *
  *     feed CAPTURE 1 RECEIVER OCTETS */
 #define _GNU_SOURCE

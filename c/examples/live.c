@@ -1,5 +1,5 @@
-/* Prints each good frame as it closes, from octets that come one at a time on standard input, as they would
- * from a serial controller that packs eight bits of the line in an octet, the first lowest. */
+/* Prints each good frame as it closes, from octets that come one at a time on standard input. A serial controller
+ * gives such octets that packs eight bits of the line in one, the first lowest. */
 #include "port1.h"
 #include <stdio.h>
 

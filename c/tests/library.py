@@ -1,7 +1,7 @@
 """Compiles the header and the examples in C against the C library, and compares what they do with the program.
 
 The archive is crates/port1_c/out/libport1_c.a, found from the program's place. `rt ci` proves the crate and leaves no
-archive, so where it is missing, or older than a source, it is built, over the libraries that `rt ci` left or else by
+archive. So where it is missing, or older than a source, it is built: over the libraries that `rt ci` left, or else by
 `rt lib`, which takes some minutes where nothing was kept. All is compiled by `cc` as C99 and by `c++`, and the sources
 also by the other compilers of COMPILERS that are installed. It takes `nm` and `size`, too.
 """

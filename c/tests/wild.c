@@ -1,10 +1,11 @@
 /* Calls the C library on 10^6 lines and senders, each object ending at a page that must not be touched. Five lines of
- * eight have numbers that a decoder may have; the others have any. It sees that just the lines within the bounds of a
- * decoder are accepted, and stay within them, that a refusal changes nothing, that `at` stays within what was asked
- * for, that a report has numbers that the header names, that a line of zeros is refused, and that a sender touches the
- * bits of its call alone; and counts the lines that are accepted and what the calls return. Status 3 is a line that
- * went wrong, 4 an answer that no call gave, which of some thousand lines and senders each ought to, 5 a sender, 6 a
- * line of zeros that was taken.
+ * eight have numbers that a decoder may have; the others have any. It sees that:
+ *   - just the lines within the bounds of a decoder are accepted, and stay within them;
+ *   - a refusal changes nothing, and a line of zeros is refused;
+ *   - `at` stays within what was asked for, and a report has numbers that the header names;
+ *   - a sender touches the bits of its call alone.
+ * It counts the lines that are accepted and what the calls return. Status 3 is a line that went wrong, 4 an answer
+ * that no call gave; 5 is a sender, and 6 a line of zeros that was taken.
  *
  *     wild [COUNT] */
 #define _GNU_SOURCE

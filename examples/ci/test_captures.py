@@ -61,8 +61,8 @@ def kind_of(line: str) -> str:
 
 
 def told(line: str, names: Dict[str, str], is_of_two: bool, answer: int) -> str:
-    """A line with the second at which it begins, the name of its frame type, which the dictionary has, and how long a
-    late answer, which began at a place, took."""
+    """A line with the second at which it begins, the name of its frame type, and how long a late answer took, which
+    began at a place."""
     words = line.split()
     first, past = map(int, words[is_of_two:][:2])
     name = names.get(words[-1]) if words[-2:-1] == ["type"] else None

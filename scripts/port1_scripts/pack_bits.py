@@ -4,8 +4,8 @@
 
 The text has the octets 0 and 1; spaces, tabs and line ends are skipped. At any other octet it stops
 with status 2 and writes nothing. The packed bits are kept in memory, since their number comes first.
-With --two it packs a capture of two lines, whose text has the octets 0 to 3, in a fourth of the room, and
-with --arrivals one of two lines with a clock each, of 0, 1, o and i.
+With --two it packs a capture of two lines, whose text has the octets 0 to 3, in a fourth of the room.
+With --arrivals it packs one of two lines with a clock each, of 0, 1, o and i.
 """
 
 import sys

@@ -4,8 +4,8 @@
 
 It stops with status 2 where the capture has a fault, as `port1` would; the bits before the fault are
 written, and where unused bits of the last octet are not 0, those of the octets before it. With --two it
-unpacks a capture of two lines, whose text has the octets 0 to 3, and with --arrivals one of two lines with
-a clock each, of 0, 1, o and i.
+unpacks a capture of two lines, whose text has the octets 0 to 3. With --arrivals it unpacks one of two
+lines with a clock each, of 0, 1, o and i.
 """
 
 import sys

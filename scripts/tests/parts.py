@@ -112,8 +112,8 @@ def parts_up_to_the_end(folder: Path) -> List[str]:
 
 
 def parts_by_jobs(folder: Path) -> List[str]:
-    """Each number of jobs up to 32 and the parts that go with it, on captures of so few octets that from some jobs on
-    the last cuts are at the end, at which a command is pending, or a piece open."""
+    """Each number of jobs up to 32 and the parts that go with it. The captures have so few octets that the last cuts
+    are at the end, where a command is pending, or a piece open."""
     generator = random.Random(10)
     call = plain(CALL)
     problems = []

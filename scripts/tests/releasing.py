@@ -113,8 +113,8 @@ def stand_in(archive: Path, compiler: str) -> None:
 
 
 def repository(folder: Path) -> Path:
-    """A repository of one commit with the files of this one as they stand, proofs aside, with the program, with the
-    libraries, or a stand-in for each that is not built, and with a stand-in for the page."""
+    """A repository of one commit with the files of this one as they stand, proofs aside, and with the program. It has
+    the libraries, or a stand-in for each that is not built, and a stand-in for the page."""
     needs(*TOOLS)
     folder.mkdir(parents=True)
     git(folder, "init", "-q")

@@ -36,8 +36,8 @@ import { countsOf, namesOf, timesOf } from "./summary.js";
 /** @typedef {import("./summary.js").Summary} Summary */
 
 /**
- * What the page asks to be read: what is read and how, the rate in bits a second, the text of the dictionary or
- * nothing, where a report has the listing, the warnings of its recording, and when it was, where that is known.
+ * What the page asks to be read, and how: the rate in bits a second, and the text of the dictionary or nothing. Of a
+ * listing in a report it has the warnings of its recording; and when that was, where it is known.
  * @typedef {import("./source.js").Source & Asked} Job
  * @typedef {{ rate: number, dictionary: string, told?: string[], begin: Begin|null }} Asked
  */

@@ -10,8 +10,8 @@ from typing import Any, Callable, Dict, Iterable, Iterator
 class Items:
     """A list: the items from `first` up to `past` of cells that other lists may share.
 
-    A cell, once written, stays. So a list can be longer at either end than the one that it was made from and have the
-    cells of that one, where the cells beyond are still free, or have the same item; else it gets cells of its own.
+    A cell, once written, stays. So a list can be longer at either end than the one that it was made from, and share its
+    cells. It does so where the cells beyond are still free, or have the same item; else it gets cells of its own.
     """
 
     __slots__ = ("cells", "first", "past")
