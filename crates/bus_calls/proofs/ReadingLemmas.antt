@@ -1,6 +1,6 @@
 -- How the reading of a capture ends.
-use Rattle.std.proofs.Common.{◌≡◌, ℕ, ◌+◌, ◌<◌, Bool, true, false, List, [], length, Option, Some, None, Result, Ok, Err}
-use Rattle.std.proofs.Common.{MatchResult, refl, sym, ap, ◌∙◌, subst, arith, append-nil, inl, inr}
+use Rattle.std.proofs.Common.{◌≡◌, ℕ, ◌+◌, ◌<◌, Bool, true, false, List, [], length, Option, Some, None, Result, Ok}
+use Rattle.std.proofs.Common.{Err, MatchResult, refl, sym, ap, ◌∙◌, subst, arith, append-nil, inl, inr}
 use Rattle.arrayvec.specs.ArrayVec.{array_vec_len}
 use Rattle.std.specs.Io.KnownBytes.{IsAtEnd}
 use Rattle.bus_dictionary.specs.Entry.{FrameType}

@@ -91,11 +91,11 @@ returns-in_err-analyse-in-Text-clause-read g c =
     let self = c.loop-turn.self in
     let page = c.write_out.new.self in
     let xs = before.0 ++ take c.in-Ok.count c.read.new.buf in
-    let stops = subst (λ (b : Bool). SourceStopsWith kind b start (g.W.Write.contents c.analyse.new.w) c.analyse.new.run xs
-    c.in_err-analyse-in-Text.field-0.0)
+    let stops = subst (λ (b : Bool). SourceStopsWith kind b start (g.W.Write.contents c.analyse.new.w)
+    c.analyse.new.run xs c.in_err-analyse-in-Text.field-0.0)
     (ap is_text (sym c.in-Text.is) ∙ c.loop-turn.invariant.text)
-    (c.in_err-analyse-in-Text.ensures.taken start before.0 (follows-text kind start _ self.source c.in-Text.text _ before.0
-    c.in-Text.is
+    (c.in_err-analyse-in-Text.ensures.taken start before.0
+    (follows-text kind start _ self.source c.in-Text.text _ before.0 c.in-Text.is
     (turned kind start _ _ self.source self.run page before.0 (c.in_ok-write_out.ensures.turned start) before.2))) in
     rw (failed.1, failed.2) (
       xs,
@@ -116,13 +116,14 @@ returns-in_err-analyse-in-Packed-clause-read g c =
     let stops = subst (λ (b : Bool). SourceStopsWith kind b start (g.W.Write.contents c.analyse-in-Packed.new.w)
     c.analyse-in-Packed.new.run xs c.in_err-analyse-in-Packed.field-0.0)
     (ap is_text (sym c.in-Packed.is) ∙ c.loop-turn.invariant.text)
-    (c.in_err-analyse-in-Packed.ensures.taken start before.0 (follows-packed kind start _ self.source c.in-Packed.packed _
-    before.0 c.in-Packed.is
+    (c.in_err-analyse-in-Packed.ensures.taken start before.0
+    (follows-packed kind start _ self.source c.in-Packed.packed _ before.0 c.in-Packed.is
     (turned kind start _ _ self.source self.run page before.0 (c.in_ok-write_out.ensures.turned start) before.2))) in
     rw (failed.1, failed.2) (
       xs,
       consumes_both _ _ _ before.0 _ before.1 c.in-Ok.ensures.bytes.0,
-      stops-finishes kind (is_text c.args.self.now.source) c.args.reads _ start _ c.analyse-in-Packed.new.run xs _ stops,
+      stops-finishes kind (is_text c.args.self.now.source) c.args.reads _ start _ c.analyse-in-Packed.new.run xs _
+          stops,
     )
 
 pub loop-turn-preserved : goal.loop-turn-preserved
