@@ -1,5 +1,5 @@
 -- How the reading of a capture ends.
-use Rattle.std.proofs.Common.{◌≡◌, ℕ, ◌+◌, ◌<◌, Bool, true, false, List, [], length, Option, Some, None, Result, Ok}
+use Rattle.std.proofs.Common.{◌≡◌, ℕ, ◌+◌, ◌<◌, Bool, List, [], length, Option, Some, None, Result, Ok}
 use Rattle.std.proofs.Common.{Err, MatchResult, refl, sym, ap, ◌∙◌, subst, arith, append-nil, inl, inr}
 use Rattle.arrayvec.specs.ArrayVec.{array_vec_len}
 use Rattle.std.specs.Io.KnownBytes.{IsAtEnd}
