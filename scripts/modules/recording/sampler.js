@@ -17,8 +17,8 @@ function note(seen, sample) {
 
 /**
  * Takes bits from samples in memory that does not grow, as the program port1-sample does, which tells its facts at the
- * end alone: for events, which are told as they occur. A level counts once it stood in `hold` + 1 samples; a bit is what its line's data was just before its clock
- * rises; of two bits of one sample the first line's comes first.
+ * end alone: for events, which are told as they occur. A level counts once it stood in `hold` + 1 samples. A bit is
+ * what its line's data was just before its clock rises; of two bits of one sample the first line's comes first.
  */
 export class Sampler {
   /**
