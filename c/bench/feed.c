@@ -1,7 +1,7 @@
 /* Nanoseconds for an octet of a packed capture, fed in chunks of 1, 2, 7, 8, 32 and 4096 octets. It is fed to the C
  * library, and to the HDLC receivers of libspandsp and libosmocore where these are installed. A table on standard
- * output; the fastest of RUNS runs, 9 unless given. Each says how many good frames it found, which must be alike for all but the
- * first frames of libspandsp, whose receiver wants a flag or two before it begins.
+ * output; the fastest of RUNS runs, 9 unless given. Each says how many good frames it found, which must be alike for
+ * all but the first frames of libspandsp, whose receiver wants a flag or two before it begins.
  *
  *     feed CAPTURE [RUNS]
  *
