@@ -34,3 +34,10 @@ static void note(const void *object, uint32_t count) {
         hash = (hash ^ word) * 1099511628211u;
     }
 }
+
+/* Takes what a call returned into the hash, and an object that it may have written; returns the former. */
+static uint32_t note_call(uint32_t status, const void *object, uint32_t count) {
+    note(&status, sizeof status);
+    note(object, count);
+    return status;
+}

@@ -48,17 +48,9 @@ static uint8_t traffic[TRAFFIC];                   /* frames, flags and idle tim
 static uint32_t place;                             /* of the traffic that comes next */
 static uint32_t counts[24][STATUSES], reports[STATUSES];
 
-static uint32_t note_received(uint32_t status) {
-    note(&status, sizeof status);
-    note(&received, sizeof received);
-    return status;
-}
+static uint32_t note_received(uint32_t status) { return note_call(status, &received, sizeof received); }
 
-static uint32_t note_sent(uint32_t status) {
-    note(&status, sizeof status);
-    note(&sent, sizeof sent);
-    return status;
-}
+static uint32_t note_sent(uint32_t status) { return note_call(status, &sent, sizeof sent); }
 
 /* Sends frames of all lengths, flags and idle times, till no more fits. */
 static void make_traffic(void) {
@@ -238,9 +230,7 @@ static uint32_t pair_take(void) {
     if (below(64) == 0)
         fill(entries, sizeof entries);
     status = port1_pair_take(&paired.pair, entries, known, below(4), &report, frame, count, &paired.seen);
-    note(&status, sizeof status);
-    note(&paired, sizeof paired);
-    return status;
+    return note_call(status, &paired, sizeof paired);
 }
 
 static const struct {

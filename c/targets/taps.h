@@ -21,17 +21,9 @@ static struct {
 } clocked;
 static struct port1_clocks sound_clocks;           /* that only the library wrote */
 
-static uint32_t note_tapped(uint32_t status) {
-    note(&status, sizeof status);
-    note(&tapped, sizeof tapped);
-    return status;
-}
+static uint32_t note_tapped(uint32_t status) { return note_call(status, &tapped, sizeof tapped); }
 
-static uint32_t note_clocked(uint32_t status) {
-    note(&status, sizeof status);
-    note(&clocked, sizeof clocked);
-    return status;
-}
+static uint32_t note_clocked(uint32_t status) { return note_call(status, &clocked, sizeof clocked); }
 
 /* Changes an object now and then: one of its octets, or all. */
 static void damage(void *object, uint32_t count) {

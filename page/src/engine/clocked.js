@@ -11,13 +11,22 @@ const SILENCE = 400n;
 
 /** Decodes two lines with a clock each, whose bits come in the order of arrival. */
 export class ClockedDecoder {
+  // Where in memory each stands.
+  clocks = 0;
+  arrival = 0;
+  report = 0;
+  flag = 0;
+  first = 0;
+  past = 0;
+
   /** @param {Library} library @param {Entry[]|null} entries of a dictionary */
   constructor(library, entries) {
     this.library = library;
     this.reporter = new Reporter(library, entries);
-    this.memory = [CLOCKS.size, REST.size, ARRIVAL.size, REPORT.size, 1, 8, 8].map((size) => library.allocate(size));
-    this.pointers = this.memory.map(BigInt);
-    const [clocks, rest] = this.pointers;
+    const memory = [CLOCKS.size, REST.size, ARRIVAL.size, REPORT.size, 1, 8, 8].map((size) => library.allocate(size));
+    [this.clocks, , this.arrival, this.report, this.flag, this.first, this.past] = memory;
+    const [clocks, rest, arrival, report, flag, first, past] = memory.map(BigInt);
+    this.pointers = { clocks, rest, arrival, report, flag, first, past };
     library.demand(library.calls.port1_clocks_init(clocks, BigInt(longestOf(entries)), 0n), "port1_clocks_init");
     library.demand(library.calls.port1_rest_init(rest, SILENCE), "port1_rest_init");
   }
@@ -32,22 +41,20 @@ export class ClockedDecoder {
    * @param {number} bit
    */
   push(line, bit) {
-    const { library } = this;
-    const [at, , arrival, report] = this.memory;
-    const [clocks, , arrived, told] = this.pointers;
+    const { library, arrival, report, pointers } = this;
     library.octets[arrival + ARRIVAL.line] = line + 1;
     library.octets[arrival + ARRIVAL.bit] = bit;
-    library.demand(library.calls.port1_clocks_push(clocks, arrived, told), "port1_clocks_push");
+    const status = library.calls.port1_clocks_push(pointers.clocks, pointers.arrival, pointers.report);
+    library.demand(status, "port1_clocks_push");
     if (library.view.getUint32(report + REPORT.kind, true) === 0) return;
-    this.reporter.tell(line + 1, at + (line === 0 ? CLOCKS.first : CLOCKS.second), report);
+    this.reporter.tell(line + 1, this.clocks + (line === 0 ? CLOCKS.first : CLOCKS.second), report);
   }
 
   /** Whether fifteen ones of the second line arrive right after the bit that was taken last, which bring it to rest. */
   rests() {
-    const { library } = this;
-    const [, rest, arrived, , flag] = this.pointers;
-    library.demand(library.calls.port1_rest_push(rest, arrived, flag), "port1_rest_push");
-    return library.octets[this.memory[4]] === 1;
+    const { library, pointers } = this;
+    library.demand(library.calls.port1_rest_push(pointers.rest, pointers.arrival, pointers.flag), "port1_rest_push");
+    return library.octets[this.flag] === 1;
   }
 
   /** Writes down what is open at the end of the capture. */
@@ -60,11 +67,9 @@ export class ClockedDecoder {
   /** @param {number} number 1 or 2 */
   tellOpen(number) {
     const { library } = this;
-    const [, , , , begun, first, past] = this.memory;
-    const [clocks, , , , ...open] = this.pointers;
-    const [flag, from, to] = open;
-    library.demand(library.calls.port1_clocks_open(clocks, number, flag, from, to), "port1_clocks_open");
-    if (library.octets[begun] === 0) return;
-    this.listing.addPiece(number, library.number(first), library.number(past), OPEN, 0);
+    const { clocks, flag, first, past } = this.pointers;
+    library.demand(library.calls.port1_clocks_open(clocks, number, flag, first, past), "port1_clocks_open");
+    if (library.octets[this.flag] === 0) return;
+    this.listing.addPiece(number, library.number(this.first), library.number(this.past), OPEN, 0);
   }
 }
