@@ -139,7 +139,7 @@ class Decoder(srd.Decoder):
         entries = self.entries or {}
         self.lines = [Line(line_decoder(self.options["longest"] or longest_of(entries))) for _ in range(2)]
         self.pairing = pairing_by(entries)
-        self.command = Samples(0, 0)  # of the last frame that a command may be
+        self.command = Samples(0, 0)  # of the controller's last frame, which may be a command
         self.has_second = bool(self.has_channel(RXD))
 
     def placed(self, report: Any) -> Any:
