@@ -115,7 +115,10 @@ declare module "node:path" {
 
 declare module "node:readline" {
   import { Readable } from "node:stream";
-  function createInterface(options: { input: Readable }): { on(event: "line", listener: (line: string) => void): void };
+  interface Interface extends AsyncIterable<string> {
+    on(event: "line", listener: (line: string) => void): void;
+  }
+  function createInterface(options: { input: Readable }): Interface;
 }
 
 declare module "node:stream" {

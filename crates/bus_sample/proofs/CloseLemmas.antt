@@ -8,7 +8,8 @@ use Rattle.bus_sample.specs.Samples.{HasSize, SamplesBy, IsFrontOf}
 use Rattle.bus_sample.specs.Internal.Runs.{RecordingStopsWith}
 use Rattle.bus_sample.specs.declared.reader.SampleRun.{SampleRun}
 use Rattle.bus_sample.specs.declared.fault.SampleFault.{SampleFault}
-use Rattle.bus_sample.specs.declared.fault.SampleFault.TheVariants.{Octets, CutOff, TooMany, Read, ReadsLimit, Write}
+use Rattle.bus_sample.specs.declared.fault.SampleFault.TheVariants.{Octets, CutOff, TooMany, Read, ReadsLimit}
+use Rattle.bus_sample.specs.declared.fault.SampleFault.TheVariants.{Facts, Write}
 
 pub whole-front : (ss : List ℕ) → IsFrontOf ss ss
 whole-front ss = ([], sym (append-nil ss))
@@ -24,6 +25,7 @@ module _ (after start before now : Option (List ℕ)) (run : SampleRun) (size : 
       (size, ends.0, ends.1, ends.2, closed _ ends.3.taken.marks.page)
   closed-whole TooMany none closed halts = (size, halts.0, halts.1, halts.2, closed _ halts.3.page)
   closed-whole Read none closed read = (size, closed _ read.taken.marks.page)
+  closed-whole Facts none closed read = (size, closed _ read.taken.marks.page)
   closed-whole ReadsLimit none closed ends = (size, ends.0, closed _ ends.1.taken.marks.page)
   closed-whole (Write sent) none closed halts = absurd (none sent refl)
 
@@ -38,6 +40,8 @@ module _ (after start before now : Option (List ℕ)) (run : SampleRun) (size : 
       (recorded run.options.form xs, _, whole-front _, inl refl, cut _ ends.3.taken.marks.page)
   closed-cut TooMany sent none cut halts = (halts.1, _, halts.2, inl refl, cut _ halts.3.page)
   closed-cut Read sent none cut read =
+      (recorded run.options.form xs, _, whole-front _, inl refl, cut _ read.taken.marks.page)
+  closed-cut Facts sent none cut read =
       (recorded run.options.form xs, _, whole-front _, inl refl, cut _ read.taken.marks.page)
   closed-cut ReadsLimit sent none cut ends =
       (recorded run.options.form xs, _, whole-front _, inl refl, cut _ ends.1.taken.marks.page)

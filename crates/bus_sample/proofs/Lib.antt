@@ -3,5 +3,6 @@ pub mod RecordLemmas
 pub mod RunLemmas
 pub mod ReadLemmas
 pub mod CloseLemmas
+pub mod LookLemmas
 pub mod AlikeLemmas
 pub mod ReadBackLemmas

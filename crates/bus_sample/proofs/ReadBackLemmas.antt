@@ -1,13 +1,11 @@
 -- The text of arrivals is a capture of them.
 use Rattle.std.proofs.Common.{◌≡◌, ℕ, suc, ◌%◌, ◌==◌, ◌||◌, Bool, true, false, if◌then◌else◌, List, [], ◌∷◌, ◌++◌}
-use Rattle.std.proofs.Common.{length}
-use Rattle.std.proofs.Common.{map, refl, sym, ap, ◌∙◌, None, arith, append-nil, append_assoc}
+use Rattle.std.proofs.Common.{length, map, refl, sym, ap, ◌∙◌, None, arith, append-nil, append_assoc, ◌+◌, subst}
+use Rattle.std.proofs.Common.{length-append}
 use Rattle.std.specs.Prelude.{filter, nat_lt, eqb, Some, take}
 use Rattle.std.specs.List.{prefix_len}
-use Rattle.std.proofs.Common.{◌+◌, subst, length-append}
 use Rattle.std.proofs.lemmas.List.Folds.{prefix_len-append}
-use Rattle.std.proofs.lemmas.List.{take_all}
-use Rattle.std.proofs.lemmas.List.{map-append}
+use Rattle.std.proofs.lemmas.List.{take_all, map-append}
 use Rattle.std.proofs.lemmas.Grind.{common_steps}
 use Rattle.bus_bits.specs.Capture.{is_arrival, is_space, mark_arrival, text_arrivals, text_arrivals_fault, front_by}
 use Rattle.bus_bits.specs.Capture.{bad_mark}

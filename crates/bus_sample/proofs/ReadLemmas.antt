@@ -1,7 +1,6 @@
 -- A recording, with octets more.
-use Rattle.std.proofs.Common.{replicate, ◌≡◌, ℕ, ◌+◌, ◌-◌, ◌<◌, ◌≤◌, List, [], ◌∷◌, ◌++◌, length, take, drop, refl}
-use Rattle.std.proofs.Common.{sym, ap, ◌∙◌, arith}
-use Rattle.std.proofs.Common.{subst, append_assoc, length-append, Option, Result, Ok, Err, get_or}
+use Rattle.std.proofs.Common.{replicate, ◌≡◌, ℕ, ◌+◌, ◌-◌, ◌<◌, ◌≤◌, List, [], ◌∷◌, ◌++◌, length, take, drop, refl, sym}
+use Rattle.std.proofs.Common.{ap, ◌∙◌, arith, subst, append_assoc, length-append, Option, Result, Ok, Err, get_or}
 use Rattle.std.specs.Prelude.{MatchResult, slice_index}
 use Rattle.bus_text.proofs.KnownBytesLemmas.{take_both}
 use Rattle.std.proofs.lemmas.List.{get_or-drop}
@@ -14,7 +13,8 @@ use Rattle.bus_sample.specs.Internal.Runs.{RunAfter, HasRead, StopsWith, Recordi
 use Rattle.bus_sample.specs.declared.options.Form.{Form}
 use Rattle.bus_sample.specs.declared.reader.SampleRun.{SampleRun}
 use Rattle.bus_sample.specs.declared.fault.SampleFault.{SampleFault}
-use Rattle.bus_sample.specs.declared.fault.SampleFault.TheVariants.{Octets, CutOff, TooMany, Read, ReadsLimit, Write}
+use Rattle.bus_sample.specs.declared.fault.SampleFault.TheVariants.{Octets, CutOff, TooMany, Read, ReadsLimit}
+use Rattle.bus_sample.specs.declared.fault.SampleFault.TheVariants.{Facts, Write}
 use Rattle.bus_sample.proofs.RecordLemmas.{recorded-grows}
 
 -- a record is whole
@@ -55,6 +55,7 @@ halts-further start now run samples more Octets further halts = absurd halts
 halts-further start now run samples more (CutOff octet) further halts = absurd halts
 halts-further start now run samples more Read further halts = absurd halts
 halts-further start now run samples more ReadsLimit further halts = absurd halts
+halts-further start now run samples more Facts further halts = absurd halts
 
 -- the octets so far, and one more
 pub front-next : (xs ys : List ℕ) (i x : ℕ) → i < length ys → x ≡ get_or ys i 0 →
@@ -90,6 +91,7 @@ halts-finishes after start now run form xs Octets is halts = absurd halts
 halts-finishes after start now run form xs (CutOff octet) is halts = absurd halts
 halts-finishes after start now run form xs Read is halts = absurd halts
 halts-finishes after start now run form xs ReadsLimit is halts = absurd halts
+halts-finishes after start now run form xs Facts is halts = absurd halts
 
 pub ends-finishes : (after start now : Option (List ℕ)) (run : SampleRun) (xs : List ℕ)
     (r : Result (Unit {0}) SampleFault) → IsAtEnd after → HasRead start now run xs →

@@ -3,6 +3,7 @@ use Rattle.std.specs.Prelude.{◌≡◌, ℕ, ◌<◌, ◌⊎◌, true, false, B
 use Rattle.std.specs.Io.KnownBytes.{Appends, Consumes}
 use Rattle.bus_tap.specs.declared.facts.TapFacts.{TapFacts}
 use Rattle.bus_sample.specs.Facts.{facts_text}
+use Rattle.bus_sample.specs.Looks.{LooksBy}
 use Rattle.bus_sample.specs.Samples.{SamplesBy}
 use Rattle.bus_sample.specs.declared.arguments.Request.{Request}
 use Rattle.bus_sample.specs.declared.fault.SampleFault.{SampleFault}
@@ -21,5 +22,6 @@ Tells true (Ok facts) start now status =
 abbrev pub ExecutesSampling : Request → Option (List ℕ) → Option (List ℕ) → Option (List ℕ) → Option (List ℕ)
     → Option (List ℕ) → Option (List ℕ) → ℕ → Type 0
 ExecutesSampling request before after start now told telling status =
-    (xs : List ℕ) × (answer : Result TapFacts SampleFault) × Consumes before after xs
-    × SamplesBy request.options after start now xs answer × Tells request.tells_facts answer told telling status
+    (xs : List ℕ) × (answer : Result TapFacts SampleFault) × (looked : Option (List ℕ)) × Consumes before after xs
+    × SamplesBy request.options after start now xs answer × LooksBy request.options told looked xs answer
+    × Tells request.tells_facts answer looked telling status

@@ -3,6 +3,7 @@ pub mod Recording
 pub mod Marks
 pub mod Facts
 pub mod Samples
+pub mod Looks
 pub mod Executes
 pub mod Laws
 pub mod Internal

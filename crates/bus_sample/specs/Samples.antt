@@ -9,7 +9,8 @@ use Rattle.bus_sample.specs.Recording.{recorded, cut_record, levels, arrivals, s
 use Rattle.bus_sample.specs.Marks.{marks_text, whole_text}
 use Rattle.bus_sample.specs.declared.options.SampleOptions.{SampleOptions}
 use Rattle.bus_sample.specs.declared.fault.SampleFault.{SampleFault}
-use Rattle.bus_sample.specs.declared.fault.SampleFault.TheVariants.{Octets, CutOff, TooMany, Read, ReadsLimit, Write}
+use Rattle.bus_sample.specs.declared.fault.SampleFault.TheVariants.{Octets, CutOff, TooMany, Read, ReadsLimit}
+use Rattle.bus_sample.specs.declared.fault.SampleFault.TheVariants.{Facts, Write}
 
 -- the first of these samples
 abbrev pub IsFrontOf : List ℕ → List ℕ → Type 0
@@ -41,6 +42,8 @@ SamplesBy o after start now xs (Err TooMany) =
     HasSize o × (most_places < length (recorded o.form xs))
     × (front : List ℕ) × IsFrontOf (recorded o.form xs) front × Appends start now (marks_text (arrivals o front))
 SamplesBy o after start now xs (Err Read) =
+    HasSize o × Appends start now (marks_text (arrivals o (recorded o.form xs)))
+SamplesBy o after start now xs (Err Facts) =
     HasSize o × Appends start now (marks_text (arrivals o (recorded o.form xs)))
 SamplesBy o after start now xs (Err ReadsLimit) =
     HasSize o × (o.reads ≤ length xs) × Appends start now (marks_text (arrivals o (recorded o.form xs)))

@@ -142,7 +142,13 @@ fn whole_command<'a>(alloc: Global) -> Result<Command<'a>, Error> {
             alloc,
             "facts",
             "Writes to standard error, at the end, what is counted in the samples",
-        ))?;
+        ))?
+        .arg(flag(
+            alloc,
+            "live",
+            "With --facts, writes it after each read of the input, too",
+        )
+        .requires_arg("facts")?)?;
     with_levels(alloc, with_wires(alloc, command)?)
 }
 
@@ -227,6 +233,7 @@ pub fn read_arguments(alloc: Global, words: &[&str]) -> Result<Request, Refusal>
             wires,
             hold: found.get_one("hold").unwrap_or(HOLD),
             jump: found.get_one("jump").unwrap_or(JUMP),
+            looks: found.get_flag("live"),
             reads: READS,
         },
         tells_facts: found.get_flag("facts"),

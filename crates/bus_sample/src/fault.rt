@@ -23,6 +23,9 @@ pub enum SampleFault {
     /// The reader was called as often as is allowed and did not reach the end.
     #[error("too many reads")]
     ReadsLimit,
+    /// The facts after a read could not be told in whole.
+    #[error("write failed")]
+    Facts,
     /// A write or the flush failed, or a write took nothing. The first so many octets of the text went out.
     #[error("write failed")]
     Write(u128),

@@ -39,6 +39,8 @@ pub struct SampleOptions {
     pub hold: u32,
     /// By how many samples two distances of bits may differ.
     pub jump: u64,
+    /// Whether facts are told after each read.
+    pub looks: bool,
     /// How often the reader may be called.
     pub reads: u64,
 }

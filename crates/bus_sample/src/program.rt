@@ -49,7 +49,7 @@ fn execute<R: Read, W: Write, E: Write>(request: &Request, r: &mut R, w: &mut W,
     ensures executes { ExecutesSampling request.now (R.remaining r.old) (R.remaining r.new) (W.contents w.old)
         (W.contents w.new) (E.contents e.old) (E.contents e.new) result }
 {
-    let answer = sample_recording(&request.options, r, w);
+    let answer = sample_recording(&request.options, r, w, e);
     tell(request.tells_facts, answer, e)
 }
 

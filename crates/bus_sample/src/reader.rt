@@ -1,18 +1,21 @@
 //! Reads a recording.
 
 ghost use Rattle.std.specs.Prelude.{◌≡◌, ◌+◌, ◌-◌, ◌<◌, ◌≤◌, ◌^◌, ◌⊎◌, ◌++◌, ◌∷◌, [], ℕ, List, Option, MatchResult};
-ghost use Rattle.std.specs.Prelude.{OnOk, IfOk};
+ghost use Rattle.std.specs.Prelude.{OnOk, IfOk, IfErr};
 ghost use Rattle.std.specs.Prelude.{length, replicate, take, slice_index, IsTrue, ◌↔◌, Ok, Err};
 ghost use Rattle.std.specs.Io.KnownBytes.{Consumes};
-ghost use Rattle.bus_tap.specs.Tapped.{channels};
-ghost use Rattle.bus_sample.specs.Recording.{recorded, run_of, size_of};
+ghost use Rattle.bus_tap.specs.Tapped.{IsTapAfter, channels};
+ghost use Rattle.bus_sample.specs.Facts.{facts_text};
+ghost use Rattle.bus_sample.specs.Looks.{HasTold, LooksBy, IsToldInPart};
+ghost use Rattle.bus_sample.specs.Recording.{levels, recorded, run_of, size_of};
 ghost use Rattle.bus_sample.specs.Samples.{HasSize, SamplesBy};
 ghost use Rattle.bus_sample.specs.Internal.Runs.{RunAfter, HasRead, StopsWith, RecordingStopsWith};
 ghost use Rattle.bus_sample.specs.Internal.Runs.{IsSameRecord, IsSoundRun};
 ghost use Rattle.bus_sample.specs.declared.options.Form.TheVariants.{Samples};
-ghost use Rattle.bus_sample.specs.declared.fault.SampleFault.TheVariants.{Octets, CutOff, Write};
+ghost use Rattle.bus_sample.specs.declared.fault.SampleFault.TheVariants.{Octets, CutOff, Facts, Write};
 ghost use Rattle.arrayvec.specs.ArrayVec.{array_vec_len};
 
+use crate::facts::put_facts;
 use crate::fault::SampleFault;
 use crate::marks::Marks;
 use crate::octets::alike;
@@ -259,6 +262,24 @@ impl SampleRun {
         }
     }
 
+    /// Tells the facts after a read, where they are asked for.
+    fn look<E: Write>(&self, e: &mut E) -> Result<(), SampleFault>
+        requires { IsSoundRun self.now }
+        ensures { (start : Option (List ℕ)) (xs ys : List ℕ) → 1 ≤ length ys →
+            IsTapAfter self.now.tap (levels self.now.options (recorded self.now.options.form (xs ++ ys))) →
+            HasTold self.now.options start (E.contents e.old) xs →
+            MatchResult result (λ _. HasTold self.now.options start (E.contents e.new) (xs ++ ys))
+            (λ fault. (fault ≡ Facts) × IsToldInPart self.now.options start (E.contents e.new) (xs ++ ys)) }
+    {
+        if !self.options.looks {
+            return Ok(());
+        }
+        match put_facts(&self.tap.facts(), e) {
+            Ok(()) => Ok(()),
+            Err(_) => Err(SampleFault::Facts),
+        }
+    }
+
     /// What is wrong where the input ends here.
     fn finish(&self) -> Result<(), SampleFault>
         ensures { MatchResult result (λ _. array_vec_len self.now.part ≡ 0)
@@ -273,16 +294,18 @@ impl SampleRun {
     }
 
     /// Reads to the end or the first fault.
-    pub(crate) fn read_to_end<R: Read, W: Write>(
+    pub(crate) fn read_to_end<R: Read, W: Write, E: Write>(
         &mut self,
         r: &mut R,
         w: &mut W,
+        e: &mut E,
     ) -> Result<(), SampleFault>
         requires sound { IsSoundRun self.old }
         requires fresh { (start : Option (List ℕ)) → HasRead start start self.old [] }
         requires none { self.old.octets ≡ 0 }
         ensures read { (xs : List ℕ) × Consumes (R.remaining r.old) (R.remaining r.new) xs
-            × RecordingStopsWith (R.remaining r.new) (W.contents w.old) (W.contents w.new) self.new xs result }
+            × RecordingStopsWith (R.remaining r.new) (W.contents w.old) (W.contents w.new) self.new xs result
+            × LooksBy self.old.options (E.contents e.old) (E.contents e.new) xs result }
         ensures options { self.new.options ≡ self.old.options }
         ensures sound { IsSoundRun self.new }
     {
@@ -294,6 +317,7 @@ impl SampleRun {
                 Err(_) => return Err(SampleFault::Read),
             };
             self.consume_read(&buffer[..count], w)?;
+            self.look(e)?;
         }
         Err(SampleFault::ReadsLimit)
     }
@@ -301,9 +325,10 @@ impl SampleRun {
     /// Ends the text, writes it and flushes. Returns what was counted.
     pub(crate) fn end<W: Write>(&mut self, w: &mut W) -> Result<TapFacts, SampleFault>
         requires { IsSoundRun self.old }
-        ensures { (after start : Option (List ℕ)) (xs : List ℕ) →
+        ensures samples { (after start : Option (List ℕ)) (xs : List ℕ) →
             RecordingStopsWith after start (W.contents w.old) self.old xs (Ok tt)
             → SamplesBy self.old.options after start (W.contents w.new) xs result }
+        ensures cut { IfErr result (λ fault. (sent : ℕ) × (fault ≡ Write sent)) }
     {
         match self.marks.end(w) {
             Ok(()) => Ok(self.tap.facts()),
@@ -314,9 +339,10 @@ impl SampleRun {
     /// Writes the text so far and flushes, unless a write failed. Returns how the whole ended.
     pub(crate) fn close_behind<W: Write>(&mut self, fault: SampleFault, w: &mut W) -> SampleFault
         requires { IsSoundRun self.old }
-        ensures { (after start : Option (List ℕ)) (xs : List ℕ) →
+        ensures samples { (after start : Option (List ℕ)) (xs : List ℕ) →
             RecordingStopsWith after start (W.contents w.old) self.old xs (Err fault)
             → SamplesBy self.old.options after start (W.contents w.new) xs (Err result) }
+        ensures fault { (result ≡ fault) ⊎ ((sent : ℕ) × (result ≡ Write sent)) }
     {
         if is_cut(&fault) {
             return fault;

@@ -2,6 +2,7 @@
 
 ghost use Rattle.std.specs.Prelude.{ℕ, List};
 ghost use Rattle.std.specs.Io.KnownBytes.{Consumes};
+ghost use Rattle.bus_sample.specs.Looks.{LooksBy};
 ghost use Rattle.bus_sample.specs.Samples.{SamplesBy};
 
 use crate::fault::SampleFault;
@@ -11,7 +12,7 @@ use bus_tap::TapFacts;
 use std::io::{Read, Write};
 
 /// Reads the samples of a recording to their end, and writes the bits that arrive in them as text, before each next
-/// read. Returns what is counted in the samples.
+/// read. Returns what is counted in the samples; with `looks` it also tells that to `e` after each read.
 ///
 /// The text has `0` or `1` for a bit of the first line, `o` or `i` for one of the second, in the order of arrival, of
 /// two in one sample the first line's first. A line ends after each 64th, and at the end.
@@ -24,17 +25,20 @@ use std::io::{Read, Write};
 /// - `CutOff`: the input ended within a record.
 /// - `TooMany`: a recording has at most 2^60 samples.
 /// - `Read`: the reader returned an error. `ReadsLimit`: it did not reach the end.
+/// - `Facts`: a write to `e` failed or took nothing.
 /// - `Write`: a write or the flush failed, or a write took nothing. It comes in place of any other.
-pub fn sample_recording<R: Read, W: Write>(
+pub fn sample_recording<R: Read, W: Write, E: Write>(
     options: &SampleOptions,
     r: &mut R,
     w: &mut W,
+    e: &mut E,
 ) -> Result<TapFacts, SampleFault>
     ensures { (xs : List ℕ) × Consumes (R.remaining r.old) (R.remaining r.new) xs
-        × SamplesBy options.now (R.remaining r.new) (W.contents w.old) (W.contents w.new) xs result }
+        × SamplesBy options.now (R.remaining r.new) (W.contents w.old) (W.contents w.new) xs result
+        × LooksBy options.now (E.contents e.old) (E.contents e.new) xs result }
 {
     let mut run = SampleRun::new(options)?;
-    match run.read_to_end(r, w) {
+    match run.read_to_end(r, w, e) {
         Ok(()) => run.end(w),
         Err(fault) => Err(run.close_behind(fault, w)),
     }

@@ -37,6 +37,15 @@ const FACTS: &str =
 txd-changes 2 17 33\nrxc-changes 0 0 0\nrxd-changes 0 0 0\nfirst-bits 4 9 57\nsecond-bits 0 0 0\nfirst-gap 16 9\n\
 second-gap 0 0\ntxd-high 0 0 0\nrxd-high 0 0 0\nfirst-jumps 0 0 0\nsecond-jumps 0 0 0\n";
 
+/// The facts of the first half of them.
+const HALF: &str =
+    "samples 32\ntxc-level 1\ntxd-level 0\nrxc-level 0\nrxd-level 0\ntxc-changes 3 9 25\n\
+txd-changes 1 17 17\nrxc-changes 0 0 0\nrxd-changes 0 0 0\nfirst-bits 2 9 25\nsecond-bits 0 0 0\nfirst-gap 16 9\n\
+second-gap 0 0\ntxd-high 0 0 0\nrxd-high 0 0 0\nfirst-jumps 0 0 0\nsecond-jumps 0 0 0\n";
+
+/// What asks for facts after each read.
+const LIVE: [&str; 4] = ["0", "1", "--facts", "--live"];
+
 const FINE: [Run<'static>; 11] = [
     Run {
         words: &["0", "1", "2", "3", "--hold", "0"],
@@ -195,6 +204,54 @@ fn failing_reads_of_samples(rt: HostRuntime) {
             faults: "port1-sample: read failed\n",
         };
         see(&rt, rt.alloc(), &row, 4, fails_at);
+    }
+}
+
+/// Facts are told after each read, and at the end.
+#[test]
+fn looks_at_samples(rt: HostRuntime) {
+    let mut reader = Pieces {
+        rest: BITS,
+        piece: 32,
+        calls: 0,
+        fails_at: 0,
+    };
+    let mut out = Vec::new(rt.alloc());
+    let mut err = Narrow::new(rt.alloc(), 4096, false);
+    let status = run(rt.alloc(), &LIVE, &mut reader, &mut out, &mut err);
+    let case = format_args!("live");
+    let mut wanted = Vec::new(rt.alloc());
+    for facts in [HALF, FACTS, FACTS] {
+        wanted
+            .extend_from_slice(facts.as_bytes())
+            .expect(&rt, "memory");
+    }
+    same(&rt, err.out.as_slice(), wanted.as_slice(), &case);
+    same(&rt, status, 0, &case);
+}
+
+/// Where facts find no room, the bits so far are written, and the status says so.
+#[test]
+fn looks_without_room(rt: HostRuntime) {
+    for (room, text) in [(0, "10"), (HALF.len() - 1, "10"), (HALF.len(), "1011")] {
+        let mut reader = Pieces {
+            rest: BITS,
+            piece: 32,
+            calls: 0,
+            fails_at: 0,
+        };
+        let mut out = Vec::new(rt.alloc());
+        let mut err = Narrow::new(rt.alloc(), room, false);
+        let status = run(rt.alloc(), &LIVE, &mut reader, &mut out, &mut err);
+        let case = format_args!("room for {room}");
+        same(&rt, out.as_slice(), text.as_bytes(), &case);
+        same(
+            &rt,
+            Some(err.out.as_slice()),
+            HALF.as_bytes().get(..room),
+            &case,
+        );
+        same(&rt, status, 2, &case);
     }
 }
 

@@ -5,7 +5,6 @@ import { Events } from "../recording/events.js";
 import { formOfRecording } from "../recording/forms.js";
 import { Moments } from "../recording/moments.js";
 import { recordingOf } from "../recording/recording.js";
-import { Sampler } from "../recording/sampler.js";
 import { samplingOf } from "../recording/sampling.js";
 import { sessionOf } from "../recording/session.js";
 import { PIECE } from "../recording/source.js";
@@ -75,27 +74,16 @@ function optionsOf({ falling, hold, invert = "" }, names, sampling) {
 }
 
 /**
- * The pieces of a recording, of which is told what becomes doubtful while they come.
+ * What tells doubts as they occur.
  * @param {import("../recording/recording.js").Recording} recording
- * @param {{ falling?: boolean, hold?: number, invert?: string }} values
+ * @param {boolean} rising whether bits are taken at rising edges
  */
-async function* observed(recording, { falling = false, hold, invert = "" }) {
-  const { names, ticks, pieces, begin } = recording;
-  const inverted = invert.split(",");
-  const exchanged = names.reduce((sum, name, at) => sum | (inverted.includes(name) ? 1 << at : 0), 0);
-  const sampling = samplingOf(recording);
-  const turned = exchanged ^ (falling ? CLOCKS : 0);
-  const sampler = new Sampler(recording, { ...sampling, hold: hold ?? sampling.hold }, turned, () => undefined);
-  const events = new Events(names, !falling);
-  for await (const piece of pieces) {
-    sampler.take(piece);
-    for (const text of events.look(sampler.facts, new Moments(ticks, begin()))) warn(`event: ${text}`);
-    yield piece;
-  }
+function lookAt({ names, ticks, begin }, rising) {
+  const events = new Events(names, rising);
+  return (/** @type {import("../recording/doubts.js").Facts} */ facts) => {
+    for (const text of events.look(facts, new Moments(ticks, begin()))) warn(`event: ${text}`);
+  };
 }
-
-/** The wires of clocks, as the sampler has them. */
-const CLOCKS = 0b0101;
 
 const NUMBERS = { octets: positive, samplerate: hertz, hold: whole };
 
@@ -107,8 +95,8 @@ run(async () => {
   const { values, words: channels } = wordsOf(OPTIONS, ["CHANNEL", "second CHANNEL"], 4);
   const recording = await opened(values, channels);
   const { names, ticks } = recording;
-  const pieces = values.events ? observed(recording, values) : recording.pieces;
-  const arrivals = sampled({ ...recording, pieces }, optionsOf(values, names, samplingOf(recording)));
+  const look = values.events ? lookAt(recording, !values.falling) : undefined;
+  const arrivals = sampled(recording, optionsOf(values, names, samplingOf(recording)), look);
   let next = await arrivals.next();
   for (; !next.done; next = await arrivals.next()) write(next.value);
   const { facts, fault } = next.value;

@@ -15,8 +15,9 @@ const WIRES = /** @type {const} */ (["txc", "txd", "rxc", "rxd"]);
 /** What becomes doubtful while a recording comes: each event once, with its place. */
 export class Events {
   isJudged = false; // as a whole
-  stopped = -1; // where the first clock stood still when that was told
-  jumps = 0; // that were told
+  stopped = -1; // where the first clock stands still, if it does
+  longest = 0; // distance of its edges
+  jumps = 0; // of it
   /** @type {Map<string, number>} */
   quiet = new Map(); // wires that were told, and where they last changed
 
@@ -28,16 +29,14 @@ export class Events {
 
   /**
    * The events since the last look.
-   * @param {Facts} facts whose longest distance of the first clock is taken off, so that the next one is known
+   * @param {Facts} facts
    * @param {Moments} when
    * @returns {string[]}
    */
   look(facts, when) {
     const bit = samplesOfBit(facts, when.ticks);
     if (bit === 0) return [];
-    const events = [this.ofWhole(facts, bit, when), this.ofClock(facts, bit, when), this.ofWires(facts, bit, when)];
-    Object.assign(facts.lines[0].gap, { length: 0, place: 0 });
-    return events.flat();
+    return [this.ofWhole(facts, bit, when), this.ofClock(facts, bit, when), this.ofWires(facts, bit, when)].flat();
   }
 
   /** @param {Facts} facts @param {number} bit @param {Moments} when */
@@ -50,18 +49,18 @@ export class Events {
 
   /** @param {Facts} facts @param {number} bit @param {Moments} when */
   ofClock({ lines: [{ bits, gap }], jumps, samples }, bit, when) {
-    const [[name], told] = [this.names, this.jumps];
-    this.jumps = jumps.count;
-    if (bits.count > 0 && samples - bits.last > LONG * bit && bits.last !== this.stopped) {
-      this.stopped = bits.last;
-      return [`${name} stops (at ${when.of(bits.last)})`];
-    }
-    if (gap.length > LONG * bit) {
+    const [[name], { stopped, longest }, count] = [this.names, this, jumps.count - this.jumps];
+    const isStill = bits.count > 0 && samples - bits.last > LONG * bit;
+    Object.assign(this, { stopped: isStill ? bits.last : -1, longest: gap.length, jumps: jumps.count });
+    if (this.stopped !== stopped) {
       const [length, past] = [when.length(gap.length), when.of(gap.place + gap.length)];
-      if (gap.place === this.stopped) return [`${name} goes on (after ${length}, at ${past})`];
-      return [`${name} stops (for ${length} from ${when.of(gap.place)} on)`];
+      const told = gap.place === stopped ? `after ${length}, at ${past}` : `by ${when.of(jumps.last)}`;
+      const goesOn = stopped >= 0 ? [`${name} goes on (${told})`] : [];
+      return isStill ? [...goesOn, `${name} stops (at ${when.of(bits.last)})`] : goesOn;
     }
-    const count = jumps.count - told;
+    if (gap.length > Math.max(longest, LONG * bit)) {
+      return [`${name} stops (for ${when.length(gap.length)} from ${when.of(gap.place)} on)`];
+    }
     const times = `${count === 1 ? "" : `${count} times, last `}at ${when.of(jumps.last)}`;
     return count > 0 ? [`the edges of ${name} jump: samples may have been lost (${times})`] : [];
   }

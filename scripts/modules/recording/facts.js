@@ -3,14 +3,17 @@ import { Fault } from "../fault.js";
 /** @typedef {import("./doubts.js").Facts} Facts */
 /** @typedef {import("./doubts.js").Seen} Seen */
 
+/** The last of them. */
+export const LAST_FACT = "second-jumps";
+
 /**
  * The facts that `port1-sample --facts` writes: a line for each, its name and its numbers.
- * @param {string} text
+ * @param {string[]} lines
  * @returns {Facts}
  */
-export function factsIn(text) {
-  const lines = text.trim().split("\n").map((line) => line.split(" "));
-  const found = new Map(lines.map(([name, ...numbers]) => [name, numbers.map(Number)]));
+export function factsIn(lines) {
+  const words = lines.map((line) => line.split(" "));
+  const found = new Map(words.map(([name, ...numbers]) => [name, numbers.map(Number)]));
   /** @param {string} name */
   const numbers = (name) => {
     const known = found.get(name);

@@ -29,8 +29,7 @@ const GOOD = {
   "second-jumps": "7 500 600",
 };
 
-const factsWith = (facts) =>
-  factsIn(Object.entries({ ...GOOD, ...facts }).map((fact) => `${fact.join(" ")}\n`).join(""));
+const factsWith = (facts) => factsIn(Object.entries({ ...GOOD, ...facts }).map((fact) => fact.join(" ")));
 
 function warned(facts, names = NAMES, how = {}) {
   const { rising = true, ticks = null, begin = 0 } = how;
@@ -119,4 +118,4 @@ test("a text that is no warning", () => {
   assert.deepEqual(warningOf("it rained"), { sort: "other", name: "", count: 1, second: null, text: "it rained" });
 });
 
-test("a fact that is not there", () => assert.throws(() => factsIn("samples 5\n"), /port1-sample wrote no fact txc-level/));
+test("a fact that is not there", () => assert.throws(() => factsIn(["samples 5"]), /port1-sample wrote no fact txc-level/));

@@ -2,9 +2,9 @@
 
 import assert from "node:assert/strict";
 import { test } from "node:test";
+import { sampled } from "../commands/sampler.js";
 import { Events } from "../recording/events.js";
 import { Moments } from "../recording/moments.js";
-import { Sampler } from "../recording/sampler.js";
 import { RATE } from "../port1.js";
 
 const NAMES = ["TXC", "TXD", "RXC", "RXD"];
@@ -18,6 +18,7 @@ class Wires {
 
   run(levels, count) {
     this.records.push(levels + 256 * count, 0);
+    assert.ok(count < 2 ** 24);
   }
 
   /** Bits for some seconds; the data of a wire that is at rest stands. */
@@ -36,26 +37,46 @@ class Wires {
   }
 }
 
-/** What is told of parts, a quarter of a second or less at a time, each with the second after which it is. */
-function eventsOf(parts, rising = true) {
-  const [wires, events] = [new Wires(), new Events(NAMES, rising)];
-  /** @type {string[]} */
-  const told = [];
-  const recording = /** @type {any} */ ({ hasRuns: true, width: 8, wires: [0, 1, 2, 3] });
-  const sampler = new Sampler(recording, { hold: 0, jump: 3 }, rising ? 0 : 5, () => {});
-  const look = () => {
-    sampler.take(wires.take());
-    const texts = events.look(sampler.facts, new Moments(TICKS));
-    told.push(...texts.map((text) => `${(sampler.samples / TICKS).toFixed(2)}: ${text}`));
-  };
+const samplesIn = (piece) => {
+  const numbers = new Uint32Array(piece.buffer, piece.byteOffset, piece.length / 4);
+  return numbers.reduce((sum, low, at) => sum + (at % 2 === 0 ? low >>> 8 : 0), 0);
+};
+
+/** The pieces of some parts, a quarter of a second or less each. */
+function* piecesOf(parts) {
+  const wires = new Wires();
   for (const { seconds, stop = 0, resting = 0 } of parts) {
     if (stop > 0) wires.run(wires.data, Math.round(stop * TICKS));
-    if (stop > 0.25) look();
+    if (stop > 0.25) yield wires.take();
     for (let left = seconds; left > 0; left -= 0.25) {
       wires.go(Math.min(left, 0.25), resting);
-      look();
+      yield wires.take();
     }
   }
+}
+
+/** What is told of parts, each with the second after which it is: a piece goes in when the one before was looked at. */
+async function eventsOf(parts, rising = true) {
+  const events = new Events(NAMES, rising);
+  /** @type {string[]} */
+  const told = [];
+  let [given, reached, goOn] = [0, 0, (/** @type {any} */ _) => {}];
+  async function* pieces() {
+    for (const piece of piecesOf(parts)) {
+      given += samplesIn(piece);
+      yield piece;
+      while (reached < given) await new Promise((done) => (goOn = done));
+    }
+  }
+  const look = (facts) => {
+    reached = facts.samples;
+    const texts = events.look(facts, new Moments(TICKS));
+    told.push(...texts.map((text) => `${(given / TICKS).toFixed(2)}: ${text}`));
+    goOn(null);
+  };
+  const recording = /** @type {any} */ ({ hasRuns: true, width: 8, wires: [0, 1, 2, 3], pieces: pieces() });
+  const words = ["--hold=0", "--jump=3", ...(rising ? [] : ["--falling"])];
+  for await (const bits of sampled(recording, words, look)) assert.notEqual(bits.length, 0);
   return told;
 }
 
@@ -69,6 +90,12 @@ const CASES = [
   ["a stop between two looks", [{ seconds: 1 }, { stop: 0.0125, seconds: 1 }], [
     "1.26: TXC stops (for 0.012507 s from 0.999997 s on)",
   ]],
+  ["a shorter stop after a longer one", [{ seconds: 1 }, { stop: 0.5, seconds: 1 }, { stop: 0.4, seconds: 1 }], [
+    "1.50: TXC stops (at 0.999997 s)",
+    "1.75: TXC goes on (after 0.500007 s, at 1.500003 s)",
+    "2.90: TXC stops (at 2.499997 s)",
+    "3.15: TXC goes on (by 2.900010 s)",
+  ]],
   ["samples lost", [{ seconds: 1 }, { stop: 0.00001, seconds: 1 }], [
     "1.25: the edges of TXC jump: samples may have been lost (2 times, last at 1.000020 s)",
   ]],
@@ -77,9 +104,11 @@ const CASES = [
   ]],
 ];
 
-for (const [name, parts, wanted] of CASES) test(name, () => assert.deepEqual(eventsOf(parts), wanted));
+for (const [name, parts, wanted] of CASES) {
+  test(name, async () => assert.deepEqual(await eventsOf(parts), wanted));
+}
 
-test("the wrong edge is told once, when ten seconds have come", () => {
+test("the wrong edge is told once, when ten seconds have come", async () => {
   const edge = (wire) => `10.00: the data changes at the edge of ${wire} that is taken: try it without --falling`;
-  assert.deepEqual(eventsOf([{ seconds: 21 }], false), [edge("TXC"), edge("RXC")]);
+  assert.deepEqual(await eventsOf([{ seconds: 21 }], false), [edge("TXC"), edge("RXC")]);
 });

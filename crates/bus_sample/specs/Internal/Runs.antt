@@ -14,7 +14,8 @@ use Rattle.bus_sample.specs.Samples.{IsFrontOf, HasSize}
 use Rattle.bus_sample.specs.declared.marks.Marks.{Marks}
 use Rattle.bus_sample.specs.declared.reader.SampleRun.{SampleRun}
 use Rattle.bus_sample.specs.declared.fault.SampleFault.{SampleFault}
-use Rattle.bus_sample.specs.declared.fault.SampleFault.TheVariants.{CutOff, TooMany, Read, ReadsLimit, Write}
+use Rattle.bus_sample.specs.declared.fault.SampleFault.TheVariants.{CutOff, TooMany, Read, ReadsLimit}
+use Rattle.bus_sample.specs.declared.fault.SampleFault.TheVariants.{Facts, Write}
 
 -- the text of these arrivals was put on the page, or written
 pub record HasMarked (start now : Option (List ℕ)) (marks : Marks) (xs : List Arrival) : Type 0 where
@@ -67,5 +68,6 @@ RecordingStopsWith after start now run xs (Err (CutOff octet)) =
     IsAtEnd after × (0 < length (cut_record run.options.form xs))
     × (octet ≡ length xs - length (cut_record run.options.form xs)) × HasRead start now run xs
 RecordingStopsWith after start now run xs (Err Read) = HasRead start now run xs
+RecordingStopsWith after start now run xs (Err Facts) = HasRead start now run xs
 RecordingStopsWith after start now run xs (Err ReadsLimit) = (run.options.reads ≤ length xs) × HasRead start now run xs
 RecordingStopsWith after start now run xs (Err fault) = StopsWith start now run (recorded run.options.form xs) fault

@@ -3,8 +3,8 @@ use Rattle.bus_sample.specs.Recording.{recorded, levels}
 use Rattle.bus_sample.proofs.CloseLemmas.{whole-front}
 use Rattle.bus_sample.proofs.reader.SampleRun.end.Goals as goal
 
-pub returns-in-Ok : goal.returns-in-Ok
-returns-in-Ok g c = λ after start xs ends.
+pub returns-in-Ok-clause-samples : goal.returns-in-Ok-clause-samples
+returns-in-Ok-clause-samples g c = λ after start xs ends.
     let self = c.args.self.now in
     let facts = c.facts.ensures.facts (levels self.options (recorded self.options.form xs)) ends.2.taken.tap in (
       c.requires.size,
@@ -14,8 +14,8 @@ returns-in-Ok g c = λ after start xs ends.
       rw (c.requires.given.0, c.requires.given.1) at facts,
     )
 
-pub returns-in-Err : goal.returns-in-Err
-returns-in-Err g c = λ after start xs ends. (
+pub returns-in-Err-clause-samples : goal.returns-in-Err-clause-samples
+returns-in-Err-clause-samples g c = λ after start xs ends. (
   recorded c.args.self.now.options.form xs,
   _,
   whole-front _,

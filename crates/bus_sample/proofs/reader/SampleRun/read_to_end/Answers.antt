@@ -1,6 +1,11 @@
-use Rattle.std.proofs.Common.{◌++◌, take, [], refl, ap, ◌∙◌, arith, rules}
+use Rattle.std.proofs.Common.{◌++◌, take, [], refl, sym, ap, ◌∙◌, subst, arith, rules}
 use Rattle.std.proofs.lemmas.Result.{err_from_is_err_and}
 use Rattle.bus_text.proofs.KnownBytesLemmas.{consumes_nothing, consumes_both, consumes_end, consumes_kept, longer}
+use Rattle.bus_text.proofs.KnownBytesLemmas.{appends_nothing}
+use Rattle.bus_sample.specs.Recording.{recorded}
+use Rattle.bus_sample.specs.Looks.{before, HasTold, IsToldInPart}
+use Rattle.bus_sample.proofs.CloseLemmas.{whole-front}
+use Rattle.bus_sample.proofs.LookLemmas.{looks-at-end, looks-before}
 use Rattle.bus_sample.proofs.ReadLemmas.{halts-finishes, ends-finishes}
 use Rattle.bus_sample.proofs.reader.SampleRun.read_to_end.Goals as goal
 
@@ -9,7 +14,13 @@ loop-turn-init g c = record {
   few = omega (arith, c.requires.none);
   options = refl;
   sound = c.requires.sound;
-  read = ([], consumes_nothing _, c.requires.fresh (g.W.Write.contents c.args.w.now), omega arith);
+  read = (
+    [],
+    consumes_nothing _,
+    c.requires.fresh (g.W.Write.contents c.args.w.now),
+    omega arith,
+    ([], before, appends_nothing (g.E.Write.contents c.args.e.now)),
+  );
 }
 
 pub returns-in-Ok-eq0-clause-read : goal.returns-in-Ok-eq0-clause-read
@@ -21,12 +32,13 @@ returns-in-Ok-eq0-clause-read g c =
       ends-finishes (g.R.Read.remaining c.read.new.self) (g.W.Write.contents c.args.w.now)
           (g.W.Write.contents c.loop-turn.w) c.loop-turn.self before.0 c.finish.result (search rules) before.2
           c.finish.ensures,
+      looks-at-end _ _ _ before.0 c.loop-turn.self c.finish.result c.finish.ensures before.4,
     )
 
 pub returns-in-Err-clause-read : goal.returns-in-Err-clause-read
 returns-in-Err-clause-read g c =
     let before = c.loop-turn.invariant.read in
-    (before.0, consumes_kept _ _ _ _ before.1 c.in-Err.ensures.bytes, before.2)
+    (before.0, consumes_kept _ _ _ _ before.1 c.in-Err.ensures.bytes, before.2, (before.0, whole-front _, before.4))
 
 pub returns-in_err-consume_read-clause-read : goal.returns-in_err-consume_read-clause-read
 returns-in_err-consume_read-clause-read g c =
@@ -41,18 +53,59 @@ returns-in_err-consume_read-clause-read g c =
           c.consume_read.new.self c.loop-turn.self.options.form xs c.in_err-consume_read.field-0.0
           (ap (λ o. o.form) c.consume_read.ensures.options)
           (c.in_err-consume_read.ensures.read start before.0 before.2),
+      looks-before c.args.self.now.options (g.E.Write.contents c.args.e.now) (g.E.Write.contents c.loop-turn.e) start
+          (g.W.Write.contents c.consume_read.new.w) c.consume_read.new.self
+          (recorded c.loop-turn.self.options.form xs) before.0 (take c.in-Ok.count c.read.new.buf)
+          c.in_err-consume_read.field-0.0 (c.in_err-consume_read.ensures.read start before.0 before.2) before.4,
+    )
+
+pub returns-in_err-look-clause-read : goal.returns-in_err-look-clause-read
+returns-in_err-look-clause-read g c =
+    let from = c.from_residual-in_err-look in
+    let raised = err_from_is_err_and from.result from.ensures.1 in
+    let before = c.loop-turn.invariant.read in
+    let xs = before.0 ++ take c.in-Ok.count c.read.new.buf in
+    let read = c.in_ok-consume_read.ensures.read (g.W.Write.contents c.args.w.now) before.0 before.2 in
+    let start = g.E.Write.contents c.args.e.now in
+    let same = c.consume_read.ensures.options ∙ c.loop-turn.invariant.options in
+    let cut = c.in_err-look.ensures start before.0 (take c.in-Ok.count c.read.new.buf) (search rules) read.taken.tap
+    (subst (λ o. HasTold o start (g.E.Write.contents c.loop-turn.e) before.0) (sym same) before.4) in
+    rw (raised.1, raised.2, cut.0) (
+      xs,
+      consumes_both _ _ _ before.0 _ before.1 c.in-Ok.ensures.bytes.0,
+      read,
+      subst (λ o. IsToldInPart o start (g.E.Write.contents c.look.new.e) xs) same cut.1,
     )
 
 pub loop-turn-preserved : goal.loop-turn-preserved
 loop-turn-preserved g c =
-    let before = c.loop-turn.invariant.read in record {
+    let before = c.loop-turn.invariant.read in
+    let read = c.in_ok-consume_read.ensures.read (g.W.Write.contents c.args.w.now) before.0 before.2 in
+    let start = g.E.Write.contents c.args.e.now in
+    let same = c.consume_read.ensures.options ∙ c.loop-turn.invariant.options in
+    let told = c.in_ok-look.ensures start before.0 (take c.in-Ok.count c.read.new.buf) (search rules) read.taken.tap
+    (subst (λ o. HasTold o start (g.E.Write.contents c.loop-turn.e) before.0) (sym same) before.4) in record {
       few = search rules;
       options = c.consume_read.ensures.options ∙ c.loop-turn.invariant.options;
       sound = c.consume_read.ensures.sound;
       read = (
         _,
         consumes_both _ _ _ before.0 _ before.1 c.in-Ok.ensures.bytes.0,
-        c.in_ok-consume_read.ensures.read (g.W.Write.contents c.args.w.now) before.0 before.2,
+        read,
         longer before.0 c.read.new.buf c.in-Ok.count c.loop-turn._turn before.3 (search rules) (search rules),
+        subst (λ o. HasTold o start (g.E.Write.contents c.look.new.e) (before.0 ++ take c.in-Ok.count c.read.new.buf))
+            same told,
       );
     }
+
+pub returns-clause-read : goal.returns-clause-read
+returns-clause-read g c =
+    let before = c.loop-turn.invariant.read in (
+      before.0,
+      before.1,
+      (
+        omega (arith, before.3, c.loop-turn-test.false, ap (λ o. o.reads) c.loop-turn.invariant.options),
+        before.2,
+      ),
+      (before.0, whole-front _, before.4),
+    )

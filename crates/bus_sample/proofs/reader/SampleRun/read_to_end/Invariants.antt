@@ -1,5 +1,6 @@
 use Rattle.std.proofs.Common.{◌≡◌, ◌*◌, ◌≤◌, List, ℕ, length}
 use Rattle.std.specs.Io.KnownBytes.{Consumes}
+use Rattle.bus_sample.specs.Looks.{HasTold}
 use Rattle.bus_sample.specs.Internal.Runs.{HasRead, IsSoundRun}
 use Rattle.bus_sample.proofs.reader.SampleRun.read_to_end.Given as goal
 
@@ -11,5 +12,6 @@ invariant-loop-turn g l = record {
   sound : IsSoundRun l.self;
   read : (xs : List ℕ) × Consumes (g.R.Read.remaining l.initial.r) (g.R.Read.remaining l.r) xs
       × HasRead (g.W.Write.contents l.initial.w) (g.W.Write.contents l.w) l.self xs
-      × (l._turn ≤ length xs);
+      × (l._turn ≤ length xs)
+      × HasTold l.initial.self.options (g.E.Write.contents l.initial.e) (g.E.Write.contents l.e) xs;
 }
