@@ -19,8 +19,7 @@ use Rattle.bus_calls.specs.Internal.Closes.{IsNoWrite, PageStopsWith}
 use Rattle.bus_calls.specs.Begins.{Begins, Refuses}
 use Rattle.bus_calls.specs.Internal.Asked.{IsMade, IsRuled}
 use Rattle.bus_calls.specs.Internal.Kinds.{KindView, KindLaws}
-use Rattle.bus_calls.specs.Internal.Watching.{IsSame, IsCutOff, IsCutIn, reports_by, lines, last_lines, printed}
-use Rattle.bus_calls.specs.Internal.Watching.{ended}
+use Rattle.bus_calls.specs.Internal.Watching.{IsSame, IsCutOff, IsCutIn, reports_by, lines, last_lines, printed, ended}
 use Rattle.bus_calls.specs.Internal.Sessions.{capture_so_far, whole_of}
 use Rattle.bus_calls.specs.Internal.Reading.{IsClean, IsWholeInput, IsFaulty, ReadStopsWith}
 use Rattle.bus_calls.specs.Lists.{so_far, in_all, listing_of, ending_of, whole_listing, ListsSoFar, ListsToFault}

@@ -13,9 +13,8 @@ use Rattle.bus_text.specs.Listing.{ending_text}
 use Rattle.bus_text.specs.Summary.{summary_of}
 use Rattle.bus_text.specs.Pages.{Pages}
 use Rattle.bus_calls.specs.Internal.Kinds.{KindView, KindLaws}
-use Rattle.bus_calls.specs.Internal.Watching.{IsSound, WatchAfter, IsSame, WatchStopsWith}
-use Rattle.bus_calls.specs.Internal.Watching.{FeedStopsWith, printed, ended, lines}
-use Rattle.bus_calls.specs.Internal.Watching.{last_lines, reports_by, within}
+use Rattle.bus_calls.specs.Internal.Watching.{IsSound, WatchAfter, IsSame, WatchStopsWith, FeedStopsWith, printed}
+use Rattle.bus_calls.specs.Internal.Watching.{ended, lines, last_lines, reports_by, within}
 use Rattle.bus_text.specs.declared.printer.Printer.{Printer}
 use Rattle.bus_calls.specs.declared.run.CaptureRun.{CaptureRun}
 use Rattle.bus_text.specs.declared.fault.ToolFault.{ToolFault}

@@ -180,7 +180,7 @@ impl<C: Check> CaptureKind for Analyser<C> {
         if octets.len() < 1024 {
             return analyse_block::<C, W, 128>(octets, run, w);
         }
-        analyse_block::<C, W, 2048>(octets, run, w)
+        analyse_block::<C, W, 8192>(octets, run, w)
     }
 
     #[inline(always)]

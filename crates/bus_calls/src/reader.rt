@@ -23,7 +23,7 @@ use std::alloc::Global;
 use std::io::{Read, Write};
 
 /// How many octets are asked for at once.
-const ROOM: usize = 16384;
+const ROOM: usize = 65536;
 
 /// What a capture is, as far as it was read.
 #[derive(Drop)]

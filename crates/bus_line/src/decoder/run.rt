@@ -1,4 +1,4 @@
-//! Bits up to the next stop, those of a piece 56 at a time.
+//! Bits up to the next stop, at most 56 of a piece.
 
 ghost use Rattle.std.specs.Prelude.{◌+◌, ◌-◌, ◌≤◌};
 ghost use Rattle.bus_bits.specs.Bits.{bits_from};
@@ -13,8 +13,8 @@ impl DecoderWords {
     ghost use Rattle.bus_line.specs.Words.{HasBits, IsDecoder, state};
     ghost use Rattle.bus_line.specs.Internal.AdvancesTo.{AdvancesToStop};
 
-    /// Takes bits up to the first that may decide a report: those of the piece that the last flag opens by strides of
-    /// 56, up to the first after six ones, and others as time fill or up to 48.
+    /// Takes bits up to the first that may decide a report, 56 of the piece that the last flag opens or up to the first
+    /// after six ones, and others as time fill or up to 48.
     #[inline(always)]
     pub(crate) fn run<C: Check, F: FrameBuffer>(
         &mut self,
@@ -37,22 +37,9 @@ impl DecoderWords {
         if !self.begins_piece(octets, from) {
             return self.run_fill(check, frame, octets, from, end);
         }
-        let mut at = from;
-        while end - at >= 64 {
-            let bits = seven_octets_at(octets, at);
-            let reached = up_to_six(self.last_bits >> 8 | bits << 8);
-            self.consume(check, frame, bits, reached.count as u64);
-            at += reached.count;
-            if reached.is_stop {
-                return Stopped {
-                    count: at - from,
-                    is_stop: true,
-                };
-            }
-        }
-        Stopped {
-            count: at - from,
-            is_stop: false,
-        }
+        let bits = seven_octets_at(octets, from);
+        let run = up_to_six(self.last_bits >> 8 | bits << 8);
+        self.consume(check, frame, bits, run.count as u64);
+        run
     }
 }

@@ -1,5 +1,4 @@
-use Rattle.std.proofs.Common.{◌≡◌, ◌+◌, ◌-◌, ◌≤◌, ◌++◌, ℕ, Bool, List, ap, sym, refl, ◌∙◌, subst, arith}
-use Rattle.std.proofs.Common.{MatchResult}
+use Rattle.std.proofs.Common.{◌≡◌, ◌+◌, ◌-◌, ◌≤◌, ◌++◌, ℕ, Bool, List, ap, sym, refl, ◌∙◌, subst, arith, MatchResult}
 use Rattle.bus_bits.specs.Bits.{bits_from}
 use Rattle.bus_calls.specs.Internal.OneLine.{one_line_kind}
 use Rattle.bus_calls.specs.Internal.Watching.{FeedAfter, FeedStopsWith}

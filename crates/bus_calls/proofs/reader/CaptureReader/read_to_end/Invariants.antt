@@ -11,7 +11,7 @@ invariant-loop-turn g l = record {
   sound : IsSound g.T.CaptureKind.kind l.self.run;
   same : IsSame g.T.CaptureKind.kind l.initial.self.run l.self.run;
   text : is_text l.self.source ≡ is_text l.initial.self.source;
-  few : octets_taken l.self.source ≤ 16384 * l._turn;
+  few : octets_taken l.self.source ≤ 65536 * l._turn;
   taken : (xs : List ℕ) × Consumes (g.R.Read.remaining l.initial.r) (g.R.Read.remaining l.r) xs
       × SourceAfter g.T.CaptureKind.kind (g.W.Write.contents l.initial.w) (g.W.Write.contents l.w)
       l.self.source l.self.run
