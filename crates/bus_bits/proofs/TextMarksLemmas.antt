@@ -2,7 +2,7 @@
 use Rattle.std.proofs.Common.{◌≡◌, ◌≢◌, slice_index_or, ℕ, zero, suc, ◌+◌, ◌-◌, ◌*◌, ◌/◌, ◌%◌, ◌^◌, ◌<◌, Bool}
 use Rattle.std.proofs.Common.{true, false, List, [], ◌∷◌, length, map, replicate, get_or, eqb, inl, inr, refl, sym, ap}
 use Rattle.std.proofs.Common.{◌∙◌, arith}
-use Rattle.std.specs.Prelude.{bit_and}
+use Rattle.std.specs.Prelude.{bit_and, take, drop}
 use Rattle.std.proofs.lemmas.Nat.{pow_pos}
 use Rattle.std.specs.Simd.Lanes.{Each1}
 use Rattle.std.proofs.lemmas.Grind.{and_high_numeral}
@@ -11,7 +11,6 @@ use Rattle.std.proofs.lemmas.Bool.{and_from, cases_eq, ne_eqb, true≢false}
 use Rattle.std.proofs.lemmas.List.{take_all, length-map}
 use Rattle.std.proofs.Math.Nat.{pow-suc}
 use Rattle.std.specs.List.{list_all}
-use Rattle.std.specs.Prelude.{take, drop}
 use lib.Lanes.{mask_l, zip2}
 use Rattle.bus_bits.specs.Octet.{bits_of}
 use Rattle.bus_bits.specs.Capture.{is_bit, is_space}

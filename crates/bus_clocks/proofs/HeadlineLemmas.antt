@@ -14,8 +14,7 @@ use Rattle.bus_watch.specs.Laws.{SeenAreReports, joined}
 use Rattle.bus_watch.specs.declared.pair.usage.PairUsage.{PairUsage}
 use Rattle.bus_watch.proofs.FedLemmas.{same-seen}
 use Rattle.bus_watch.proofs.HeadlineLemmas.{runs-alike}
-use Rattle.bus_tap.specs.Arrival.{Arrival, own}
-use Rattle.bus_tap.specs.Arrival.{arrived}
+use Rattle.bus_tap.specs.Arrival.{Arrival, own, arrived}
 use Rattle.bus_clocks.specs.Clocks.{ClockState, IsAfterArrivals, two_clocks, arrival_reports}
 use Rattle.bus_clocks.specs.Laws.{AnyCutOfArrivals, LinesApart}
 use Rattle.bus_clocks.specs.Ledger.{IsClockLedger}

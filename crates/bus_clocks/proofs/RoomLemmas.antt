@@ -13,8 +13,7 @@ use Rattle.bus_pairing.specs.Conversation.{HasRoom}
 use Rattle.bus_pairing.specs.declared.line.Line.{Line}
 use Rattle.bus_pairing.specs.declared.line.Line.TheVariants.{First, Second}
 use Rattle.bus_watch.proofs.AnalyserViewLemmas.{room-of}
-use Rattle.bus_tap.specs.Arrival.{Arrival, own}
-use Rattle.bus_tap.specs.Arrival.{at_places, decides, arrived}
+use Rattle.bus_tap.specs.Arrival.{Arrival, own, at_places, decides, arrived}
 use Rattle.bus_clocks.specs.Clocks.{ClockState, IsAfterArrivals, arrival_reports}
 use Rattle.bus_tap.specs.Laws.{ArrivalsGrow}
 use Rattle.bus_tap.proofs.ArrivedLemmas.{decides-first, decides-second}

@@ -17,8 +17,7 @@ use Rattle.bus_watch.specs.declared.fault.FeedFault.{FeedFault}
 use Rattle.bus_watch.specs.declared.fault.FeedFault.TheVariants.{PlaceLimit, Sink}
 use Rattle.bus_watch.specs.declared.fault.RunFault.TheVariants.{Feed}
 use Rattle.bus_watch.specs.declared.pair.usage.PairUsage.{PairUsage}
-use Rattle.bus_tap.specs.Arrival.{Arrival, own}
-use Rattle.bus_tap.specs.Arrival.{arrived, decides}
+use Rattle.bus_tap.specs.Arrival.{Arrival, own, arrived, decides}
 use Rattle.bus_clocks.specs.Clocks.{ClockState, IsAfterArrivals, ExceedsPlaces, two_clocks}
 use Rattle.bus_clocks.specs.Headline.{ClockHeadline, WholeClockRun, StoppedAtArrival, ClockFails, all_seen_of_arrivals}
 use Rattle.bus_tap.specs.Laws.{ArrivalsGrow}

@@ -29,13 +29,11 @@ use Rattle.bus_watch.specs.Internal.Decodes.{DecodesMany, KeepsUp, Stands, line_
 use Rattle.bus_watch.specs.Watch.{AdvancesWatchShown}
 use Rattle.bus_watch.proofs.AnalyserViewLemmas.{whole}
 use Rattle.bus_watch.proofs.PairLemmas.{few-option}
-use Rattle.bus_tap.specs.Arrival.{Arrival, own, firsts_before}
+use Rattle.bus_tap.specs.Arrival.{Arrival, own, firsts_before, place_of, at_places, arrived, decides}
 use Rattle.bus_tap.proofs.ArrivalLemmas.{own-append, one-by-one, before-append, before-now}
-use Rattle.bus_tap.specs.Arrival.{place_of, at_places, arrived, decides}
 use Rattle.bus_tap.specs.declared.places.BitPlaces.{BitPlaces}
 use Rattle.bus_tap.specs.Places.{KeepsPlaces, AreLocated}
-use Rattle.bus_clocks.specs.Clocks.{ClockState, IsAfterArrivals, AdvancesArrivals}
-use Rattle.bus_clocks.specs.Clocks.{arrival_reports, two_clocks}
+use Rattle.bus_clocks.specs.Clocks.{ClockState, IsAfterArrivals, AdvancesArrivals, arrival_reports, two_clocks}
 use Rattle.bus_clocks.specs.Internal.Pushes.{AdvancesConversationBy}
 use Rattle.bus_clocks.specs.Internal.Parts.{Parts, beyond, upto}
 use Rattle.bus_clocks.specs.Internal.Stretch.{NotesMany, Opens, TakesNoted, place_after}
@@ -45,8 +43,7 @@ use Rattle.bus_clocks.specs.Laws.{LinesApart}
 use Rattle.bus_clocks.specs.declared.stretch.Standing.{Standing}
 use Rattle.bus_clocks.proofs.ApartLemmas.{side-append, places-stay}
 use Rattle.bus_tap.proofs.ArrivedLemmas.{IsNear, decides-first, decides-second, report-near}
-use Rattle.bus_tap.proofs.LocatedLemmas.{LastBit, decides-located, is-due, kind-idle, same-number}
-use Rattle.bus_tap.proofs.LocatedLemmas.{some-is}
+use Rattle.bus_tap.proofs.LocatedLemmas.{LastBit, decides-located, is-due, kind-idle, same-number, some-is}
 use Rattle.bus_clocks.proofs.PartsLemmas.{EndsWithSecond, IsStretch, before-behind, stretch-seconds}
 use Rattle.bus_tap.proofs.PlacesLemmas.{WasOpen, begun-before, begun-within}
 use Rattle.bus_clocks.proofs.RoomLemmas.{arrived-few, own-count}

@@ -10,8 +10,7 @@ use Rattle.bus_line.specs.Laws.{OneMore}
 use Rattle.bus_pairing.specs.LineReport.{LineReport, line_report}
 use Rattle.bus_pairing.specs.declared.line.Line.{Line}
 use Rattle.bus_pairing.specs.declared.line.Line.TheVariants.{First, Second}
-use Rattle.bus_tap.specs.Arrival.{Arrival, own}
-use Rattle.bus_tap.specs.Arrival.{at_places, decides, arrived}
+use Rattle.bus_tap.specs.Arrival.{Arrival, own, at_places, decides, arrived}
 use Rattle.bus_tap.specs.Laws.{ArrivalsGrow}
 use Rattle.bus_tap.proofs.ArrivalLemmas.{own-append, one-by-one}
 use Rattle.bus_tap.proofs.ArrivedLemmas.{decides-first, decides-second}

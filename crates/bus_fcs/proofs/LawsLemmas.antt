@@ -1,14 +1,13 @@
 -- The laws of the frame check.
 use Rattle.std.proofs.Common.{◌+◌, take, drop, ◌≡◌, ◌↔◌, ℕ, ◌-◌, ◌≤◌, Bool, true, false, not, List, ◌++◌, length, map}
 use Rattle.std.proofs.Common.{replicate, refl, sym, ap, ◌∙◌, arith, append_assoc, length-append}
-use Rattle.std.proofs.lemmas.List.{length-replicate, length-map}
+use Rattle.std.proofs.lemmas.List.{length-replicate, length-map, take-append-drop, drop-drop, length-take, length-drop}
 use Rattle.bus_fcs.specs.Division.{add, divided, remainder}
 use Rattle.bus_fcs.specs.FrameCheck.{Good, fcs}
 use Rattle.bus_fcs.specs.Internal.Register.{register}
 use Rattle.bus_fcs.proofs.DivisionSumLemmas.{length-add, add_again, add_left_comm, add_assoc_of, add-append, add-parts}
 use Rattle.bus_fcs.proofs.DivisionSumLemmas.{add-zeros, add_more_zeros, add_to_zeros, add_sixteen_ones, not-not}
 use Rattle.bus_fcs.proofs.DivisionSumLemmas.{add_self, same_from_add}
-use Rattle.std.proofs.lemmas.List.{take-append-drop, drop-drop, length-take, length-drop}
 use Rattle.bus_fcs.specs.Laws.{FcsIsOnly, BurstIsSeen}
 use Rattle.bus_fcs.proofs.FrameCheckLemmas.{good_sum}
 use Rattle.bus_fcs.proofs.DivisionLemmas.{remainder_add, remainder-append, remainder-zeros, remainder_own}

@@ -1,10 +1,9 @@
 -- One report more: the tally, the history and the steps of a conversation.
 use Rattle.std.proofs.Common.{◌≡◌, ◌≢◌, ℕ, ◌+◌, ◌<◌, ◌-◌, ◌==◌, ◌&&◌, Bool, true, false, if◌then◌else◌, List, [], ◌∷◌}
-use Rattle.std.proofs.Common.{◌++◌}
-use Rattle.std.proofs.Common.{length, drop, Option, Some, None, inl, inr, refl, sym, ap, ◌∙◌, arith, subst, slice_get}
-use Rattle.std.proofs.Common.{map, replicate}
+use Rattle.std.proofs.Common.{◌++◌, length, drop, Option, Some, None, inl, inr, refl, sym, ap, ◌∙◌, arith, subst}
+use Rattle.std.proofs.Common.{slice_get, map, replicate}
 use Rattle.std.specs.List.{cons_option, All}
-use Rattle.std.specs.Option.{option_map, option_to_list}
+use Rattle.std.specs.Option.{option_to_list}
 use Rattle.std.proofs.lemmas.List.{length-append, length-drop, drop-append-le, drop-drop, drop-map, map-append}
 use Rattle.std.proofs.lemmas.List.{length-map, append-nil, length-replicate, get_or-replicate}
 use Rattle.std.proofs.lemmas.Option.{slice_get-get_or, slice_get_cases}
@@ -16,15 +15,14 @@ use Rattle.bus_line.specs.Report.{Report, Kind, Frame, Damaged, Overlong, Abort,
 use Rattle.bus_line.specs.Shown.{kind_with, span_of}
 use Rattle.bus_line.specs.declared.event.EventKind.{EventKind}
 use Rattle.bus_line.specs.declared.event.EventKind.TheVariants as event
-use Rattle.bus_pairing.specs.LineReport.{LineReport, line_report, of_line}
+use Rattle.bus_pairing.specs.LineReport.{LineReport, of_line}
 use Rattle.bus_pairing.specs.declared.line.Line.{Line}
 use Rattle.bus_pairing.specs.declared.line.Line.TheVariants.{First}
 use Rattle.bus_line.specs.Ledger.{octet_count, kind_octets}
 use Rattle.bus_dictionary.specs.Entry.{FrameType}
-use Rattle.bus_dictionary.specs.Standing.{standing}
-use Rattle.bus_pairing.specs.Talk.{is_idle_kind, standing_of, command_on, waits, verdict, verdicts, pending}
+use Rattle.bus_pairing.specs.Talk.{verdicts, pending}
 use Rattle.bus_pairing.specs.Seen.{SeenReport, decided}
-use Rattle.bus_pairing.specs.History.{KeptFrame, kept_frame, line_of, frame_at, frame_of, frames, history, tally}
+use Rattle.bus_pairing.specs.History.{KeptFrame, kept_frame, frame_at, frame_of, frames, history, tally}
 use Rattle.bus_pairing.specs.History.{verdicts_of, is_outcome, kept_pair}
 use Rattle.bus_pairing.specs.Ledger.{kind_steps, steps}
 use Rattle.bus_pairing.specs.Internal.Counted.{one_more, counted, Counted}
@@ -34,7 +32,7 @@ use Rattle.bus_pairing.specs.declared.counts.Counts.{Counts}
 use Rattle.bus_pairing.specs.declared.outcome.Outcome.{Outcome}
 use Rattle.bus_pairing.specs.declared.outcome.Outcome.TheVariants.{Answered, Late, Missing, Spoilt}
 use Rattle.bus_pairing.specs.declared.verdict.Verdict.{Verdict}
-use Rattle.bus_pairing.proofs.TalkLemmas.{decided-idle, decided-talk, verdicts-more, pending-idle, pending-talk}
+use Rattle.bus_pairing.proofs.TalkLemmas.{verdicts-more}
 
 -- the tally of some verdicts
 abbrev tally-of : List Verdict → ℕ → Counts

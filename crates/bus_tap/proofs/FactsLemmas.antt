@@ -1,19 +1,17 @@
 -- What is counted, with one more.
-use Rattle.std.proofs.Common.{◌≡◌, ℕ, ◌+◌, ◌-◌, ◌<◌, ◌≤◌, true, false, if◌then◌else◌, List, []}
-use Rattle.std.proofs.Common.{◌∷◌, ◌++◌, length, refl, sym, ap, ◌∙◌, arith, subst, inl, inr}
+use Rattle.std.proofs.Common.{◌≡◌, ℕ, ◌-◌, ◌<◌, ◌≤◌, true, false, if◌then◌else◌, List, [], ◌∷◌, ◌++◌, length, refl, sym}
+use Rattle.std.proofs.Common.{ap, ◌∙◌, arith, subst, inl, inr, append-nil, not, Bool, true, false}
 use Rattle.std.specs.Prelude.{slice_index, ◌&&◌, nat_lt, nat_le}
 use Rattle.std.specs.Int.{abs_diff}
 use Rattle.std.proofs.lemmas.List.{get_or_append_left}
 use Rattle.std.proofs.Math.Seq.{get_or-append_seam}
 use Rattle.std.proofs.lemmas.Bool.{cases_lt}
-use Rattle.bus_tap.specs.Facts.{IsTallied, IsLongest, spacing, is_jump, jumps}
+use Rattle.bus_tap.specs.Facts.{IsTallied, IsLongest, spacing, is_jump, jumps, AreFactsOf}
 use Rattle.bus_tap.specs.Internal.Tallies.{where_is}
 use Rattle.bus_tap.specs.declared.facts.Occurrences.{Occurrences}
 use Rattle.bus_tap.specs.declared.facts.Gap.{Gap}
 use Rattle.bus_tap.proofs.EachLemmas.{each-more, length-more}
-use Rattle.std.proofs.Common.{append-nil, not, Bool, true, false}
 use Rattle.std.specs.Bool.{beq}
-use Rattle.bus_tap.specs.Facts.{AreFactsOf}
 use Rattle.bus_tap.specs.declared.facts.Levels.{Levels}
 use Rattle.bus_tap.specs.declared.facts.LineFacts.{LineFacts}
 

@@ -1,7 +1,6 @@
 -- The rule of rest, with one arrival more.
-use Rattle.std.proofs.Common.{◌≡◌, ℕ, suc, ◌+◌, ◌-◌, ◌<◌, ◌≤◌, ◌==◌, ◌&&◌, not, min, ltb, leb, Bool, true, false}
-use Rattle.std.proofs.Common.{List, [], ◌∷◌, ◌++◌, length, take, drop, refl, sym, ap, ◌∙◌, arith, append-nil}
-use Rattle.std.proofs.Common.{length-append}
+use Rattle.std.proofs.Common.{◌≡◌, ℕ, suc, ◌+◌, ◌-◌, ◌<◌, ◌≤◌, ◌==◌, ◌&&◌, not, min, ltb, leb, Bool, true, false, List}
+use Rattle.std.proofs.Common.{[], ◌∷◌, ◌++◌, length, take, drop, refl, sym, ap, ◌∙◌, arith, append-nil, length-append}
 use Rattle.std.proofs.Common.{if◌then◌else◌, inl, inr}
 use Rattle.std.proofs.lemmas.List.{take-append-le}
 use Rattle.std.proofs.lemmas.Bool.{cases_lt}
@@ -10,8 +9,7 @@ use Rattle.bus_line.specs.Internal.Run.{ones_after}
 use Rattle.bus_pairing.specs.declared.line.Line.TheVariants.{First, Second}
 use Rattle.bus_tap.specs.Arrival.{Arrival, own, firsts_before}
 use Rattle.bus_tap.specs.Rested.{rests, silence, comes_to_rest, fill, rested, RestState, IsRestAfter}
-use Rattle.bus_tap.proofs.ArrivalLemmas.{own-append, before-append, before-now, before-within}
-use Rattle.bus_tap.proofs.ArrivalLemmas.{one-by-one}
+use Rattle.bus_tap.proofs.ArrivalLemmas.{own-append, before-append, before-now, before-within, one-by-one}
 use Rattle.bus_tap.proofs.EachLemmas.{each-more, alone-front, alone-last, upto-last}
 
 pub rested-more : (most : ℕ) (xs : List Arrival) (x : Arrival) (is : Bool) → comes_to_rest most (xs ++ x ∷ []) ≡ is →

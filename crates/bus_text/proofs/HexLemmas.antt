@@ -1,7 +1,6 @@
 -- Hexadecimal digits of many octets at once.
-use Rattle.std.proofs.Common.{arith, ◌≡◌, refl, sym, ◌∙◌, ap, subst, get_or, bit_and, ◌^◌}
-use Rattle.std.proofs.Common.{◌+◌, ◌*◌, ◌/◌, ◌%◌, ◌<◌, ◌++◌, ◌∷◌, [], ℕ, cond, ltb, zero, suc, List, length, take}
-use Rattle.std.proofs.Common.{drop, map}
+use Rattle.std.proofs.Common.{arith, ◌≡◌, refl, sym, ◌∙◌, ap, subst, get_or, bit_and, ◌^◌, ◌+◌, ◌*◌, ◌/◌, ◌%◌, ◌<◌}
+use Rattle.std.proofs.Common.{◌++◌, ◌∷◌, [], ℕ, cond, ltb, zero, suc, List, length, take, drop, map}
 use Rattle.std.specs.Simd.Lanes.{Each1, zip2, sel_l, top, pick_l}
 use Rattle.std.proofs.lemmas.Simd.{zip2_splat, pick_l_whole}
 use Rattle.std.proofs.lemmas.Nat.{and_mask}

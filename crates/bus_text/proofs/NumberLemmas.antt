@@ -1,7 +1,6 @@
 -- Numbers in decimal by tables.
 use Rattle.std.proofs.Common.{arith, ◌≡◌, refl, sym, ◌∙◌, ap, ◌+◌, ◌*◌, ◌/◌, ◌%◌, ◌<◌, ◌≤◌, ◌^◌, ◌++◌, ◌∷◌, [], ℕ, List}
-use Rattle.std.proofs.Common.{take, map, get_or}
-use Rattle.std.proofs.Common.{decimal, drop, length, length-append}
+use Rattle.std.proofs.Common.{take, map, get_or, decimal, drop, length, length-append}
 use Rattle.arrayvec.specs.ArrayVec.{ArrayVec}
 use Rattle.bus_text.specs.Advances.{AdvancesText}
 use Rattle.std.proofs.lemmas.List.{take_at, drop_at}

@@ -1,7 +1,6 @@
 -- Two lines that are decoded one after the other, up to the same place.
-use Rattle.std.proofs.Common.{◌≡◌, ℕ, ◌+◌, ◌-◌, ◌^◌, ◌<◌, ◌≤◌, Bool, false, List, [], ◌∷◌, ◌++◌, length, take}
-use Rattle.std.proofs.Common.{map, zip, Option, Some, refl, sym, ap, ◌∙◌, subst, append_assoc, arith}
-use Rattle.std.proofs.Common.{length-append, get_or}
+use Rattle.std.proofs.Common.{◌≡◌, ℕ, ◌+◌, ◌-◌, ◌^◌, ◌<◌, ◌≤◌, Bool, false, List, [], ◌∷◌, ◌++◌, length, take, map, zip}
+use Rattle.std.proofs.Common.{Option, Some, refl, sym, ap, ◌∙◌, subst, append_assoc, arith, length-append, get_or}
 use Rattle.std.specs.List.{sum_by, take-map}
 use Rattle.std.specs.Option.{option_to_list}
 use Rattle.std.proofs.lemmas.List.{length-map, take_more, take_all}
@@ -26,8 +25,7 @@ use Rattle.bus_pairing.specs.declared.line.Line.TheVariants.{First, Second}
 use Rattle.bus_watch.proofs.MergedLemmas.{firsts-append, length-firsts, length-seconds, merged-adds, merged-led}
 use Rattle.bus_watch.proofs.MergedLemmas.{seconds-append}
 use Rattle.bus_watch.proofs.AnalyserViewLemmas.{reports-octets, line-length}
-use Rattle.bus_watch.proofs.PairLemmas.{copied-adds, few-option, firsts-zip}
-use Rattle.bus_watch.proofs.PairLemmas.{of_one-octets, seconds-zip}
+use Rattle.bus_watch.proofs.PairLemmas.{copied-adds, few-option, firsts-zip, of_one-octets, seconds-zip}
 
 -- the first line of two stands so
 pub pairs-keep_up : {C : Type 0} (view : CheckView C) (a : PairState C) (ps : List (Bool × Bool)) →

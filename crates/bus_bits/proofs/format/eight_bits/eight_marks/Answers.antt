@@ -1,6 +1,5 @@
 use Rattle.std.proofs.Common.{◌≡◌, ◌≢◌, ◌↔◌, ◌<◌, ◌≤◌, ◌||◌, ℕ, ◌-◌, ◌/◌, ◌^◌, Bool, List, ◌++◌, map, filter, take}
-use Rattle.std.proofs.Common.{drop, get_or, length, Some, true, false, inl, inr, refl, sym, ap}
-use Rattle.std.proofs.Common.{◌∙◌, arith, rules}
+use Rattle.std.proofs.Common.{drop, get_or, length, Some, true, false, inl, inr, refl, sym, ap, ◌∙◌, arith, rules}
 use Rattle.std.proofs.lemmas.Bool.{cases_lt}
 use Rattle.std.proofs.lemmas.List.{length-take, length-drop, take_all, get_or-take}
 use Rattle.std.specs.Array.{IsFirstChunk}

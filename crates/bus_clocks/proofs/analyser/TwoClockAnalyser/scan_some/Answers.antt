@@ -1,5 +1,4 @@
-use Rattle.std.proofs.Common.{◌≡◌, ◌+◌, ◌-◌, ◌++◌, List, length, refl, ap, ◌∙◌}
-use Rattle.std.proofs.Common.{subst, arith, Some, Option}
+use Rattle.std.proofs.Common.{◌≡◌, ◌+◌, ◌-◌, ◌++◌, List, length, refl, ap, ◌∙◌, subst, arith, Some, Option}
 use Rattle.std.specs.Option.{option_to_list}
 use Rattle.bus_bits.proofs.BitLemmas.{length-from}
 use Rattle.bus_pairing.specs.Seen.{SeenReport}
@@ -14,8 +13,7 @@ use Rattle.bus_clocks.specs.Internal.Parts.{Parts, beyond, upto}
 use Rattle.bus_clocks.proofs.PartsLemmas.{count-beyond, is-stretch, stretch-firsts}
 use Rattle.bus_clocks.proofs.PushLemmas.{whole-located}
 use Rattle.bus_clocks.proofs.RoomLemmas.{own-count}
-use Rattle.bus_clocks.proofs.StretchLemmas.{arrivals-keep_up, leads-scanned}
-use Rattle.bus_clocks.proofs.StretchLemmas.{scanned-of, whole-scanned}
+use Rattle.bus_clocks.proofs.StretchLemmas.{arrivals-keep_up, leads-scanned, scanned-of, whole-scanned}
 use Rattle.bus_clocks.proofs.analyser.TwoClockAnalyser.scan_some.Given.{Over}
 use Rattle.bus_clocks.proofs.analyser.TwoClockAnalyser.scan_some.Goals as goal
 

@@ -1,7 +1,6 @@
-use Rattle.std.proofs.Common.{◌≡◌, arith, rules, get_or, subst, sym}
+use Rattle.std.proofs.Common.{arith, rules, get_or}
 use Rattle.std.proofs.lemmas.Option.{slice_get-get_or}
 use Rattle.bus_pairing.specs.declared.counts.Counts.{Counts}
-use Rattle.bus_pairing.specs.Internal.Counted.{Counted}
 use Rattle.bus_pairing.proofs.TallyLemmas.{counted-set, within-counted}
 use Rattle.bus_pairing.proofs.conversation.Conversation.count.Goals as goal
 
