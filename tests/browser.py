@@ -6,7 +6,6 @@ import json
 import os
 import subprocess
 import time
-import urllib.error
 import urllib.request
 from contextlib import contextmanager
 from pathlib import Path
@@ -45,6 +44,20 @@ class Fault(Exception):
     """What a browser refused, or what did not come in time."""
 
 
+class Silence(Fault):
+    """A browser that does not start, ended, or gives no answer."""
+
+
+@contextmanager
+def heard() -> Iterator[None]:
+    """Tells by a fault that a socket to a browser was closed, or brought nothing in time."""
+    websocket = importlib.import_module("websocket")
+    try:
+        yield
+    except (OSError, websocket.WebSocketException) as error:
+        raise Silence(f"the browser is silent: {error!r}") from error
+
+
 class Session:
     """A page of a browser, and what is asked of it."""
 
@@ -62,9 +75,11 @@ class Session:
     def call(self, method: str, parameters: Dict[str, Any]) -> Any:
         """The result of a command. What the browser tells meanwhile is kept."""
         self.number += 1
-        self.socket.send(json.dumps({"id": self.number, "method": method, "params": parameters}))
+        with heard():
+            self.socket.send(json.dumps({"id": self.number, "method": method, "params": parameters}))
         while True:
-            said = json.loads(self.socket.recv())
+            with heard():
+                said = json.loads(self.socket.recv())
             if said.get("id") != self.number:
                 self.events.append(said)
             elif said["type"] == "success":
@@ -164,8 +179,9 @@ def connected(address: str) -> Any:
     until = time.monotonic() + PATIENCE
     while True:
         try:
-            return websocket.create_connection(address, timeout=PATIENCE, suppress_origin=True)
-        except (OSError, websocket.WebSocketException):
+            with heard():
+                return websocket.create_connection(address, timeout=PATIENCE, suppress_origin=True)
+        except Silence:
             if time.monotonic() > until:
                 raise
             time.sleep(0.1)
@@ -220,16 +236,12 @@ def asked(address: str, body: Optional[Dict[str, Any]], method: str = "POST") ->
     until = time.monotonic() + PATIENCE
     while True:
         try:
-            with urllib.request.urlopen(request, timeout=PATIENCE) as answer:
+            with heard(), urllib.request.urlopen(request, timeout=PATIENCE) as answer:
                 return json.load(answer)
-        except ConnectionError:
-            pass
-        except urllib.error.URLError as error:
-            if not isinstance(error.reason, ConnectionError):
+        except Silence:
+            if time.monotonic() > until:
                 raise
-        if time.monotonic() > until:
-            raise Fault(f"{address} does not answer")
-        time.sleep(0.1)
+            time.sleep(0.1)
 
 
 @contextmanager
