@@ -246,8 +246,9 @@ spent-none s cost longest n =
     rw (none, same-assembled, same-stored, same-folded) refl
 
 -- no data
-appends-none : {C : Type 0} {view : CheckView C} (d : LineState C) → AppendsBits view d [] d
+pub appends-none : {C : Type 0} {view : CheckView C} (d : LineState C) → AppendsBits view d [] d
 appends-none {C} {view} d = record {
+  none = λ empty. refl;
   holds = λ bits held. rw (append-nil bits) held;
   spent = λ bits held. spent-none d.spent view.cost d.longest (length bits);
   kept = refl;

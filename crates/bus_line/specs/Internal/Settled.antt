@@ -68,9 +68,10 @@ pub record StoresOctets {C : Type 0} (view : CheckView C) (old : LineState C) (m
       }
   pub kept : new ≡ record old { octets = new.octets; check = new.check; spent = new.spent }
 
--- data bits were appended to the piece, and counted
+-- data bits were appended to the piece, and counted; none change nothing
 pub record AppendsBits {C : Type 0} (view : CheckView C) (old : LineState C) (more : List Bool)
     (new : LineState C) : Type 0 where
+  pub none : more ≡ [] → new ≡ old
   pub holds : (bits : List Bool) → Holds view.folded old bits → Holds view.folded new (bits ++ more)
   pub spent : (bits : List Bool) → Holds view.folded old bits
       → new.spent ≡ record old.spent {

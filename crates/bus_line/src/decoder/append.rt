@@ -30,6 +30,9 @@ impl DecoderWords {
             (bits_of more.count more.bits) (state self.new check.new (F.octets frame.new)) }
         ensures sound { IsDecoder self.new (F.octets frame.new) }
     {
+        if more.count == 0 {
+            return;
+        }
         let held = self.data_bits % 8;
         let count = (held + more.count) / 8;
         let joined = self.partial | more.bits << held;

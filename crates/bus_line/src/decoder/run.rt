@@ -39,7 +39,8 @@ impl DecoderWords {
         }
         let bits = seven_octets_at(octets, from);
         let run = up_to_six(self.last_bits >> 8 | bits << 8);
-        self.consume(check, frame, bits, run.count as u64);
+        let due = self.shift::<C>(bits, run.count as u64);
+        self.append(check, frame, due);
         run
     }
 }

@@ -6,7 +6,7 @@ ghost use Rattle.bus_bits.specs.Limits.{most_places};
 ghost use Rattle.bus_bits.specs.Octet.{bits_of};
 ghost use Rattle.bus_bits.specs.Word.{IsWordOf};
 
-use crate::decoder::settled::data_in_word;
+use crate::decoder::settled::{Bits, data_in_word};
 use crate::decoder::stop::{Stopped, up_to_stop};
 use crate::decoder_words::{DecoderWords, PLACES};
 use crate::event::Event;
@@ -36,6 +36,8 @@ impl DecoderWords {
     ghost use Rattle.bus_line.specs.Words.{IsDecoder, AreDecoderWords, state};
     ghost use Rattle.bus_line.specs.After.{AdvancesWith};
     ghost use Rattle.bus_line.specs.Internal.AdvancesTo.{ConsumesBits, AdvancesToStop};
+    ghost use Rattle.bus_line.specs.Internal.LineState.{LineState};
+    ghost use Rattle.bus_line.specs.Internal.Settled.{AppendsBits};
 
     /// Takes a bit as [`LineDecoder::push`](crate::LineDecoder::push) does, with the octets of the piece and their
     /// check in the caller's hands. Returns the report that it decides, if it decides one.
@@ -58,7 +60,8 @@ impl DecoderWords {
         if self.place >= PLACES {
             return Err(PlaceLimit);
         }
-        self.consume(check, frame, u64::from(bit), 1);
+        let due = self.shift::<C>(u64::from(bit), 1);
+        self.append(check, frame, due);
         Ok(self.decide(check))
     }
 
@@ -79,34 +82,31 @@ impl DecoderWords {
         ensures sound { IsDecoder self.new (F.octets frame.new) }
     {
         let run = up_to_stop(self.last_bits | word.bits << 16, word.count);
-        self.consume(check, frame, word.bits, run.count as u64);
+        let due = self.shift::<C>(word.bits, run.count as u64);
+        self.append(check, frame, due);
         run
     }
 
-    /// Takes so many of these bits, the lowest, of which none but the last may decide a report, and settles those that
-    /// eight later ones have followed.
+    /// Takes so many of these bits, the lowest, of which none but the last may decide a report. Returns the data bits
+    /// that eight later ones have followed by now, which are to be appended to the piece.
     #[inline(always)]
-    pub(crate) fn consume<C: Check, F: FrameBuffer>(
-        &mut self,
-        check: &mut C,
-        frame: &mut F,
-        bits: u64,
-        count: u64,
-    )
-        requires sound { IsDecoder self.old (F.octets frame.old) }
+    pub(crate) fn shift<C: Check>(&mut self, bits: u64, count: u64) -> Bits
+        requires within { AreDecoderWords self.old }
         requires count { (1 ≤ count) × (count ≤ 56) }
         requires room { self.old.place + count ≤ most_places }
-        ensures consumes { ConsumesBits C.check (state self.old check.old (F.octets frame.old)) (bits_of count bits)
-            (state self.new check.new (F.octets frame.new)) }
-        ensures sound { IsDecoder self.new (F.octets frame.new) }
+        ensures consumes { (check : C) (octets : List ℕ) (new : LineState C) →
+            AppendsBits C.check (state self.new check octets) (bits_of result.count result.bits) new →
+            ConsumesBits C.check (state self.old check octets) (bits_of count bits) new }
+        ensures room { self.new.assembled + result.count ≤ self.new.place - self.new.origin }
+        ensures sound { (octets : List ℕ) → IsDecoder self.old octets → IsDecoder self.new octets }
     {
         let word = self.last_bits | bits << 16;
         self.place += count;
         self.last_bits = newest(self.last_bits, bits, count);
         if self.place <= self.settles_at {
-            return;
+            return Bits { bits: 0, count: 0 };
         }
         let late = min(self.place - self.settles_at, count);
-        self.append(check, frame, data_in_word(word >> (count - late), late));
+        data_in_word(word >> (count - late), late)
     }
 }

@@ -5,10 +5,12 @@ use Rattle.std.proofs.lemmas.List.{length-take}
 use Rattle.std.proofs.lemmas.Nat.{and_mask, shr-shr}
 use Rattle.std.proofs.Math.Nat.{mul-le-mul_right}
 use Rattle.bus_bits.specs.declared.spent.Spent.{Spent}
+use Rattle.bus_bits.specs.Octet.{bits_of}
 use Rattle.bus_bits.proofs.OctetLemmas.{least}
 use Rattle.bus_line.specs.Words.{state}
 use Rattle.bus_line.specs.declared.decoder_words.DecoderWords.{DecoderWords}
-use Rattle.bus_line.specs.Internal.Settled.{StoresOctets, more_within, low_octets}
+use Rattle.bus_line.specs.Internal.Settled.{AppendsBits, StoresOctets, more_within, low_octets}
+use Rattle.bus_line.proofs.SettleLemmas.{appends-none}
 use Rattle.bus_line.proofs.TracksAppendLemmas.{appended, joined, keeps-more, length-octets_of, octets-next}
 use Rattle.bus_line.proofs.decoder_words.DecoderWords.append.Goals as goal
 
@@ -57,6 +59,13 @@ loop-preserved g c =
           ∙ ap (λ (f : ℕ). record c.zero.result { folded = f }) (omega arith));
     }
 
+pub returns-then-more-eq0-clause-appends : goal.returns-then-more-eq0-clause-appends
+unfolding bits_of
+returns-then-more-eq0-clause-appends g c =
+    let d = state c.args.self.now c.args.check.now (g.F.FrameBuffer.octets c.args.frame.now) in
+    subst (λ (n : ℕ). AppendsBits g.C.Check.check d (bits_of n c.args.more.bits) d) (sym c.if-more-eq0.true)
+    (appends-none d)
+
 pub returns-clause-appends : goal.returns-clause-appends
 returns-clause-appends g c =
     let octets = g.F.FrameBuffer.octets in
@@ -93,8 +102,8 @@ returns-clause-appends g c =
       kept = refl;
     } in
     appended (state old c.args.check.now (octets c.args.frame.now))
-    (state old c.begin.new.check (octets c.begin.new.frame)) e c.args.more.count c.args.more.bits j n c.args.more.few
-    c.args.more.small refl refl refl c.begin.ensures.keeps stores
+    (state old c.begin.new.check (octets c.begin.new.frame)) e c.args.more.count c.args.more.bits j n
+    (omega (arith, c.if-more-eq0.false)) c.args.more.few c.args.more.small refl refl refl c.begin.ensures.keeps stores
 
 pub returns-clause-sound : goal.returns-clause-sound
 returns-clause-sound g c =

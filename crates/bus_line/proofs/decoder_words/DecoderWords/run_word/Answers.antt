@@ -19,7 +19,8 @@ returns-clause-reaches g c =
     let all = length-bits m x in
     let word : (b : List Bool) → After g.C.Check.check old b → IsWord _ b (bits_of m x) = λ b stands.
     word-joined old m x b stands.has_taken c.requires.word.few c.requires.word.small in
-    ran-to c.consume.ensures.consumes run.result.is_stop (omega (arith, long, run.ensures.count))
+    ran-to (c.shift-due.ensures.consumes c.args.check.now (g.F.FrameBuffer.octets c.args.frame.now) _
+    c.append.ensures.appends) run.result.is_stop (omega (arith, long, run.ensures.count))
     (λ going b stands.
     let none = run.ensures.none going in
     subst (HasNoStop b (bits_of n x)) (sym long)

@@ -1,11 +1,12 @@
 use Rattle.std.proofs.Common.{◌≡◌, ◌≤◌, ◌+◌, ◌-◌, ◌/◌, ◌^◌, ◌%◌, ◌<◌, ℕ, List, Bool, ◌++◌, length, min, ap, ◌∙◌, subst}
-use Rattle.std.proofs.Common.{arith, refl, take}
+use Rattle.std.proofs.Common.{arith, refl, sym, take}
 use Rattle.bus_bits.specs.Octet.{bits_of}
 use Rattle.bus_bits.proofs.OctetLemmas.{bits-front, least, length-bits}
 use Rattle.bus_fcs.specs.Check.{CheckView}
 use Rattle.bus_line.specs.After.{After}
 use Rattle.bus_line.specs.Due.{current}
 use Rattle.bus_line.specs.Words.{first_in, state}
+use Rattle.bus_line.specs.Internal.AdvancesTo.{ConsumesBits}
 use Rattle.bus_line.specs.Internal.LineState.{LineState}
 use Rattle.bus_line.specs.Internal.LineView.{settles_from}
 use Rattle.bus_line.specs.Internal.Settled.{HasNoStop, data_in_word}
@@ -16,7 +17,7 @@ use Rattle.bus_line.proofs.AdvancesToLemmas.{no_stop-front}
 use Rattle.bus_line.proofs.SettleLemmas.{Shifted, word-settled, word-unsettled}
 use Rattle.bus_line.proofs.StepLemmas.{settles-open}
 use Rattle.bus_line.proofs.WordsLemmas.{settles-told, shifted}
-use Rattle.bus_line.proofs.decoder_words.DecoderWords.consume.Goals as goal
+use Rattle.bus_line.proofs.decoder_words.DecoderWords.shift.Goals as goal
 
 -- the newest bits, as the front of 56
 newest : {C : Type 0} {view : CheckView C} (old : DecoderWords) (check : C) (octets : List ℕ) (b : List Bool)
@@ -41,39 +42,38 @@ front-tracks {C} {view} {d} b x n few =
     subst (λ (z : List Bool). Tracks view d (b ++ z) (current b)) (bits-front n 56 x few)
 
 pub returns-then-self-clause-consumes : goal.returns-then-self-clause-consumes
-returns-then-self-clause-consumes g c =
+unfolding bits_of
+returns-then-self-clause-consumes g c check octets new appends =
     let old = c.args.self.now in
     let x = c.args.bits in
     let n = c.args.count in
-    record {
+    subst (ConsumesBits g.C.Check.check (state old check octets) (bits_of n x)) (sym (appends.none refl)) (record {
       longest = refl;
       origin = refl;
       place = omega (arith, length-bits n x);
       tracks = λ b stands no_stop.
-          let new = newest old c.args.check.now (g.F.FrameBuffer.octets c.args.frame.now) b x n c.newest-self.result
-          stands c.requires.count.1 c.newest-self.ensures no_stop in
+          let shifted = newest old check octets b x n c.newest-self.result stands c.requires.count.1
+          c.newest-self.ensures no_stop in
           front-tracks b x n c.requires.count.1
-          (word-unsettled old.settles_at (first_in old.settles_at) new refl
-          (settles-told old.settles_at c.requires.sound.within.settles_late) c.if-self.true);
-    }
+          (word-unsettled old.settles_at (first_in old.settles_at) shifted refl
+          (settles-told old.settles_at c.requires.within.settles_late) c.if-self.true);
+    })
 
 pub returns-clause-consumes : goal.returns-clause-consumes
-returns-clause-consumes g c =
+returns-clause-consumes g c check octets new appends =
     let old = c.args.self.now in
     let x = c.args.bits in
     let n = c.args.count in
     let late = c.min-late.result in
-    let appends = c.append.ensures.appends in
     record {
       longest = ap (λ (d : LineState _). d.longest) appends.kept;
       origin = ap (λ (d : LineState _). d.origin) appends.kept;
       place = ap (λ (d : LineState _). d.place) appends.kept ∙ omega (arith, length-bits n x);
       tracks = λ b stands no_stop.
-          let small = last-bits-small
-          (state old c.args.check.now (g.F.FrameBuffer.octets c.args.frame.now)) b stands.has_taken in
-          let new = newest old c.args.check.now (g.F.FrameBuffer.octets c.args.frame.now) b x n c.newest-self.result
-          stands c.requires.count.1 c.newest-self.ensures no_stop in
-          let told = settles-told old.settles_at c.requires.sound.within.settles_late in
+          let small = last-bits-small (state old check octets) b stands.has_taken in
+          let shifted = newest old check octets b x n c.newest-self.result stands c.requires.count.1
+          c.newest-self.ensures no_stop in
+          let told = settles-told old.settles_at c.requires.within.settles_late in
           let opened = settles-open old.settles_at (old.place + n) (first_in old.settles_at) told c.requires.room
           c.if-self.false in
           let at : old.settles_at ≡ opened.0 + 8 = told ∙ ap settles_from opened.1 in
@@ -83,6 +83,6 @@ returns-clause-consumes g c =
           ∙ (ap (λ (y : ℕ). data_in_word (y / 2 ^ (n - late)) late) (word-front old.last_bits x small)
           ∙ settled-behind (word_of old.last_bits x) (n - late) late (omega (arith, is-late, c.requires.count.1))) in
           front-tracks b x n c.requires.count.1
-          (word-settled opened.0 late c.data_in_word.result.count c.data_in_word.result.bits new opened.1 opened.2
-          is-late value appends);
+          (word-settled opened.0 late c.data_in_word.result.count c.data_in_word.result.bits shifted opened.1
+          opened.2 is-late value appends);
     }
