@@ -76,11 +76,11 @@ looks-behind : (o : SampleOptions) (start now : Option (List ℕ)) (xs : List �
     LooksBefore o start now xs fault → LooksBefore o start now xs (Write sent)
 looks-behind o start now xs Facts sent part = (xs, whole-front xs, inr part)
 looks-behind o start now xs (Write n) sent looks = looks
-looks-behind o start now xs Octets sent looks = (looks.0, looks.1, inl looks.2)
-looks-behind o start now xs (CutOff octet) sent looks = (looks.0, looks.1, inl looks.2)
 looks-behind o start now xs TooMany sent looks = (looks.0, looks.1, inl looks.2)
-looks-behind o start now xs Read sent looks = (looks.0, looks.1, inl looks.2)
-looks-behind o start now xs ReadsLimit sent looks = (looks.0, looks.1, inl looks.2)
+looks-behind o start now xs Octets sent told = (xs, whole-front xs, inl told)
+looks-behind o start now xs (CutOff octet) sent told = (xs, whole-front xs, inl told)
+looks-behind o start now xs Read sent told = (xs, whole-front xs, inl told)
+looks-behind o start now xs ReadsLimit sent told = (xs, whole-front xs, inl told)
 
 pub looks-closed : (o : SampleOptions) (start now : Option (List ℕ)) (xs : List ℕ) (fault result : SampleFault) →
     (result ≡ fault) ⊎ ((sent : ℕ) × (result ≡ Write sent)) → LooksBefore o start now xs fault →
@@ -99,4 +99,4 @@ pub looks-at-end : (o : SampleOptions) (start now : Option (List ℕ)) (xs : Lis
     (λ fault. (0 < array_vec_len run.part) × (fault ≡ CutOff (run.octets - array_vec_len run.part))) →
     HasTold o start now xs → LooksBy o start now xs r
 looks-at-end o start now xs run (Ok _) none told = told
-looks-at-end o start now xs run (Err fault) cut told = rw (cut.1) (xs, whole-front xs, told)
+looks-at-end o start now xs run (Err fault) cut told = rw (cut.1) told

@@ -10,7 +10,7 @@ use Rattle.bus_sample.specs.Recording.{recorded, levels}
 use Rattle.bus_sample.specs.Samples.{IsFrontOf}
 use Rattle.bus_sample.specs.declared.options.SampleOptions.{SampleOptions}
 use Rattle.bus_sample.specs.declared.fault.SampleFault.{SampleFault}
-use Rattle.bus_sample.specs.declared.fault.SampleFault.TheVariants.{Facts, Write}
+use Rattle.bus_sample.specs.declared.fault.SampleFault.TheVariants.{Facts, TooMany, Write}
 
 -- where looks are asked for, the facts after each of the reads that gave these octets; else nothing
 pub data AreLooks (o : SampleOptions) : List ℕ → List TapFacts → Type 0 where
@@ -29,12 +29,13 @@ IsToldInPart o start now xs =
     (fs : List TapFacts) × (sent : ℕ) × AreLooks o xs fs × (sent < length (flat_map facts_text fs))
     × Appends start now (take sent (flat_map facts_text fs))
 
--- what was told before a fault while these octets were read: the looks at the reads before it
+-- what was told before a fault while these octets were read: the looks at all reads, without that of too many samples
 abbrev pub LooksBefore : SampleOptions → Option (List ℕ) → Option (List ℕ) → List ℕ → SampleFault → Type 0
 LooksBefore o start now xs Facts = IsToldInPart o start now xs
 LooksBefore o start now xs (Write sent) =
     (front : List ℕ) × IsFrontOf xs front × (HasTold o start now front ⊎ IsToldInPart o start now front)
-LooksBefore o start now xs fault = (front : List ℕ) × IsFrontOf xs front × HasTold o start now front
+LooksBefore o start now xs TooMany = (front : List ℕ) × IsFrontOf xs front × HasTold o start now front
+LooksBefore o start now xs fault = HasTold o start now xs
 
 -- what a call told that read these octets and answered so
 abbrev pub LooksBy : {A : Type 0} → SampleOptions → Option (List ℕ) → Option (List ℕ) → List ℕ → Result A SampleFault

@@ -45,5 +45,5 @@ returns-in_err-run g c =
       [],
       consumes_nothing _,
       (size.1, refl, appends_nothing _),
-      ([], ([], refl), ([], before, appends_nothing _)),
+      ([], before, appends_nothing _),
     )

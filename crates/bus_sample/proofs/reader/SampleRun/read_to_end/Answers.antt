@@ -4,7 +4,6 @@ use Rattle.bus_text.proofs.KnownBytesLemmas.{consumes_nothing, consumes_both, co
 use Rattle.bus_text.proofs.KnownBytesLemmas.{appends_nothing}
 use Rattle.bus_sample.specs.Recording.{recorded}
 use Rattle.bus_sample.specs.Looks.{before, HasTold, IsToldInPart}
-use Rattle.bus_sample.proofs.CloseLemmas.{whole-front}
 use Rattle.bus_sample.proofs.LookLemmas.{looks-at-end, looks-before}
 use Rattle.bus_sample.proofs.ReadLemmas.{halts-finishes, ends-finishes}
 use Rattle.bus_sample.proofs.reader.SampleRun.read_to_end.Goals as goal
@@ -38,7 +37,7 @@ returns-in-Ok-eq0-clause-read g c =
 pub returns-in-Err-clause-read : goal.returns-in-Err-clause-read
 returns-in-Err-clause-read g c =
     let before = c.loop-turn.invariant.read in
-    (before.0, consumes_kept _ _ _ _ before.1 c.in-Err.ensures.bytes, before.2, (before.0, whole-front _, before.4))
+    (before.0, consumes_kept _ _ _ _ before.1 c.in-Err.ensures.bytes, before.2, before.4)
 
 pub returns-in_err-consume_read-clause-read : goal.returns-in_err-consume_read-clause-read
 returns-in_err-consume_read-clause-read g c =
@@ -107,5 +106,5 @@ returns-clause-read g c =
         omega (arith, before.3, c.loop-turn-test.false, ap (λ o. o.reads) c.loop-turn.invariant.options),
         before.2,
       ),
-      (before.0, whole-front _, before.4),
+      before.4,
     )
