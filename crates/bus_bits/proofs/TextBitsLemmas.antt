@@ -9,9 +9,7 @@ use Rattle.std.proofs.Math.Bool.{or-true}
 use Rattle.std.proofs.lemmas.Bool.Decides.{nat_tests}
 use Rattle.bus_bits.proofs.CaptureLemmas.{lt_true, le_false, same}
 use Rattle.bus_bits.specs.Capture.{CaptureOf, bad_mark, is_bit, is_pair, is_space, front_by, marks_by, fault_by}
-use Rattle.bus_bits.specs.Capture.{mark_pair, text_bits, text_fault, text_capture, text_pairs, text_pairs_fault}
-use Rattle.bus_bits.specs.Capture.{text_pair_capture, is_arrival, mark_arrival, text_arrivals, text_arrivals_fault}
-use Rattle.bus_bits.specs.Capture.{text_arrival_capture, GrowsTo}
+use Rattle.bus_bits.specs.Capture.{mark_pair, is_arrival, mark_arrival, GrowsTo}
 
 pub passes : (p : ℕ → Bool) (x : ℕ) (xs : List ℕ) → p x ≡ true → take_while p (x ∷ xs) ≡ x ∷ take_while p xs
 passes p x xs is = take_while-cons p x xs ∙ rw is refl
@@ -47,6 +45,9 @@ front_cases p (x ∷ xs) =
 module _ (is_mark : ℕ → Bool) where
   abbrev pub is_read : ℕ → Bool
   is_read x = is_mark x || is_space x
+
+  pub space_read : (x : ℕ) → is_space x ≡ true → is_read x ≡ true
+  space_read x space = rw space (or-true (is_mark x))
 
   -- octets with no fault are all read, and so are those before each further one
   pub marks-whole : (xs : List ℕ) → fault_by is_mark xs ≡ None
@@ -134,49 +135,16 @@ module _ (is_mark : ℕ → Bool) where
 
 -- ---- one line
 
-abbrev pub is_text : ℕ → Bool
-is_text x = is_bit x || is_space x
-
-pub text-more : (xs : List ℕ) (x : ℕ) → text_fault xs ≡ None → is_text x ≡ true
-    → (text_fault (xs ++ x ∷ []) ≡ None)
-    × (text_bits (xs ++ x ∷ []) ≡ text_bits xs ++ cond (is_bit x) ((x == 49) ∷ []) [])
-text-more = values-more is_bit (λ x. x == 49)
-
-pub text-stop : (xs : List ℕ) (x : ℕ) → text_fault xs ≡ None → is_text x ≡ false
-    → (text_fault (xs ++ x ∷ []) ≡ Some (bad_mark (length xs))) × (text_bits (xs ++ x ∷ []) ≡ text_bits xs)
-text-stop = values-stop is_bit (λ x. x == 49)
-
-pub text-grows : (xs ys : List ℕ) → GrowsTo (text_capture xs) (text_capture (xs ++ ys))
-text-grows = values-grow is_bit (λ x. x == 49)
-
-pub mark_is_text : (x : ℕ) → x / 2 ≡ 24 → (is_bit x ≡ true) × (is_text x ≡ true)
-mark_is_text x half = (grind (arith, nat_tests), grind (arith, nat_tests))
+pub mark_is_bit : (x : ℕ) → x / 2 ≡ 24 → is_bit x ≡ true
+mark_is_bit x half = grind (arith, nat_tests)
 
 pub mark_by_half : (x : ℕ) → x / 2 ≢ 24 → is_bit x ≡ false
 mark_by_half x half = grind (arith, nat_tests)
 
-pub text_space : (x : ℕ) → is_space x ≡ true → is_text x ≡ true
-text_space x space = rw space (or-true (is_bit x))
-
 -- ---- two lines
 
-abbrev pub is_pair_text : ℕ → Bool
-is_pair_text x = is_pair x || is_space x
-
-pub pairs-more : (xs : List ℕ) (x : ℕ) → text_pairs_fault xs ≡ None → is_pair_text x ≡ true
-    → (text_pairs_fault (xs ++ x ∷ []) ≡ None)
-    × (text_pairs (xs ++ x ∷ []) ≡ text_pairs xs ++ cond (is_pair x) (mark_pair x ∷ []) [])
-pairs-more = values-more is_pair mark_pair
-
-pub pairs-stop : (xs : List ℕ) (x : ℕ) → text_pairs_fault xs ≡ None → is_pair_text x ≡ false
-    → (text_pairs_fault (xs ++ x ∷ []) ≡ Some (bad_mark (length xs))) × (text_pairs (xs ++ x ∷ []) ≡ text_pairs xs)
-pairs-stop = values-stop is_pair mark_pair
-
-pub text-pairs-grow : (xs ys : List ℕ) → GrowsTo (text_pair_capture xs) (text_pair_capture (xs ++ ys))
-text-pairs-grow = values-grow is_pair mark_pair
-
-pub mark_is_pair : (x : ℕ) → x / 4 ≡ 12 → (is_pair x ≡ true) × (is_pair_text x ≡ true)
-mark_is_pair x quarter = (grind (arith, nat_tests), grind (arith, nat_tests))
+pub mark_is_pair : (x : ℕ) → x / 4 ≡ 12 → is_pair x ≡ true
+mark_is_pair x quarter = grind (arith, nat_tests)
 
 pub mark_by_quarter : (x : ℕ) → x / 4 ≢ 12 → is_pair x ≡ false
 mark_by_quarter x quarter = grind (arith, nat_tests)
@@ -188,29 +156,7 @@ pub mark_pair_is : (x : ℕ) → x / 4 ≡ 12 → mark_pair x ≡ (x % 2 == 1, x
 mark_pair_is x quarter =
     both_ones ((x - 48) % 2) (x % 2) ((x - 48) / 2) (x / 2 % 2) (omega (arith, quarter)) (omega (arith, quarter))
 
-pub pair_space : (x : ℕ) → is_space x ≡ true → is_pair_text x ≡ true
-pair_space x space = rw space (or-true (is_pair x))
-
 -- ---- two lines with a clock each
-
-abbrev pub is_arrival_text : ℕ → Bool
-is_arrival_text x = is_arrival x || is_space x
-
-pub arrivals-more : (xs : List ℕ) (x : ℕ) → text_arrivals_fault xs ≡ None → is_arrival_text x ≡ true
-    → (text_arrivals_fault (xs ++ x ∷ []) ≡ None)
-    × (text_arrivals (xs ++ x ∷ []) ≡ text_arrivals xs ++ cond (is_arrival x) (mark_arrival x ∷ []) [])
-arrivals-more = values-more is_arrival mark_arrival
-
-pub arrivals-stop : (xs : List ℕ) (x : ℕ) → text_arrivals_fault xs ≡ None → is_arrival_text x ≡ false
-    → (text_arrivals_fault (xs ++ x ∷ []) ≡ Some (bad_mark (length xs)))
-    × (text_arrivals (xs ++ x ∷ []) ≡ text_arrivals xs)
-arrivals-stop = values-stop is_arrival mark_arrival
-
-pub text-arrivals-grow : (xs ys : List ℕ) → GrowsTo (text_arrival_capture xs) (text_arrival_capture (xs ++ ys))
-text-arrivals-grow = values-grow is_arrival mark_arrival
-
-pub arrival_space : (x : ℕ) → is_space x ≡ true → is_arrival_text x ≡ true
-arrival_space x space = rw space (or-true (is_arrival x))
 
 -- the mark of an octet, if it is one
 pub marked-some : (x : ℕ) (a : Bool × Bool) → Some a ≡ (if is_arrival x then Some (mark_arrival x) else None) →

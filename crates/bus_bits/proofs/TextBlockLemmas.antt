@@ -21,7 +21,7 @@ use Rattle.bus_bits.proofs.BitLemmas.{bits-in, bits-more}
 use Rattle.bus_bits.proofs.EightBitsOfNineLemmas.{all_kept, marks_text, text-given}
 use Rattle.bus_bits.proofs.GatherLemmas.{more-given, none-given}
 use Rattle.bus_bits.proofs.OctetLemmas.{bits-front, bits-low, bits-split, bits_of_octets-append, bits_of_octets-push}
-use Rattle.bus_bits.proofs.TextBitsLemmas.{text-more, text_space}
+use Rattle.bus_bits.proofs.TextBitsLemmas.{values-more, space_read}
 use Rattle.bus_bits.proofs.TextMarksLemmas.{space-no-bit}
 use Rattle.bus_bits.proofs.WordLemmas.{bits-octets}
 
@@ -255,7 +255,7 @@ space-passed text block p inside space packed = record {
   given = λ xs clean.
       let x : ℕ = get_or text p.taken 0 in
       let before = packed.given xs clean in
-      let more = text-more (xs ++ take p.taken text) x before.0 (text_space x space) in
+      let more = values-more is_bit (λ y. y == 49) (xs ++ take p.taken text) x before.0 (space_read is_bit x space) in
       let next : (xs ++ take p.taken text) ++ x ∷ [] ≡ xs ++ take (p.taken + 1) text =
       append_assoc xs (take p.taken text) (x ∷ [])
       ∙ ap (λ (z : List ℕ). xs ++ z) (sym (take_more text p.taken 0 inside)) in (

@@ -14,7 +14,7 @@ use Rattle.std.specs.List.{list_all}
 use lib.Lanes.{mask_l, zip2}
 use Rattle.bus_bits.specs.Octet.{bits_of}
 use Rattle.bus_bits.specs.Capture.{is_bit, is_space}
-use Rattle.bus_bits.proofs.TextBitsLemmas.{mark_is_text, mark_by_half}
+use Rattle.bus_bits.proofs.TextBitsLemmas.{mark_is_bit, mark_by_half}
 
 -- the bits of a mask
 pub bits-mask : (ms : List Bool) (k : ℕ) → length ms ≡ k → bits_of k (mask_l ms) ≡ ms
@@ -38,7 +38,7 @@ share-bits x small =
     elim (cases_eq (x / 2) 24) [
       | inl half ↦
           let same : bit_and x 254 ≡ 48 = omega (arith, kept, half) in
-          rw same (sym (mark_is_text x half).0)
+          rw same (sym (mark_is_bit x half))
       | inr no-half ↦
           let other : bit_and x 254 ≢ 48 = λ same-digit. no-half (omega (arith, kept, same-digit)) in
           ne_eqb (bit_and x 254) 48 other ∙ sym (mark_by_half x no-half)

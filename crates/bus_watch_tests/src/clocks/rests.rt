@@ -1,7 +1,7 @@
 //! A second line whose clock stops, brought to rest.
 
 use super::{Arrival, CALL, Turn, analyser, arrivals_in, push};
-use crate::expect::same;
+use crate::expect::{holds, same};
 use bus_fcs::OctetCheck;
 use bus_tap::RestRule;
 use bus_watch::Line;
@@ -85,7 +85,7 @@ const REST_ROWS: [RestRow; 7] = [
     },
 ];
 
-/// What is seen of arrivals with rest put in.
+/// What is seen of arrivals with rest put in by a rule that is kept in numbers from one to the next.
 fn rested(rt: &impl Abort, alloc: Global, most: u64, arrivals: &[Arrival]) -> String {
     let mut analyser = analyser::<OctetCheck>(rt, alloc);
     let mut rule = RestRule::new(most);
@@ -96,6 +96,10 @@ fn rested(rt: &impl Abort, alloc: Global, most: u64, arrivals: &[Arrival]) -> St
             for _ in 0..15 {
                 push(rt, &mut analyser, (Line::Second, true), &mut text);
             }
+        }
+        match RestRule::resume(most, rule.silent(), rule.ones()) {
+            Some(kept) => rule = kept,
+            None => holds(rt, false, "a rule is one of its own numbers"),
         }
     }
     text

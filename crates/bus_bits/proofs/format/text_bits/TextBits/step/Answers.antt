@@ -1,15 +1,14 @@
-use Rattle.std.proofs.Common.{◌≡◌, true, false, refl, ◌∙◌}
-use Rattle.bus_bits.specs.Capture.{is_space}
-use Rattle.bus_bits.proofs.TextBitsLemmas.{text-more, text-stop, mark_is_text, mark_by_half, text_space}
+use Rattle.std.proofs.Common.{◌≡◌, ◌==◌, true, false, refl, ◌∙◌}
+use Rattle.bus_bits.specs.Capture.{is_bit, is_space}
+use Rattle.bus_bits.proofs.TextBitsLemmas.{values-more, values-stop, mark_is_bit, mark_by_half, space_read}
 use Rattle.bus_bits.proofs.format.text_bits.TextBits.step.Goals as goal
 
 pub returns-then-octet-clause-given : goal.returns-then-octet-clause-given
 returns-then-octet-clause-given c =
     λ xs clean.
-    let octet = c.args.octet in
-    let mark = mark_is_text octet c.if-octet.true in
-    let more = text-more xs octet clean mark.1 in
-    (more.0, more.1 ∙ rw mark.0 refl)
+    let mark = mark_is_bit c.args.octet c.if-octet.true in
+    let more = values-more is_bit (λ x. x == 49) xs c.args.octet clean (rw mark refl) in
+    (more.0, more.1 ∙ rw mark refl)
 
 pub returns-then-is_skipped-clause-given : goal.returns-then-is_skipped-clause-given
 returns-then-is_skipped-clause-given c =
@@ -17,7 +16,7 @@ returns-then-is_skipped-clause-given c =
     let octet = c.args.octet in
     let no-mark = mark_by_half octet c.if-octet.false in
     let space : is_space octet ≡ true = cc in
-    let more = text-more xs octet clean (text_space octet space) in
+    let more = values-more is_bit (λ x. x == 49) xs octet clean (space_read is_bit octet space) in
     (more.0, more.1 ∙ rw no-mark refl)
 
 pub returns-else-is_skipped-clause-given : goal.returns-else-is_skipped-clause-given
@@ -26,4 +25,4 @@ returns-else-is_skipped-clause-given c =
     let octet = c.args.octet in
     let no-mark = mark_by_half octet c.if-octet.false in
     let no-space : is_space octet ≡ false = cc in
-    text-stop xs octet clean (rw no-mark no-space)
+    values-stop is_bit (λ x. x == 49) xs octet clean (rw no-mark no-space)
