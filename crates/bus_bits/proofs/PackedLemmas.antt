@@ -1,7 +1,7 @@
 -- Packed captures, one octet more and any cut.
 use Rattle.std.proofs.Common.{◌≡◌, ℕ, zero, suc, ◌+◌, ◌-◌, ◌*◌, ◌/◌, ◌%◌, ◌^◌, ◌<◌, ◌≤◌, ◌==◌, inl, inr, Bool, true}
-use Rattle.std.proofs.Common.{false, List, [], ◌∷◌, ◌++◌, length, take, drop, codes, slice_range}
-use Rattle.std.proofs.Common.{Option, Some, None, All, refl, sym, ap, ◌∙◌, subst, arith, length-append, append_assoc}
+use Rattle.std.proofs.Common.{false, List, [], ◌∷◌, ◌++◌, length, take, drop, slice_range, Option, Some, None, All}
+use Rattle.std.proofs.Common.{refl, sym, ap, ◌∙◌, subst, arith, length-append, append_assoc}
 use Rattle.std.proofs.lemmas.List.{append-nil, length-take, take_all, drop_all, take_at, take-append-le, drop-append-le}
 use Rattle.std.proofs.lemmas.List.{length-drop, drop_at}
 use Rattle.std.proofs.Math.Seq.{take-append-add, drop-append-add}
@@ -9,10 +9,9 @@ use Rattle.std.specs.Int.{w64, from_le_bytes, next_multiple_of}
 use Rattle.std.specs.List.{list_any, starts_with}
 use Rattle.std.specs.Cmp.Lexicographic.{pointwise}
 use Rattle.bus_bits.specs.Octet.{bits_of, bits_of_octets}
-use Rattle.bus_bits.specs.Capture.{CaptureOf, Capture, CaptureFault, pad_bits, trailing, short_head}
-use Rattle.bus_bits.specs.Capture.{short_body, GrowsTo}
-use Rattle.bus_bits.specs.Packed.{head_bits, head_fault_by, head_fault, unused, wanted, packed_body, headed, capture_by}
-use Rattle.bus_bits.specs.Packed.{packed_capture, filled, whole_by, packed_whole, PackedAfter}
+use Rattle.bus_bits.specs.Capture.{CaptureOf, Capture, CaptureFault, pad_bits, trailing, short_head, GrowsTo}
+use Rattle.bus_bits.specs.Packed.{head_bits, head_fault_by, unused, wanted, packed_body, headed, capture_by, filled}
+use Rattle.bus_bits.specs.Packed.{whole_by, PackedAfter}
 use Rattle.bus_bits.proofs.CaptureLemmas.{lt_true, le_false, same, le_or_lt, take_past, same_grows, clean_grows}
 use Rattle.bus_bits.proofs.CaptureLemmas.{grows_along}
 use Rattle.bus_bits.proofs.OctetLemmas.{length-bits, length-bits_of_octets, bits_of_octets-push, bits_of_octets-append}
@@ -280,8 +279,6 @@ word-front (o ∷ os) rest small =
     (sym (bits-low 8 (further * 256 + o)) ∙ ap (bits_of 8) low)
     ∙ rw (high, word-front os rest (λ i d inside. small (suc i) d (omega (arith, inside)))) refl
 
--- ---- the end of the input
-
 -- ---- any cut of what stands after a head
 
 slice_kept : (a b : ℕ) (xs ys : List ℕ) → a ≤ b → b ≤ length xs → slice_range (xs ++ ys) a b ≡ slice_range xs a b
@@ -308,6 +305,9 @@ headed_grows (Some f) c d grows = same_grows (headed (Some f) c) (headed (Some f
 
 filled_grows : {A : Type 0} (n : ℕ) (c : CaptureOf A) → GrowsTo c (filled n c)
 filled_grows n c = ([], sym (append-nil c.bits), λ f is. rw is refl)
+
+pub letters-few : (letters : List ℕ) → length letters ≡ 8 → length letters ≤ 16
+letters-few letters eight = omega arith
 
 -- a head that begins with these letters, and the body after it
 module _ {A : Type 0} (letters : List ℕ) (body : ℕ → List ℕ → CaptureOf A) where
@@ -370,34 +370,9 @@ module _ {A : Type 0} (letters : List ℕ) (body : ℕ → List ℕ → CaptureO
         refl (whole_long xs long) (filled_grows (head_bits xs) (behind xs))
   ]
 
--- ---- any cut of a capture of one line
-
 pub body-grows : (n : ℕ) (xs ys : List ℕ) → GrowsTo (packed_body n xs) (packed_body n (xs ++ ys))
 body-grows n xs ys =
     grows_along (packed_body n xs) (packed_body n xs) (packed_body n (xs ++ ys))
     (wanted n (bits_of_octets xs ++ bits_of_octets ys)) refl
     (ap (wanted n) (bits_of_octets-append xs ys))
     (wanted-grows n (bits_of_octets xs) (bits_of_octets ys) (by_eights xs) (by_eights ys))
-
-pub letters-few : length (codes "TS2BITS1") ≤ 16
-letters-few = let eight : length (codes "TS2BITS1") ≡ 8 = refl in omega arith
-
-pub packed-grows : (xs ys : List ℕ) → GrowsTo (packed_capture xs) (packed_capture (xs ++ ys))
-unfolding packed_capture
-packed-grows = behind-grows (codes "TS2BITS1") packed_body letters-few body-grows
-
-pub packed-short_head : (xs : List ℕ) → length xs < 16
-    → (packed_capture xs ≡ record { bits = []; fault = None })
-    × (packed_whole xs ≡ record { bits = []; fault = Some short_head })
-unfolding packed_capture packed_whole
-packed-short_head = behind-short (codes "TS2BITS1") packed_body
-
-pub packed-headed : (head xs : List ℕ) → length head ≡ 16
-    → (packed_capture (head ++ xs) ≡ headed (head_fault head) (packed_body (head_bits head) xs))
-    × (packed_whole (head ++ xs) ≡ filled (head_bits head) (headed (head_fault head) (packed_body (head_bits head) xs)))
-unfolding packed_capture packed_whole
-packed-headed = behind-headed (codes "TS2BITS1") packed_body letters-few
-
-pub packed-ends : (xs : List ℕ) → GrowsTo (packed_capture xs) (packed_whole xs)
-unfolding packed_capture packed_whole
-packed-ends = behind-ends (codes "TS2BITS1") packed_body

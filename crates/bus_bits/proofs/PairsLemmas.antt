@@ -1,20 +1,16 @@
 -- Packed captures of pairs, one octet more and any cut.
 use Rattle.std.proofs.Common.{◌≡◌, ℕ, zero, suc, ◌+◌, ◌-◌, ◌*◌, ◌/◌, ◌%◌, ◌<◌, ◌≤◌, ◌==◌, min, inl, inr, Bool, true}
-use Rattle.std.proofs.Common.{false, List, [], ◌∷◌, ◌++◌, length, map, take, drop, codes, Some, None, refl, sym, ap}
-use Rattle.std.proofs.Common.{◌∙◌, arith}
+use Rattle.std.proofs.Common.{false, List, [], ◌∷◌, ◌++◌, length, map, take, drop, Some, refl, sym, ap, ◌∙◌, arith}
 use Rattle.std.proofs.lemmas.List.{length-take, length-drop, take_all, drop_all}
 use Rattle.std.specs.List.{list_any}
 use Rattle.bus_bits.specs.Octet.{bits_of, bits_of_octets}
-use Rattle.bus_bits.specs.Capture.{mark_pair, Capture, PairCapture, pad_bits, trailing, short_head, GrowsTo}
-use Rattle.bus_bits.specs.Packed.{head_bits, pair_head_fault, wanted, packed_body, in_pairs, pair_body, headed}
-use Rattle.bus_bits.specs.Packed.{packed_pair_capture, filled, packed_pair_whole, PackedAfter, PairsAfter}
-use Rattle.bus_bits.specs.Packed.{arrival_head_fault, packed_arrival_capture, packed_arrival_whole}
+use Rattle.bus_bits.specs.Capture.{mark_pair, Capture, PairCapture, pad_bits, trailing, GrowsTo}
+use Rattle.bus_bits.specs.Packed.{wanted, packed_body, in_pairs, pair_body, PackedAfter, PairsAfter}
 use Rattle.bus_bits.proofs.CaptureLemmas.{le_or_lt, same}
 use Rattle.bus_bits.proofs.OctetLemmas.{length-bits, bits_of_eight}
 use Rattle.bus_bits.proofs.TextBitsLemmas.{both_ones}
 use Rattle.bus_bits.proofs.PackedLemmas.{pads, wanted-pads, wanted-bits, by_eights, packed-new, packed-trailing}
-use Rattle.bus_bits.proofs.PackedLemmas.{packed-pad, packed-more, wholes-taken, body-grows, behind-short, behind-headed}
-use Rattle.bus_bits.proofs.PackedLemmas.{behind-grows, behind-ends}
+use Rattle.bus_bits.proofs.PackedLemmas.{packed-pad, packed-more, wholes-taken, body-grows}
 
 -- ---- bits two by two
 
@@ -109,7 +105,7 @@ paired-grows c d even grows = (
   λ f is. ap paired (grows.2 f is),
 )
 
-pair-body-grows : (n : ℕ) (xs ys : List ℕ) → GrowsTo (pair_body n xs) (pair_body n (xs ++ ys))
+pub pair-body-grows : (n : ℕ) (xs ys : List ℕ) → GrowsTo (pair_body n xs) (pair_body n (xs ++ ys))
 pair-body-grows n xs ys =
     paired-grows (packed_body (2 * n) xs) (packed_body (2 * n) (xs ++ ys)) (even-body n xs) (body-grows (2 * n) xs ys)
 
@@ -177,55 +173,3 @@ pairs-taken n xs os left after enough =
       from-bits n (xs ++ os) (left - 4 * length os) (2 * left - 8 * length os) taken.0 (omega (arith, enough)),
       ap in_pairs taken.1 ∙ pairs-append (packed_body (2 * n) xs).bits (bits_of_octets os) (even-body n xs),
     )
-
--- ---- any cut of a capture
-
-letters-few : length (codes "TS2BITS2") ≤ 16
-letters-few = let eight : length (codes "TS2BITS2") ≡ 8 = refl in omega arith
-
-arrival-letters-few : length (codes "TS2BITS3") ≤ 16
-arrival-letters-few = let eight : length (codes "TS2BITS3") ≡ 8 = refl in omega arith
-
-pub packed-pairs-grow : (xs ys : List ℕ) → GrowsTo (packed_pair_capture xs) (packed_pair_capture (xs ++ ys))
-unfolding packed_pair_capture
-packed-pairs-grow = behind-grows (codes "TS2BITS2") pair_body letters-few pair-body-grows
-
-pub packed-pairs-end : (xs : List ℕ) → GrowsTo (packed_pair_capture xs) (packed_pair_whole xs)
-unfolding packed_pair_capture packed_pair_whole
-packed-pairs-end = behind-ends (codes "TS2BITS2") pair_body
-
-pub pairs-short_head : (xs : List ℕ) → length xs < 16
-    → (packed_pair_capture xs ≡ record { bits = []; fault = None })
-    × (packed_pair_whole xs ≡ record { bits = []; fault = Some short_head })
-unfolding packed_pair_capture packed_pair_whole
-pairs-short_head = behind-short (codes "TS2BITS2") pair_body
-
-pub pairs-headed : (head xs : List ℕ) → length head ≡ 16
-    → (packed_pair_capture (head ++ xs) ≡ headed (pair_head_fault head) (pair_body (head_bits head) xs))
-    × (packed_pair_whole (head ++ xs) ≡ filled (head_bits head)
-    (headed (pair_head_fault head) (pair_body (head_bits head) xs)))
-unfolding packed_pair_capture packed_pair_whole
-pairs-headed = behind-headed (codes "TS2BITS2") pair_body letters-few
-
--- ---- the same of arrivals
-
-pub packed-arrivals-grow : (xs ys : List ℕ) → GrowsTo (packed_arrival_capture xs) (packed_arrival_capture (xs ++ ys))
-unfolding packed_arrival_capture
-packed-arrivals-grow = behind-grows (codes "TS2BITS3") pair_body arrival-letters-few pair-body-grows
-
-pub packed-arrivals-end : (xs : List ℕ) → GrowsTo (packed_arrival_capture xs) (packed_arrival_whole xs)
-unfolding packed_arrival_capture packed_arrival_whole
-packed-arrivals-end = behind-ends (codes "TS2BITS3") pair_body
-
-pub arrivals-short_head : (xs : List ℕ) → length xs < 16
-    → (packed_arrival_capture xs ≡ record { bits = []; fault = None })
-    × (packed_arrival_whole xs ≡ record { bits = []; fault = Some short_head })
-unfolding packed_arrival_capture packed_arrival_whole
-arrivals-short_head = behind-short (codes "TS2BITS3") pair_body
-
-pub arrivals-headed : (head xs : List ℕ) → length head ≡ 16
-    → (packed_arrival_capture (head ++ xs) ≡ headed (arrival_head_fault head) (pair_body (head_bits head) xs))
-    × (packed_arrival_whole (head ++ xs) ≡ filled (head_bits head)
-    (headed (arrival_head_fault head) (pair_body (head_bits head) xs)))
-unfolding packed_arrival_capture packed_arrival_whole
-arrivals-headed = behind-headed (codes "TS2BITS3") pair_body arrival-letters-few

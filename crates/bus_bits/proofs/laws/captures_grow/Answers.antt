@@ -1,7 +1,8 @@
-use Rattle.std.proofs.Common.{◌==◌}
+use Rattle.std.proofs.Common.{◌==◌, codes, refl}
 use Rattle.bus_bits.specs.Capture.{is_bit}
+use Rattle.bus_bits.specs.Packed.{packed_body, packed_capture, packed_whole}
 use Rattle.bus_bits.proofs.CaptureLemmas.{capped-grows}
-use Rattle.bus_bits.proofs.PackedLemmas.{packed-grows, packed-ends}
+use Rattle.bus_bits.proofs.PackedLemmas.{behind-grows, behind-ends, letters-few, body-grows}
 use Rattle.bus_bits.proofs.TextBitsLemmas.{values-grow}
 use Rattle.bus_bits.proofs.laws.captures_grow.Goals as goal
 
@@ -9,10 +10,12 @@ pub returns-clause-text : goal.returns-clause-text
 returns-clause-text c = values-grow is_bit (λ x. x == 49)
 
 pub returns-clause-packed : goal.returns-clause-packed
-returns-clause-packed c = packed-grows
+unfolding packed_capture
+returns-clause-packed c = behind-grows (codes "TS2BITS1") packed_body (letters-few (codes "TS2BITS1") refl) body-grows
 
 pub returns-clause-ended : goal.returns-clause-ended
-returns-clause-ended c = packed-ends
+unfolding packed_capture packed_whole
+returns-clause-ended c = behind-ends (codes "TS2BITS1") packed_body
 
 pub returns-clause-capped : goal.returns-clause-capped
 returns-clause-capped c = capped-grows

@@ -1,8 +1,12 @@
-use Rattle.bus_bits.proofs.PackedLemmas.{packed-headed, packed-short_head}
+use Rattle.std.proofs.Common.{codes, refl}
+use Rattle.bus_bits.specs.Packed.{packed_body, packed_capture, packed_whole}
+use Rattle.bus_bits.proofs.PackedLemmas.{behind-headed, behind-short, letters-few}
 use Rattle.bus_bits.proofs.laws.packed_is_head_and_body.Goals as goal
 
 pub returns-clause-headed : goal.returns-clause-headed
-returns-clause-headed c = packed-headed
+unfolding packed_capture packed_whole
+returns-clause-headed c = behind-headed (codes "TS2BITS1") packed_body (letters-few (codes "TS2BITS1") refl)
 
 pub returns-clause-short : goal.returns-clause-short
-returns-clause-short c = packed-short_head
+unfolding packed_capture packed_whole
+returns-clause-short c = behind-short (codes "TS2BITS1") packed_body
