@@ -248,7 +248,7 @@ spent-none s cost longest n =
 -- no data
 pub appends-none : {C : Type 0} {view : CheckView C} (d : LineState C) → AppendsBits view d [] d
 appends-none {C} {view} d = record {
-  none = λ empty. refl;
+  none = λ early. refl;
   holds = λ bits held. rw (append-nil bits) held;
   spent = λ bits held. spent-none d.spent view.cost d.longest (length bits);
   kept = refl;

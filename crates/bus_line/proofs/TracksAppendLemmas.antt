@@ -12,6 +12,7 @@ use Rattle.bus_bits.specs.declared.spent.Spent.{Spent}
 use Rattle.bus_bits.proofs.OctetLemmas.{number-append, number-bits, number-lt, length-bits, octets-push, octets-append}
 use Rattle.bus_fcs.specs.Check.{CheckView}
 use Rattle.bus_line.specs.Internal.LineState.{LineState}
+use Rattle.bus_line.specs.Internal.LineView.{settles_from}
 use Rattle.bus_line.specs.Internal.Tracks.{Holds}
 use Rattle.bus_line.specs.Internal.Settled.{AppendsBits, HoldsOctets, StoresOctets, more_within, octets_more}
 use Rattle.bus_line.specs.Internal.Settled.{low_octets}
@@ -211,8 +212,8 @@ keeps-set : {C : Type 0} (folded : C → List ℕ → Type 0) (a : LineState C) 
 keeps-set folded a data_bits partial spent os kept = record { held = kept.held; checked = kept.checked }
 
 -- the data bits, the octets that they fill, and the counters
-pub appended : {C : Type 0} {view : CheckView C} (d a e : LineState C) (n bits j k : ℕ) → 0 < n → n ≤ 56
-    → bits < 2 ^ n → j ≡ joined d.partial (d.data_bits % 8) bits → k ≡ (d.data_bits % 8 + n) / 8
+pub appended : {C : Type 0} {view : CheckView C} (d a e : LineState C) (n bits j k : ℕ)
+    → settles_from d.first < d.place → n ≤ 56 → bits < 2 ^ n → j ≡ joined d.partial (d.data_bits % 8) bits → k ≡ (d.data_bits % 8 + n) / 8
     → a ≡ record d { octets = a.octets; check = a.check }
     → ((got : List Bool) → Holds view.folded d got → HoldsOctets view.folded a (octets got))
     → StoresOctets view (record a {
@@ -221,13 +222,13 @@ pub appended : {C : Type 0} {view : CheckView C} (d a e : LineState C) (n bits j
       spent = record d.spent { assembled = d.spent.assembled + n };
     }) (low_octets k j) e
     → AppendsBits view d (bits_of n bits) e
-appended {C} {view} d a e n bits j k some few small is-joined is-full same begun stores =
+appended {C} {view} d a e n bits j k late few small is-joined is-full same begun stores =
     let longest = ap (λ (s : LineState C). s.longest) same in
     let t : Spent = record d.spent { assembled = d.spent.assembled + n } in
     let set = λ (os : List ℕ) (kept : HoldsOctets view.folded a os).
     keeps-set view.folded a (d.data_bits + n) (j / 2 ^ (8 * k)) t os kept in
     record {
-      none = λ empty. absurd (omega (arith, some, ap length empty, length-bits n bits));
+      none = λ early. absurd (omega (arith, late, early));
       holds = λ got holds.
           holds-joined view.folded d e n bits got holds few small (ap (λ (s : LineState C). s.data_bits) stores.kept)
           (ap (λ (s : LineState C). s.partial) stores.kept ∙ rw (is-joined, is-full) refl)

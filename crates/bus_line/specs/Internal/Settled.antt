@@ -1,11 +1,12 @@
 -- Many bits at once: where they stop, and what they settle.
-use Rattle.std.specs.Prelude.{◌≡◌, ◌≢◌, ℕ, zero, suc, ◌+◌, ◌-◌, ◌*◌, ◌/◌, ◌%◌, ◌^◌, ◌<◌, ◌==◌, ◌⊎◌, Bool, List, [], ◌∷◌}
+use Rattle.std.specs.Prelude.{◌≡◌, ◌≢◌, ℕ, zero, suc, ◌+◌, ◌-◌, ◌*◌, ◌/◌, ◌%◌, ◌^◌, ◌<◌, ◌≤◌, ◌==◌, ◌⊎◌, Bool, List, [], ◌∷◌}
 use Rattle.std.specs.Prelude.{◌++◌, length, take, drop, min, if◌then◌else◌}
 use Rattle.bus_bits.specs.Octet.{number}
 use Rattle.bus_fcs.specs.Check.{CheckView}
 use Rattle.bus_line.specs.Internal.Run.{ones_at_end}
 use Rattle.bus_line.specs.Due.{current}
 use Rattle.bus_line.specs.Internal.LineState.{LineState}
+use Rattle.bus_line.specs.Internal.LineView.{settles_from}
 use Rattle.bus_line.specs.Internal.Tracks.{HasTaken, Holds, HoldsFor, Counts, first_of, padded}
 
 -- none of the first `n` bits stands after exactly six ones or exactly fourteen
@@ -68,10 +69,10 @@ pub record StoresOctets {C : Type 0} (view : CheckView C) (old : LineState C) (m
       }
   pub kept : new ≡ record old { octets = new.octets; check = new.check; spent = new.spent }
 
--- data bits were appended to the piece, and counted; none change nothing
+-- data bits were appended to the piece, and counted; before one is settled nothing changed
 pub record AppendsBits {C : Type 0} (view : CheckView C) (old : LineState C) (more : List Bool)
     (new : LineState C) : Type 0 where
-  pub none : more ≡ [] → new ≡ old
+  pub none : old.place ≤ settles_from old.first → new ≡ old
   pub holds : (bits : List Bool) → Holds view.folded old bits → Holds view.folded new (bits ++ more)
   pub spent : (bits : List Bool) → Holds view.folded old bits
       → new.spent ≡ record old.spent {

@@ -25,12 +25,13 @@ impl DecoderWords {
         more: Bits,
     )
         requires sound { IsDecoder self.old (F.octets frame.old) }
+        requires early { self.old.place ≤ self.old.settles_at → more.count ≡ 0 }
         requires room { self.old.assembled + more.count ≤ self.old.place - self.old.origin }
         ensures appends { AppendsBits C.check (state self.old check.old (F.octets frame.old))
             (bits_of more.count more.bits) (state self.new check.new (F.octets frame.new)) }
         ensures sound { IsDecoder self.new (F.octets frame.new) }
     {
-        if more.count == 0 {
+        if self.place <= self.settles_at {
             return;
         }
         let held = self.data_bits % 8;

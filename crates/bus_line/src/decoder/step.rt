@@ -97,6 +97,7 @@ impl DecoderWords {
         ensures consumes { (check : C) (octets : List ℕ) (new : LineState C) →
             AppendsBits C.check (state self.new check octets) (bits_of result.count result.bits) new →
             ConsumesBits C.check (state self.old check octets) (bits_of count bits) new }
+        ensures early { self.new.place ≤ self.new.settles_at → result.count ≡ 0 }
         ensures room { self.new.assembled + result.count ≤ self.new.place - self.new.origin }
         ensures sound { (octets : List ℕ) → IsDecoder self.old octets → IsDecoder self.new octets }
     {

@@ -11,6 +11,7 @@ use Rattle.bus_line.specs.Words.{state}
 use Rattle.bus_line.specs.declared.decoder_words.DecoderWords.{DecoderWords}
 use Rattle.bus_line.specs.Internal.Settled.{AppendsBits, StoresOctets, more_within, low_octets}
 use Rattle.bus_line.proofs.SettleLemmas.{appends-none}
+use Rattle.bus_line.proofs.WordsLemmas.{settles-told}
 use Rattle.bus_line.proofs.TracksAppendLemmas.{appended, joined, keeps-more, length-octets_of, octets-next}
 use Rattle.bus_line.proofs.decoder_words.DecoderWords.append.Goals as goal
 
@@ -59,12 +60,12 @@ loop-preserved g c =
           ∙ ap (λ (f : ℕ). record c.zero.result { folded = f }) (omega arith));
     }
 
-pub returns-then-more-eq0-clause-appends : goal.returns-then-more-eq0-clause-appends
+pub returns-then-self-clause-appends : goal.returns-then-self-clause-appends
 unfolding bits_of
-returns-then-more-eq0-clause-appends g c =
+returns-then-self-clause-appends g c =
     let d = state c.args.self.now c.args.check.now (g.F.FrameBuffer.octets c.args.frame.now) in
-    subst (λ (n : ℕ). AppendsBits g.C.Check.check d (bits_of n c.args.more.bits) d) (sym c.if-more-eq0.true)
-    (appends-none d)
+    subst (λ (n : ℕ). AppendsBits g.C.Check.check d (bits_of n c.args.more.bits) d)
+    (sym (c.requires.early c.if-self.true)) (appends-none d)
 
 pub returns-clause-appends : goal.returns-clause-appends
 returns-clause-appends g c =
@@ -103,7 +104,7 @@ returns-clause-appends g c =
     } in
     appended (state old c.args.check.now (octets c.args.frame.now))
     (state old c.begin.new.check (octets c.begin.new.frame)) e c.args.more.count c.args.more.bits j n
-    (omega (arith, c.if-more-eq0.false)) c.args.more.few c.args.more.small refl refl refl c.begin.ensures.keeps stores
+    (omega (arith, settles-told old.settles_at c.requires.sound.within.settles_late, c.if-self.false)) c.args.more.few c.args.more.small refl refl refl c.begin.ensures.keeps stores
 
 pub returns-clause-sound : goal.returns-clause-sound
 returns-clause-sound g c =

@@ -47,7 +47,9 @@ returns-then-self-clause-consumes g c check octets new appends =
     let old = c.args.self.now in
     let x = c.args.bits in
     let n = c.args.count in
-    subst (ConsumesBits g.C.Check.check (state old check octets) (bits_of n x)) (sym (appends.none refl)) (record {
+    let told = settles-told old.settles_at c.requires.within.settles_late in
+    subst (ConsumesBits g.C.Check.check (state old check octets) (bits_of n x))
+    (sym (appends.none (omega (arith, told, c.if-self.true)))) (record {
       longest = refl;
       origin = refl;
       place = omega (arith, length-bits n x);
@@ -55,8 +57,7 @@ returns-then-self-clause-consumes g c check octets new appends =
           let shifted = newest old check octets b x n c.newest-self.result stands c.requires.count.1
           c.newest-self.ensures no_stop in
           front-tracks b x n c.requires.count.1
-          (word-unsettled old.settles_at (first_in old.settles_at) shifted refl
-          (settles-told old.settles_at c.requires.within.settles_late) c.if-self.true);
+          (word-unsettled old.settles_at (first_in old.settles_at) shifted refl told c.if-self.true);
     })
 
 pub returns-clause-consumes : goal.returns-clause-consumes
