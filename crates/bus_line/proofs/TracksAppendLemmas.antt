@@ -213,7 +213,8 @@ keeps-set folded a data_bits partial spent os kept = record { held = kept.held; 
 
 -- the data bits, the octets that they fill, and the counters
 pub appended : {C : Type 0} {view : CheckView C} (d a e : LineState C) (n bits j k : ℕ)
-    → settles_from d.first < d.place → n ≤ 56 → bits < 2 ^ n → j ≡ joined d.partial (d.data_bits % 8) bits → k ≡ (d.data_bits % 8 + n) / 8
+    → settles_from d.first < d.place → n ≤ 56 → bits < 2 ^ n
+    → j ≡ joined d.partial (d.data_bits % 8) bits → k ≡ (d.data_bits % 8 + n) / 8
     → a ≡ record d { octets = a.octets; check = a.check }
     → ((got : List Bool) → Holds view.folded d got → HoldsOctets view.folded a (octets got))
     → StoresOctets view (record a {

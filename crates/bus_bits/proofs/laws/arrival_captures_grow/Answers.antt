@@ -12,7 +12,8 @@ returns-clause-text c = values-grow is_arrival mark_arrival
 
 pub returns-clause-packed : goal.returns-clause-packed
 unfolding packed_arrival_capture
-returns-clause-packed c = behind-grows (codes "TS2BITS3") pair_body (letters-few (codes "TS2BITS3") refl) pair-body-grows
+returns-clause-packed c =
+    behind-grows (codes "TS2BITS3") pair_body (letters-few (codes "TS2BITS3") refl) pair-body-grows
 
 pub returns-clause-ended : goal.returns-clause-ended
 unfolding packed_arrival_capture packed_arrival_whole

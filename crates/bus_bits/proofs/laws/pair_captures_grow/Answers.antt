@@ -12,7 +12,8 @@ returns-clause-text c = values-grow is_pair mark_pair
 
 pub returns-clause-packed : goal.returns-clause-packed
 unfolding packed_pair_capture
-returns-clause-packed c = behind-grows (codes "TS2BITS2") pair_body (letters-few (codes "TS2BITS2") refl) pair-body-grows
+returns-clause-packed c =
+    behind-grows (codes "TS2BITS2") pair_body (letters-few (codes "TS2BITS2") refl) pair-body-grows
 
 pub returns-clause-ended : goal.returns-clause-ended
 unfolding packed_pair_capture packed_pair_whole

@@ -102,9 +102,10 @@ returns-clause-appends g c =
           }) (sym all ∙ gained);
       kept = refl;
     } in
+    let told = settles-told old.settles_at c.requires.sound.within.settles_late in
     appended (state old c.args.check.now (octets c.args.frame.now))
     (state old c.begin.new.check (octets c.begin.new.frame)) e c.args.more.count c.args.more.bits j n
-    (omega (arith, settles-told old.settles_at c.requires.sound.within.settles_late, c.if-self.false)) c.args.more.few c.args.more.small refl refl refl c.begin.ensures.keeps stores
+    (omega (arith, told, c.if-self.false)) c.args.more.few c.args.more.small refl refl refl c.begin.ensures.keeps stores
 
 pub returns-clause-sound : goal.returns-clause-sound
 returns-clause-sound g c =
