@@ -16,7 +16,7 @@ use Rattle.bus_line.specs.Internal.Tracks.{HasTaken, Tracks}
 use Rattle.bus_line.specs.After.{After}
 use Rattle.bus_line.specs.Internal.Settled.{HasNoStop, IsWord, IsStop}
 use Rattle.bus_line.proofs.DueMoreLemmas.{placed-more}
-use Rattle.bus_line.proofs.StepLemmas.{nothing-due}
+use Rattle.bus_line.proofs.StepLemmas.{decides-nothing}
 use Rattle.bus_line.proofs.WordLemmas.{last-below, word-made, word-just}
 use Rattle.bus_line.proofs.SettleLemmas.{next-bit, mark-no_stop}
 
@@ -53,7 +53,7 @@ no_stop-placed origin longest n b bits no_stop (suc i) within inside =
     let u = b ++ take i bits in
     let x = get_or bits i false in
     let here = no_stop i (omega (arith, within)) in
-    let nothing = nothing-due longest u x here.0 here.1 in
+    let nothing = (decides-nothing longest u x here.0 here.1).answers in
     ap (placed origin longest) (next-bit i b bits (omega (arith, inside)))
     ∙ (placed-more origin longest u x None (sym (ap (option_map (moved origin)) nothing))
     ∙ (append-nil (placed origin longest u) ∙ no_stop-placed origin longest n b bits no_stop i (omega (arith, within))
@@ -68,13 +68,9 @@ no_stop-after view n d b bits no_stop within tracks =
 
 -- ---- the bit after bits without a stop
 
-last-list : (n : ℕ) (b bits : List Bool) → n < length bits →
-    b ++ take (n + 1) bits ≡ (b ++ take n bits) ++ get_or bits n false ∷ []
-last-list n b bits inside = let next : n + 1 ≡ suc n = omega arith in rw next (next-bit n b bits inside)
-
 -- is still to be decided
 pub tracks-last : {C : Type 0} (view : CheckView C) (n : ℕ) (d : LineState C) (b bits : List Bool) →
-    HasNoStop b bits n → n < length bits → Tracks view d (b ++ take (n + 1) bits) (current b)
+    HasNoStop b bits n → n < length bits → Tracks view d (b ++ take (suc n) bits) (current b)
     → Tracks view d ((b ++ take n bits) ++ get_or bits n false ∷ []) (current (b ++ take n bits))
 tracks-last view n d b bits no_stop inside tracks =
-    rw (← last-list n b bits inside, mark-no_stop b bits n n no_stop (omega arith) (omega (arith, inside))) tracks
+    rw (← next-bit n b bits inside, mark-no_stop b bits n n no_stop (omega arith) (omega (arith, inside))) tracks

@@ -1,11 +1,11 @@
 -- Bits of a piece, and the one after six ones.
 use Rattle.std.proofs.Common.{◌≡◌, ◌≢◌, ℕ, ◌+◌, ◌-◌, ◌*◌, ◌/◌, ◌%◌, ◌^◌, ◌≤◌, ◌<◌, ◌++◌, List, [], ◌∷◌, Bool, arith}
 use Rattle.std.proofs.Common.{false, true, not, Option, None, ap, refl, sym, subst, ◌∙◌, length, length-append, take}
-use Rattle.std.proofs.Common.{get_or}
+use Rattle.std.proofs.Common.{get_or, suc}
 use Rattle.std.specs.Prelude.{bit_or}
 use Rattle.std.specs.Option.{option_map, option_to_list}
 use Rattle.std.proofs.lemmas.Bool.{not-false}
-use Rattle.std.proofs.lemmas.List.{append-nil, append_assoc, take_all}
+use Rattle.std.proofs.lemmas.List.{append-nil, append_assoc, take_all, take_at, length_push}
 use Rattle.bus_bits.specs.Bits.{bits_from}
 use Rattle.bus_bits.specs.Octet.{bits_of}
 use Rattle.bus_bits.proofs.OctetLemmas.{bits-front, length-bits}
@@ -74,7 +74,7 @@ module _ {C : Type 0} {view : CheckView C} {old new : LineState C} {bits : List 
       AdvancesTo view old bits new
   ran-last some no_stop =
       let n : ℕ = length bits - 1 in
-      let all : take (n + 1) bits ≡ bits = take_all (n + 1) bits (omega (arith, some)) in
+      let all : take (suc n) bits ≡ bits = take_all (suc n) bits (omega (arith, some)) in
       record {
         front = take n bits;
         last = get_or bits n false;
@@ -128,7 +128,8 @@ decided {C} {view} {old} {mid} {new} {bits} {event} reached decision =
     let report = option_map (reported new.octets) event in
     let joined : (b : List Bool) → (b ++ front) ++ last ∷ [] ≡ b ++ bits =
     λ b. append_assoc b front (last ∷ []) ∙ ap (λ (z : List Bool). b ++ z) (sym reached.all) in
-    let fewer : take (length bits - 1) bits ≡ front = but-last bits front last reached.all in
+    let fewer : take (length bits - 1) bits ≡ front = ap (take (length bits - 1)) reached.all
+    ∙ take_at front (last ∷ []) (length bits - 1) (omega (arith, ap length reached.all, length_push front last)) in
     record {
       decides = record {
         leads = record {
@@ -147,17 +148,6 @@ decided {C} {view} {old} {mid} {new} {bits} {event} reached decision =
       };
       before = subst (DecideNothing view old) (sym fewer) reached.before;
     }
-  where
-    take-front : (xs ys : List Bool) → take (length xs) (xs ++ ys) ≡ xs
-    take-front [] ys = refl
-    take-front (x ∷ xs) ys = ap (λ (z : List Bool). x ∷ z) (take-front xs ys)
-
-    but-last : (bits front : List Bool) (last : Bool) → bits ≡ front ++ last ∷ [] → take (length bits - 1) bits ≡ front
-    but-last bits front last all =
-        let size : length bits - 1 ≡ length front =
-        omega (arith, ap length all, length-append front (last ∷ [])) in
-        ap (λ (k : ℕ). take k bits) size
-        ∙ (ap (take (length front)) all ∙ take-front front (last ∷ []))
 
 -- ---- after bits that decide nothing
 

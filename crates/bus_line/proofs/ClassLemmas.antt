@@ -2,9 +2,10 @@
 use Rattle.std.proofs.Common.{◌≡◌, ◌≢◌, ℕ, suc, ◌+◌, ◌-◌, ◌*◌, ◌/◌, ◌%◌, ◌≤◌, ◌<◌, ◌==◌, Bool, true, false, List, []}
 use Rattle.std.proofs.Common.{◌∷◌, ◌++◌, length, take, get_or, refl, sym, ap, ◌∙◌, subst, arith, if◌then◌else◌}
 use Rattle.std.specs.List.{slice_range}
-use Rattle.std.specs.Prelude.{nat_lt, IsTrue, ◌↔◌}
+use Rattle.std.specs.Prelude.{nat_lt, IsTrue, ◌↔◌, bit_and}
+use Rattle.std.proofs.lemmas.Nat.{and_mask}
 use Rattle.std.proofs.Math.Seq.{take-add}
-use Rattle.std.proofs.lemmas.List.{length_push, take_all}
+use Rattle.std.proofs.lemmas.List.{length_push, take_all, take_more}
 use Rattle.std.proofs.lemmas.Bool.{false_from_ne_true, eqb-true}
 use Rattle.std.proofs.lemmas.Bool.Decides.{nat_tests}
 use Rattle.bus_bits.specs.Octet.{octets, bits_of_octets}
@@ -17,13 +18,13 @@ use Rattle.bus_line.specs.declared.cause.Cause.TheVariants.{Unstuffed, Short, Un
 use Rattle.bus_line.specs.Due.{FlagAt, current, class_of, class_of_read}
 use Rattle.bus_line.specs.Internal.LineState.{LineState}
 use Rattle.bus_line.specs.Internal.Tracks.{settled_data, Holds, HoldsFor, Tracks}
-use Rattle.bus_line.proofs.RunLemmas.{IsLow, low-from, low-unspelled, ones_after-more}
+use Rattle.bus_line.proofs.RunLemmas.{IsLow, low-unspelled, ones_after-more}
 use Rattle.bus_line.proofs.MarkLemmas.{stands-bit, last_mark-flag}
 use Rattle.bus_line.proofs.DueMoreLemmas.{range-append}
 use Rattle.bus_line.proofs.SpellingRawLemmas.{current-low, low-ones}
 use Rattle.bus_line.proofs.DueStreamLemmas.{flag-fits}
 use Rattle.bus_line.proofs.WordLemmas.{last-bits-five}
-use Rattle.bus_line.proofs.WholeLemmas.{length-octets, take_next, data-checked}
+use Rattle.bus_line.proofs.WholeLemmas.{length-octets, data-checked}
 use Rattle.bus_fcs.proofs.FrameCheckLemmas.{same_test}
 
 ones_after-append : (k : ℕ) (x y : List Bool) → ones_after k (x ++ y) ≡ ones_after (ones_after k x) y
@@ -34,11 +35,11 @@ ones_after-append k (false ∷ x) y = ones_after-append 0 x y
 -- a flag ends in a 0
 flag-zero : (b : List Bool) (p : ℕ) → IsFlag b p → ones_at_end (take (p + 8) b) ≡ 0
 flag-zero b p is-flag =
-    let low : get_or b (p + 7) false ≡ false = stands-bit b p flag 7 is-flag (omega arith) in
+    let low : get_or b (p + 7) false ≡ false = stands-bit b p flag 7 (p + 7) is-flag (omega arith) refl in
     let size : p + 8 ≡ (p + 7) + 1 = omega arith in
     let parts : take (p + 8) b ≡ take (p + 7) b ++ false ∷ [] =
     ap (λ k. take k b) size
-    ∙ (take_next b (p + 7) false (omega (arith, flag-fits b p is-flag)) ∙ ap (λ y. take (p + 7) b ++ y ∷ []) low) in
+    ∙ (take_more b (p + 7) false (omega (arith, flag-fits b p is-flag)) ∙ ap (λ y. take (p + 7) b ++ y ∷ []) low) in
     ap ones_at_end parts ∙ ones_after-more 0 (take (p + 7) b) false
 
 -- the ones at the end of a piece are those at the end of the bits up to there
@@ -53,8 +54,8 @@ piece-ones b p m is-flag within =
 -- the piece that the newest bit closes: its raw bits, and what the decoder holds of their data
 pub record IsClosed {C : Type 0} (folded : C → List ℕ → Type 0) (d : LineState C) (raw : List Bool) : Type 0 where
   pub low : IsLow 0 raw
-  pub five : d.last_bits / 8 % 32 ≡ 31 → 5 ≤ ones_at_end raw
-  pub fewer : 5 ≤ ones_at_end raw → d.last_bits / 8 % 32 ≡ 31
+  pub five : bit_and (d.last_bits / 8) 31 ≡ 31 → 5 ≤ ones_at_end raw
+  pub fewer : 5 ≤ ones_at_end raw → bit_and (d.last_bits / 8) 31 ≡ 31
   pub holds : Holds folded d (data_so_far raw)
 
 pub is_closed : {C : Type 0} {view : CheckView C} {d : LineState C} (b : List Bool) (bit : Bool) (p : ℕ)
@@ -65,28 +66,30 @@ is_closed {C} {view} {d} b bit p tracks last some =
     let same : slice_range (b ++ bit ∷ []) (p + 8) m ≡ slice_range b (p + 8) m =
     range-append b (bit ∷ []) (p + 8) m (omega arith) in
     let end : length (b ++ bit ∷ []) - 8 ≡ m = omega (arith, length_push b bit) in
+    let five-bits : bit_and (d.last_bits / 8) 31 ≡ d.last_bits / 8 % 32 = and_mask (d.last_bits / 8) 5 in
     let shown = last-bits-five d.last_bits b bit (omega arith) tracks.has_taken.last_bits in
     let run : ones_at_end (take m b) ≡ ones_at_end (slice_range (b ++ bit ∷ []) (p + 8) m) =
     piece-ones b p m (last_mark-flag b (length b) p last).flag (omega arith) ∙ ap ones_at_end (sym same) in
     let held : Holds view.folded d (settled_data (b ++ bit ∷ []) p) =
     subst (HoldsFor view.folded d (b ++ bit ∷ [])) last tracks.piece in
     record {
-      low = subst (IsLow 0) (sym same) (low-from (slice_range b (p + 8) m) (current-low b p m last (omega arith)));
-      five = λ is. omega (arith, run, shown.0 is);
-      fewer = λ is. shown.1 (omega (arith, run, is));
+      low = subst (IsLow 0) (sym same) (current-low b p m last (omega arith));
+      five = λ is. omega (arith, run, shown.0 (sym five-bits ∙ is));
+      fewer = λ is. five-bits ∙ shown.1 (omega (arith, run, is));
       holds = subst (λ k. Holds view.folded d (data_so_far (slice_range (b ++ bit ∷ []) (p + 8) k))) end held;
     }
 
 -- five ones before the flag
 pub class-five : {C : Type 0} {folded : C → List ℕ → Type 0} {d : LineState C} {raw : List Bool} (longest : ℕ) →
-    IsClosed folded d raw → d.last_bits / 8 % 32 ≡ 31 → class_of longest raw ≡ Damaged Unstuffed
+    IsClosed folded d raw → bit_and (d.last_bits / 8) 31 ≡ 31 → class_of longest raw ≡ Damaged Unstuffed
 class-five {C} {folded} {d} {raw} longest closed shown =
     let five : (ones_at_end raw == 5) ≡ true = grind (arith, nat_tests, closed.five shown, low-ones 0 raw closed.low) in
     ap (class_of_read longest) (low-unspelled raw closed.low) ∙ rw five refl
 
 -- no five: the data are read
 pub class-read : {C : Type 0} {folded : C → List ℕ → Type 0} {d : LineState C} {raw : List Bool} (longest : ℕ) →
-    IsClosed folded d raw → d.last_bits / 8 % 32 ≢ 31 → class_of longest raw ≡ class_of_data longest (data_so_far raw)
+    IsClosed folded d raw → bit_and (d.last_bits / 8) 31 ≢ 31 →
+    class_of longest raw ≡ class_of_data longest (data_so_far raw)
 class-read {C} {folded} {d} {raw} longest closed not-shown =
     let not-five : (ones_at_end raw == 5) ≡ false =
     false_from_ne_true _ (λ is. not-shown (closed.fewer (omega (arith, eqb-true (ones_at_end raw) 5 is)))) in

@@ -3,7 +3,7 @@ use Rattle.std.proofs.Common.{◌≡◌, ℕ, ◌+◌, ◌-◌, ◌≤◌, ◌<�
 use Rattle.std.proofs.Common.{option_map, refl, sym, ap, ◌∙◌, subst, inl, inr, arith, append_assoc, append-nil}
 use Rattle.std.proofs.Common.{length-append, zero, suc, false, take, drop}
 use Rattle.std.specs.Option.{option_to_list}
-use Rattle.std.proofs.lemmas.Bool.{cases_lt}
+use Rattle.std.proofs.lemmas.Bool.{cases_lt, both_ways}
 use Rattle.bus_line.specs.Spelling.{ones}
 use Rattle.bus_line.specs.Mark.{flag, IsFlag, IsIdle, IsPiece, StandsAt, StartsRun, IsAbort, IsMark}
 use Rattle.bus_line.specs.Report.{Report, Kind, Frame, Damaged, Overlong, Abort, Idle, due, due_by, moved, IsReport}
@@ -13,20 +13,17 @@ use Rattle.bus_line.specs.Suffix.{IsReportOf, closes, aborts, CutAtFlag}
 use Rattle.bus_line.proofs.DueLemmas.{class-due}
 use Rattle.bus_line.proofs.DueMoreLemmas.{reports-more, placed-more}
 use Rattle.bus_line.proofs.ReportLemmas.{due-it}
-use Rattle.bus_line.proofs.OwnedBitsLemmas.{ones-bit, flag-first, clash}
+use Rattle.bus_line.proofs.OwnedBitsLemmas.{ones-bit, flag-first}
 use Rattle.std.specs.List.{slice_range}
-use Rattle.std.proofs.lemmas.List.{drop-drop, drop_at}
+use Rattle.std.proofs.Math.Seq.{drop-append-add}
 
 -- ---- a list after another
 
-drop-past : (u s : List Bool) (q : ℕ) → drop (length u + q) (u ++ s) ≡ drop q s
-drop-past u s q = sym (drop-drop q (length u) (u ++ s)) ∙ ap (drop q) (drop_at u s (length u) refl)
-
 pub stands-to : (u s : List Bool) (q : ℕ) (w : List Bool) → StandsAt s q w → StandsAt (u ++ s) (length u + q) w
-stands-to u s q w h = ap (take (length w)) (drop-past u s q) ∙ h
+stands-to u s q w h = ap (take (length w)) (drop-append-add u s q) ∙ h
 
 pub stands-back : (u s : List Bool) (q : ℕ) (w : List Bool) → StandsAt (u ++ s) (length u + q) w → StandsAt s q w
-stands-back u s q w h = sym (ap (take (length w)) (drop-past u s q)) ∙ h
+stands-back u s q w h = sym (ap (take (length w)) (drop-append-add u s q)) ∙ h
 
 pub fresh-to : (u s : List Bool) (q : ℕ) → 0 < q → StartsRun s q → StartsRun (u ++ s) (length u + q)
 fresh-to u s zero l h = absurd (omega arith)
@@ -77,7 +74,8 @@ range-past : (u s : List Bool) (i m : ℕ) → slice_range (u ++ s) ((length u +
 range-past u s i m =
     let e : (length u + i) + 8 ≡ length u + (i + 8) = omega arith in
     let d : (length u + m) - (length u + (i + 8)) ≡ m - (i + 8) = omega arith in
-    rw e (ap (λ n. take n (drop (length u + (i + 8)) (u ++ s))) d ∙ ap (take (m - (i + 8))) (drop-past u s (i + 8)))
+    rw e (ap (λ n. take n (drop (length u + (i + 8)) (u ++ s))) d
+    ∙ ap (take (m - (i + 8))) (drop-append-add u s (i + 8)))
 
 moved-is : (n i m : ℕ) (kind : Kind) → record { kind = kind; first = (n + i) + 8; past = n + m }
     ≡ moved n (record { kind = kind; first = i + 8; past = m })
@@ -136,7 +134,7 @@ due-moved n r = due-moved-by n r.kind r.first r.past
 -- a flag's first bit is in no run of ones
 not_in_run : (b : List Bool) (p a : ℕ) → IsFlag b p → IsIdle b a → a ≤ p → p < a + 15 → ⊥
 not_in_run b p a is-flag is-idle begun inside =
-    clash b p (flag-first b p p is-flag refl) (ones-bit b a 15 p is-idle.0 refl begun inside)
+    both_ways _ (flag-first b p is-flag) (ones-bit b a 15 p is-idle.0 refl begun inside)
 
 -- ---- after a flag at its beginning, a list has the reports that it has by itself
 to-past : (longest : ℕ) (u s : List Bool) (t : Report) → IsFlag s 0 → IsReport longest s t →

@@ -4,7 +4,7 @@ use Rattle.std.proofs.Common.{ap, refl, sym, subst, ◌∙◌, length, length-ap
 use Rattle.std.specs.Option.{is_some, option_map, option_to_list}
 use Rattle.std.proofs.lemmas.Bool.{true≢false}
 use Rattle.std.proofs.lemmas.List.{append-nil, append_assoc, append_cancel_left, length-take, map-append}
-use Rattle.std.proofs.lemmas.List.{take-append-drop, take_all, take_more}
+use Rattle.std.proofs.lemmas.List.{take-append-drop, take_all, take_more, nil_from_length}
 use Rattle.bus_bits.specs.Bits.{bits_from}
 use Rattle.bus_bits.proofs.BitLemmas.{bits-more, length-from}
 use Rattle.bus_fcs.specs.Check.{CheckView}
@@ -100,12 +100,8 @@ none-before origin longest b xs ys is =
     ∙ (sym (placed-front origin longest (b ++ xs) ys) ∙ (is ∙ sym (append-nil (placed origin longest b))))) in
     let none : length first + length more ≡ 0 = sym (length-append first more)
     ∙ ap length (append_cancel_left (placed origin longest b) (first ++ more) [] both) in
-    one ∙ (ap (λ (z : List Report). placed origin longest b ++ z) (no-items first (omega (arith, none)))
+    one ∙ (ap (λ (z : List Report). placed origin longest b ++ z) (nil_from_length first (omega (arith, none)))
     ∙ append-nil (placed origin longest b))
-  where
-    no-items : (rs : List Report) → length rs ≡ 0 → rs ≡ []
-    no-items [] empty = refl
-    no-items (r ∷ rs) empty = absurd (omega (arith, empty))
 
 -- bits that decide nothing, as bits of which the last decides nothing
 pub advances-quiet : {C : Type 0} {view : CheckView C} {a c : LineState C} {bits : List Bool}
@@ -131,10 +127,9 @@ same-option (Some x) (Some y) same = cc
 pub last-bit : (bits : List Bool) → 1 ≤ length bits
     → bits ≡ take (length bits - 1) bits ++ get_or bits (length bits - 1) false ∷ []
 last-bit bits some =
-    let before = length bits - 1 in
-    let all : before + 1 ≡ length bits = omega (arith, some) in
-    sym (ap (λ (n : ℕ). take n bits) all ∙ take_all (length bits) bits (omega arith))
-    ∙ take_more bits before false (omega (arith, some))
+    let all : length bits ≡ length bits - 1 + 1 = omega (arith, some) in
+    sym (take_all (length bits - 1 + 1) bits (omega arith))
+    ∙ take_more bits (length bits - 1) false (omega (arith, all))
 
 -- of a bit alone
 pub bit-due : {C : Type 0} {view : CheckView C} {a c : LineState C} {bit : Bool}

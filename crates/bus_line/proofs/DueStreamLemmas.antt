@@ -3,8 +3,7 @@ use Rattle.std.proofs.Common.{◌≡◌, ◌≢◌, ℕ, zero, suc, ◌+◌, ◌
 use Rattle.std.proofs.Common.{length, take, drop, get_or, Some, None, refl, sym, ap, ◌∙◌, subst, ◌⊎◌, inl, inr, arith}
 use Rattle.std.specs.List.{slice_range}
 use Rattle.std.proofs.lemmas.List.{append_assoc, length-append, length_push, length-replicate, length-drop, take_all}
-use Rattle.std.proofs.lemmas.List.{drop_at, take-take, drop-take, drop-drop, take-append-drop, get_or_push, drop_more}
-use Rattle.std.proofs.lemmas.List.{take_more, get_or-drop}
+use Rattle.std.proofs.lemmas.List.{drop_at, take-append-drop, get_or_push, drop_more}
 use Rattle.std.proofs.lemmas.Bool.{cases_lt, false_from_ne_true, cond-false, both_ways, true≢false}
 use Rattle.bus_line.specs.Spelling.{ones}
 use Rattle.bus_line.specs.Internal.Run.{ones_after, ones_at_end}
@@ -14,8 +13,8 @@ use Rattle.bus_line.specs.Report.{Abort, Idle, Report}
 use Rattle.bus_line.specs.Due.{is_flag, is_abort, FlagAt, AbortAt, last_mark, class_of, piece_report, due_at, current}
 use Rattle.bus_line.specs.Due.{Mark}
 use Rattle.bus_line.proofs.MarkLemmas.{flag-true, flag-is, abort-true, abort-is, stands-within, stands-bit}
-use Rattle.bus_line.proofs.MarkLemmas.{window-append, is_abort-append, last_mark-append, flag-abort}
-use Rattle.bus_line.proofs.DueMoreLemmas.{range-append}
+use Rattle.bus_line.proofs.MarkLemmas.{window-append, is_abort-append, last_mark-append, flag-abort, fresh-bit}
+use Rattle.bus_line.proofs.MarkLemmas.{stands-part}
 use Rattle.bus_line.proofs.DueLemmas.{due_at-flag, due_at-abort, due_at-idle, no-flag, no-abort, no-idle}
 use Rattle.std.specs.Prelude.{◌≡◌, ℕ, Bool, List, [], ◌∷◌, ◌++◌, length, Option}
 
@@ -55,25 +54,13 @@ runs j (false ∷ b) = elim (runs 0 b) [
 stands-end : (u w : List Bool) → StandsAt (u ++ w) (length u) w
 stands-end u w = ap (take (length w)) (drop_at u w (length u) refl) ∙ take_all (length w) w (omega arith)
 
--- part of what stands
-pub stands-part : (b : List Bool) (p : ℕ) (w : List Bool) (i n m : ℕ) → i + m ≡ length w → n ≤ m → StandsAt b p w →
-    take n (drop (p + i) b) ≡ take n (drop i w)
-stands-part b p w i n m size within stands =
-    let same : take (i + m) (drop p b) ≡ w = subst (λ k. take k (drop p b) ≡ w) (sym size) stands in
-    ap (take n) (sym (drop-drop i p b))
-    ∙ (sym (take-take n m (drop i (drop p b)) within)
-    ∙ (ap (take n) (sym (drop-take i m (drop p b)))
-    ∙ ap (λ xs. take n (drop i xs)) same))
-
 -- a run of ones that ends where the list ends
 pub run-end : (b : List Bool) (a k : ℕ) → StandsAt b a (ones k) → StartsRun b a → a + k ≡ length b → ones_at_end b ≡ k
 run-end b zero k stands start end =
     let all : b ≡ ones k = sym (take_all (length (ones k)) b (omega (arith, length-replicate k true))) ∙ stands in
     ap (ones_after 0) all ∙ (ones_after-ones 0 k ∙ omega arith)
 run-end b (suc q) k stands start end =
-    let bit : get_or b (q + 0) false ≡ false = stands-bit b q (false ∷ []) 0 start (omega arith) in
-    let here : q + 0 ≡ q = omega arith in
-    let zero-bit : get_or b q false ≡ false = subst (λ i. get_or b i false ≡ false) here bit in
+    let zero-bit : get_or b q false ≡ false = fresh-bit b (suc q) q start refl in
     let next : q + 1 ≡ suc q = omega arith in
     let rest : drop (suc q) b ≡ ones k =
     sym (take_all (length (ones k)) (drop (suc q) b) (omega (arith, length-replicate k true, length-drop (suc q) b)))
@@ -107,18 +94,13 @@ run-stands b k run = elim (runs 0 b) [
 pub flag-end : (b : List Bool) (bit : Bool) (p : ℕ) → IsFlag (b ++ bit ∷ []) p → p + 7 ≡ length b →
     (bit ≡ false) × (ones_at_end b ≡ 6) × (6 < length b)
 flag-end b bit p is-flag end =
-    let low : get_or (b ++ bit ∷ []) (p + 7) false ≡ false = stands-bit _ p flag 7 is-flag (omega arith) in
-    let last : get_or (b ++ bit ∷ []) (p + 7) false ≡ bit = get_or_push b bit false (p + 7) (sym end) in
-    let next : p + 1 ≡ suc p = omega arith in
-    let here : p + 0 ≡ p = omega arith in
-    let six : take 6 (drop (p + 1) (b ++ bit ∷ [])) ≡ ones 6 =
-    stands-part (b ++ bit ∷ []) p flag 1 6 7 refl (omega arith) is-flag in
-    let zero-bit : take 1 (drop (p + 0) (b ++ bit ∷ [])) ≡ false ∷ [] =
-    stands-part (b ++ bit ∷ []) p flag 0 1 8 refl (omega arith) is-flag in
-    let run : StandsAt b (suc p) (ones 6) =
-    sym (window-append 6 (suc p) b (bit ∷ []) (omega arith)) ∙ (rw next at six) in
-    let start : StandsAt b p (false ∷ []) =
-    sym (window-append 1 p b (bit ∷ []) (omega arith)) ∙ (rw here at zero-bit) in
+    let c = b ++ bit ∷ [] in
+    let low : get_or c (p + 7) false ≡ false = stands-bit c p flag 7 (p + 7) is-flag (omega arith) refl in
+    let last : get_or c (p + 7) false ≡ bit = get_or_push b bit false (p + 7) (sym end) in
+    let run : StandsAt b (suc p) (ones 6) = sym (window-append 6 (suc p) b (bit ∷ []) (omega arith))
+    ∙ stands-part c p flag 1 (suc p) 6 (omega arith) (omega arith) is-flag in
+    let start : StandsAt b p (false ∷ []) = sym (window-append 1 p b (bit ∷ []) (omega arith))
+    ∙ stands-part c p flag 0 p 1 (omega arith) (omega arith) is-flag in
     (sym last ∙ low, run-end b (suc p) 6 run start (omega arith), omega arith)
 
 pub flag-made : (b : List Bool) → ones_at_end b ≡ 6 → 6 < length b → IsFlag (b ++ false ∷ []) (length b - 7)
@@ -150,21 +132,16 @@ pub not-abort : (b : List Bool) (p : ℕ) → (IsAbort b p → ⊥) → is_abort
 not-abort b p none = false_from_ne_true _ (λ is. none (abort-true b p is))
 
 -- the last mark, where there is none in between
-pub last_mark-skip : (b : List Bool) (k j : ℕ) → ((q : ℕ) → k ≤ q → IsMark b q → q < k + j → ⊥) →
-    last_mark b (k + j) ≡ last_mark b k
-last_mark-skip b k zero none = ap (last_mark b) (omega arith)
-last_mark-skip b k (suc j) none =
-    let next : k + suc j ≡ suc (k + j) = omega arith in
-    let flag-free = not-flag b (k + j) (λ is. none (k + j) (omega arith) (inl is) (omega arith)) in
-    let abort-free = not-abort b (k + j) (λ is. none (k + j) (omega arith) (inr is) (omega arith)) in
-    ap (last_mark b) next
-    ∙ rw (flag-free, abort-free) (last_mark-skip b k j (λ q from mark below. none q from mark (omega arith)))
-
 pub last_mark-down : (b : List Bool) (k n : ℕ) → k ≤ n → ((q : ℕ) → k ≤ q → IsMark b q → q < n → ⊥) →
     last_mark b n ≡ last_mark b k
-last_mark-down b k n within none =
-    let size : n ≡ k + (n - k) = omega arith in
-    ap (last_mark b) size ∙ last_mark-skip b k (n - k) (λ q from mark below. none q from mark (omega arith))
+last_mark-down b k zero within none = let start : 0 ≡ k = omega arith in ap (last_mark b) start
+last_mark-down b k (suc n) within none = elim (cases_lt n k) [
+  | inl all ↦ let end : suc n ≡ k = omega arith in ap (last_mark b) end
+  | inr more ↦
+      let flag-free = not-flag b n (λ is. none n more (inl is) (omega arith)) in
+      let abort-free = not-abort b n (λ is. none n more (inr is) (omega arith)) in
+      rw (flag-free, abort-free) (last_mark-down b k n more (λ q from mark below. none q from mark (omega arith)))
+]
 
 -- where no flag ends with the bit, the last mark before the last seven places is the one before the bit
 pub kept : (b : List Bool) (bit : Bool) → ((p : ℕ) → IsFlag (b ++ bit ∷ []) p → p + 7 ≡ length b → ⊥) →
@@ -189,9 +166,8 @@ kept b bit none = elim (cases_lt (length b) 7) [
 -- one place has no flag and abort mark
 pub flag-not_abort : (b : List Bool) (p : ℕ) → IsFlag b p → IsAbort b p → ⊥
 flag-not_abort b p is-flag is-abort =
-    let low : get_or b (p + 0) false ≡ false = stands-bit b p flag 0 is-flag (omega arith) in
-    let high : get_or b (p + 0) false ≡ true = stands-bit b p (ones 7) 0 is-abort.0 (omega arith) in
-    both_ways (get_or b (p + 0) false) low high
+    both_ways _ (stands-bit b p flag 0 p is-flag (omega arith) (omega arith))
+    (stands-bit b p (ones 7) 0 p is-abort.0 (omega arith) (omega arith))
 
 ones-pushed : (b : List Bool) (bit : Bool) (k : ℕ) → ones_at_end (b ++ bit ∷ []) ≡ suc k →
     (bit ≡ true) × (ones_at_end b ≡ k)
@@ -302,13 +278,3 @@ at-other longest b bit not-flagged neither =
           (no-idle c (length b) (λ p is end. not-fifteen (run-end c p 15 is.0 is.1 (omega (arith, size, end))))));
       leaves = keeps b bit none not-seven;
     }
-
-pub range-more : (b : List Bool) (bit : Bool) (x m : ℕ) → x ≤ m → m < length b →
-    slice_range (b ++ bit ∷ []) x (m + 1) ≡ slice_range b x m ++ get_or b m false ∷ []
-range-more b bit x m within inside =
-    let size : (m + 1) - x ≡ (m - x) + 1 = omega arith in
-    let end : x + (m - x) ≡ m = omega arith in
-    range-append b (bit ∷ []) x (m + 1) (omega arith)
-    ∙ (ap (λ n. take n (drop x b)) size
-    ∙ (take_more (drop x b) (m - x) false (omega (arith, length-drop x b))
-    ∙ ap (λ y. take (m - x) (drop x b) ++ y ∷ []) (get_or-drop x b (m - x) false ∙ ap (λ n. get_or b n false) end)))

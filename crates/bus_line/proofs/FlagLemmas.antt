@@ -1,14 +1,13 @@
 -- Flags right after a flag: they decide nothing, and each is the last mark.
 use Rattle.std.proofs.Common.{◌≡◌, ℕ, zero, suc, ◌+◌, ◌-◌, ◌*◌, ◌/◌, ◌%◌, ◌^◌, ◌≤◌, ◌<◌, Bool, false, List, [], ◌∷◌}
 use Rattle.std.proofs.Common.{◌++◌, length, take, drop, replicate, get_or, Some, None, refl, sym, ap, ◌∙◌, subst, arith}
-use Rattle.std.proofs.Common.{append-nil, append_assoc, length-append, Option, ◌==◌, inl, inr}
+use Rattle.std.proofs.Common.{append-nil, append_assoc, length-append, Option, ◌==◌, inl, inr, true}
 use Rattle.std.specs.List.{slice_range}
 use Rattle.std.specs.Option.{option_map}
-use Rattle.std.proofs.lemmas.List.{drop_at, take-append-drop, take_all, length-drop}
-use Rattle.std.proofs.lemmas.Bool.{cond-false, cases_lt}
+use Rattle.std.proofs.lemmas.List.{drop_at, take-append-drop, take_all, length-drop, take-append-le, take-replicate}
+use Rattle.std.proofs.lemmas.Bool.{cases_lt, eqb-true, agree_below_at}
 use Rattle.bus_bits.specs.Octet.{number, bits_of}
 use Rattle.bus_bits.proofs.OctetLemmas.{bits-low, bits-split}
-use Rattle.bus_bits.proofs.CaptureLemmas.{le_false}
 use Rattle.bus_fcs.specs.Check.{CheckView}
 use Rattle.bus_line.specs.Spelling.{ones}
 use Rattle.bus_line.specs.Mark.{flag}
@@ -18,12 +17,13 @@ use Rattle.bus_line.specs.Due.{Mark, FlagAt, current, due_at, placed, piece_repo
 use Rattle.bus_line.specs.After.{After}
 use Rattle.bus_line.specs.Internal.Run.{ones_at_end}
 use Rattle.bus_line.specs.Internal.LineState.{LineState}
-use Rattle.bus_line.specs.Internal.Tracks.{Holds, Counts, Tracks, padded, settled_data}
+use Rattle.bus_line.specs.Internal.Tracks.{Holds, HoldsFor, Counts, Tracks, padded, settled_data}
 use Rattle.bus_line.specs.Internal.Settled.{HasNoStop}
 use Rattle.bus_line.proofs.DueMoreLemmas.{placed-more}
+use Rattle.bus_line.proofs.DueLemmas.{piece_report-shut}
 use Rattle.bus_line.proofs.DueStreamLemmas.{at-flag, ones_after-last}
-use Rattle.bus_line.proofs.StepLemmas.{counts-kept, early-settled, data-start, holds-of, moved-counts, first-Some}
-use Rattle.bus_line.proofs.WordLemmas.{length-front}
+use Rattle.bus_line.proofs.StepLemmas.{counts-kept, early-settled, data-start, holds-none, moved-counts, first-Some}
+use Rattle.bus_line.proofs.WordLemmas.{length-front, none_number}
 use Rattle.bus_line.proofs.SettleLemmas.{next-bit, mark-no_stop}
 use Rattle.bus_line.proofs.AdvanceLemmas.{no_stop-placed}
 use Rattle.bus_line.specs.Internal.LineView.{settles_from}
@@ -57,7 +57,7 @@ flags-more k x are next =
 abbrev opening : List Bool
 opening = false ∷ ones 6
 
-flag-length : (b : List Bool) (ends : EndsInFlag b) → length b ≡ length ends.front + 8
+pub flag-length : (b : List Bool) (ends : EndsInFlag b) → length b ≡ length ends.front + 8
 flag-length b ends = ap length ends.all ∙ length-append ends.front flag
 
 -- what ends in a flag, before its last bit
@@ -74,18 +74,12 @@ flag-last b ends =
     ap current (flag-split b ends) ∙ ((at-flag 3 u six (omega (arith, size))).leaves ∙ ap FlagAt place)
 
 -- runs of ones in the flag after it
-run-here : (b : List Bool) → EndsInFlag b → ones_at_end b ≡ 0
+pub run-here : (b : List Bool) → EndsInFlag b → ones_at_end b ≡ 0
 run-here b ends = ap ones_at_end (flag-split b ends) ∙ ones_after-last 0 (ends.front ++ opening) 0
 
 front-of-flag : (i : ℕ) → i ≤ 6 → take (suc i) flag ≡ false ∷ ones i
-front-of-flag zero few = refl
-front-of-flag (suc zero) few = refl
-front-of-flag (suc (suc zero)) few = refl
-front-of-flag (suc (suc (suc zero))) few = refl
-front-of-flag (suc (suc (suc (suc zero)))) few = refl
-front-of-flag (suc (suc (suc (suc (suc zero))))) few = refl
-front-of-flag (suc (suc (suc (suc (suc (suc zero)))))) few = refl
-front-of-flag (suc (suc (suc (suc (suc (suc (suc i))))))) few = absurd (omega (arith, few))
+front-of-flag i few = ap (λ (z : List Bool). false ∷ z)
+    (take-append-le i (ones 6) (false ∷ []) few ∙ take-replicate i 6 true few)
 
 pub run-in-flag : (b : List Bool) → EndsInFlag b → (i : ℕ) → i ≤ 7 → ones_at_end (b ++ take i flag) ≡ i - 1
 run-in-flag b ends zero within = ap ones_at_end (append-nil b) ∙ run-here b ends
@@ -104,23 +98,20 @@ flags-end b zero ends = subst EndsInFlag (sym (append-nil b)) ends
 flags-end b (suc k) ends = record { front = b ++ flags k; all = sym (append_assoc b (flags k) flag) }
 
 -- a flag decides nothing
-pub flag-due : (longest : ℕ) (b : List Bool) → EndsInFlag b → due_at longest (b ++ flag) (length b + 7) ≡ None
+flag-due : (longest : ℕ) (b : List Bool) → EndsInFlag b →
+    due_at longest ((b ++ opening) ++ false ∷ []) (length (b ++ opening)) ≡ None
 flag-due longest b ends =
     let u = b ++ opening in
     let size : length u ≡ length b + 7 = length-append b opening in
     let room = flag-length b ends in
     let six : ones_at_end u ≡ 6 = ones_after-last 0 b 6 in
-    let c : List Bool = u ++ false ∷ [] in
-    let whole : b ++ flag ≡ c = sym (append_assoc b opening (false ∷ [])) in
-    let kind : ℕ → Kind = λ p. class_of longest (slice_range c (p + 8) (length u - 7)) in
+    let kind : ℕ → Kind = λ p. class_of longest (slice_range (u ++ false ∷ []) (p + 8) (length u - 7)) in
     let last : current u ≡ FlagAt (length b - 8) = mark-no_stop b flag 7 7 (flag-no_stop b ends) (omega arith)
     (omega arith)
     ∙ flag-last b ends in
-    ap (λ (x : List Bool). due_at longest x (length b + 7)) whole
-    ∙ (ap (due_at longest c) (sym size)
-    ∙ ((at-flag longest u six (omega (arith, size, room))).answers
+    (at-flag longest u six (omega (arith, size, room))).answers
     ∙ (ap (λ (x : Mark). piece_report kind x (length u - 7)) last
-    ∙ cond-false _ _ _ (le_false (length b - 8 + 8) (length u - 7) (omega (arith, size, room))))))
+    ∙ piece_report-shut kind (length b - 8) (length u - 7) (omega (arith, size, room)))
 
 pub flag-placed : (origin longest : ℕ) (b : List Bool) → EndsInFlag b → (i : ℕ) → i ≤ 7 →
     placed origin longest (b ++ take i flag) ≡ placed origin longest b
@@ -131,13 +122,8 @@ pub flag-adds : (origin longest : ℕ) (b : List Bool) → EndsInFlag b →
     placed origin longest (b ++ flag) ≡ placed origin longest b
 flag-adds origin longest b ends =
     let u = b ++ opening in
-    let size : length u ≡ length b + 7 = length-append b opening in
-    let whole : b ++ flag ≡ u ++ false ∷ [] = sym (append_assoc b opening (false ∷ [])) in
-    let none : due_at longest (u ++ false ∷ []) (length u) ≡ None =
-    ap (due_at longest (u ++ false ∷ [])) size
-    ∙ (ap (λ (x : List Bool). due_at longest x (length b + 7)) (sym whole) ∙ flag-due longest b ends) in
-    ap (placed origin longest) whole
-    ∙ (placed-more origin longest u false None (sym (ap (option_map (moved origin)) none))
+    ap (placed origin longest) (sym (append_assoc b opening (false ∷ [])))
+    ∙ (placed-more origin longest u false None (sym (ap (option_map (moved origin)) (flag-due longest b ends)))
     ∙ (append-nil (placed origin longest u) ∙ flag-placed origin longest b ends 7 (omega arith)))
 
 -- nor does it settle anything
@@ -182,33 +168,20 @@ flag-after view d b place shifted ends stands at =
     let size = length-append b flag in
     let room = flag-length b ends in
     let ended : EndsInFlag (b ++ flag) = record { front = b; all = refl } in
-    let tracks :
-    Tracks view
-    (record d { place = place; last_bits = 32382; first = Some place; spent = record d.spent { shifted = shifted } })
-    (b ++ flag) (FlagAt (length b)) =
-    (let old : Holds view.folded d (settled_data b (length b - 8)) =
-    holds-of view.folded d b (length b - 8) (current b) (flag-last b ends) stands.piece in
+    let old : Holds view.folded d (settled_data b (length b - 8)) =
+    subst (HoldsFor view.folded d b) (flag-last b ends) stands.piece in
     let before : settled_data b (length b - 8) ≡ [] = data-start b (length b - 8) (omega (arith, room)) in
     let none : settled_data (b ++ flag) (length b) ≡ [] = data-start (b ++ flag) (length b) (omega (arith, size)) in
-    let here = stands.has_taken.place in
-    let counted = flag-counts view.cost d b ends stands.counts 8 (omega arith) in
     let empty : Holds view.folded d [] = subst (Holds view.folded d) before old in
-    record {
-      has_taken = record { place = at ∙ omega (arith, here, size); last_bits = sym (flag-last-bits b ends) };
-      first = ap Some (at ∙ omega (arith, here));
-      piece =
-          rw none
-          (record {
-            count = empty.count;
-            partial = empty.partial;
-            held = λ many. absurd (omega (arith, many));
-            checked = λ many. absurd (omega (arith, many));
-          });
-      counts = moved-counts view.cost d (b ++ flag) place 32382 shifted (Some place) counted;
-    }) in
+    let here = stands.has_taken.place in
     let last : current (b ++ flag) ≡ FlagAt (length b) =
     flag-last (b ++ flag) ended ∙ ap FlagAt (omega (arith, size)) in
-    subst (Tracks view _ (b ++ flag)) (sym last) tracks
+    subst (Tracks view _ (b ++ flag)) (sym last) (record {
+      has_taken = record { place = at ∙ omega (arith, here, size); last_bits = sym (flag-last-bits b ends) };
+      first = ap Some (at ∙ omega (arith, here));
+      piece = rw none (holds-none empty.count (empty.partial ∙ none_number));
+      counts = moved-counts refl refl (flag-counts view.cost d b ends stands.counts 8 (omega arith));
+    })
 
 -- many of them
 pub flags-after : {C : Type 0} (view : CheckView C) (d : LineState C) (b : List Bool)
@@ -282,14 +255,8 @@ same-low (suc k) x y h =
     ap (λ (n : ℕ). (n == 1) ∷ bits_of k (x / 2)) e ∙ ap (λ (z : List Bool). (y % 2 == 1) ∷ z) r
 
 octet-of : (k : ℕ) → k < 7 → seven_flags / 2 ^ (8 * k) % 256 ≡ 126
-octet-of zero h = refl
-octet-of (suc zero) h = refl
-octet-of (suc (suc zero)) h = refl
-octet-of (suc (suc (suc zero))) h = refl
-octet-of (suc (suc (suc (suc zero)))) h = refl
-octet-of (suc (suc (suc (suc (suc zero))))) h = refl
-octet-of (suc (suc (suc (suc (suc (suc zero)))))) h = refl
-octet-of (suc (suc (suc (suc (suc (suc (suc k))))))) h = absurd (omega (arith, h))
+octet-of k below = eqb-true (seven_flags / 2 ^ (8 * k) % 256) 126
+    (agree_below_at (λ j. seven_flags / 2 ^ (8 * j) % 256 == 126) (λ j. true) 7 k refl below)
 
 flags-of : (k : ℕ) → k ≤ 7 → bits_of (8 * k) seven_flags ≡ flags k
 flags-of zero h = no-bits seven_flags

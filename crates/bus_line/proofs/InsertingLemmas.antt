@@ -1,13 +1,11 @@
 -- Bits on their way out, and the raw bits of data that go on.
 use Rattle.std.proofs.Common.{◌≡◌, ℕ, suc, ◌+◌, ◌*◌, ◌≤◌, ◌<◌, Bool, true, false, List, [], ◌∷◌, ◌++◌, length, take}
-use Rattle.std.proofs.Common.{drop, refl, sym, ap, ◌∙◌, subst, inl, inr, arith, nat_lt, get_or}
-use Rattle.std.proofs.Common.{Result, Ok, Err, OnErr, if◌then◌else◌}
-use Rattle.std.proofs.lemmas.List.{append_assoc, length-append, take-append-le}
-use Rattle.std.proofs.lemmas.Bool.{cases_lt}
-use Rattle.std.proofs.lemmas.Bool.Decides.{nat_tests}
+use Rattle.std.proofs.Common.{drop, refl, sym, ap, ◌∙◌, subst, inl, inr, arith, nat_lt, get_or, Result, Ok, Err, OnErr}
+use Rattle.std.proofs.lemmas.List.{length-append, take-append-le, take-append-drop, take_more}
+use Rattle.std.proofs.Math.Seq.{take-append-add}
+use Rattle.std.proofs.lemmas.Bool.{cases_Bool, ltb-false}
 use Rattle.bus_bits.specs.Octet.{bits_of, bits_of_octets}
 use Rattle.bus_bits.proofs.OctetLemmas.{bits_of_octets-append, bits_of_octets-push}
-use Rattle.bus_line.proofs.WholeLemmas.{take_next, split_at}
 use Rattle.bus_line.specs.Spelling.{spelling, ones}
 use Rattle.bus_line.specs.Internal.Inserting.{raw_after, run_after}
 use Rattle.bus_line.specs.Told.{told}
@@ -15,11 +13,6 @@ use Rattle.bus_line.specs.Internal.StuffingWriter.{Sent, Cut}
 use Rattle.bus_line.specs.declared.encoder.stuffing_writer.StuffingWriter.{StuffingWriter}
 use Rattle.bus_line.specs.BitSink.{BitSinkView}
 use Rattle.bus_line.proofs.ToldLemmas.{told-nil, told-more}
-
-take-both : (xs ys : List Bool) (k : ℕ) → take (length xs + k) (xs ++ ys) ≡ xs ++ take k ys
-take-both [] ys k = ap (λ n. take n ys) (omega arith)
-take-both (x ∷ xs) ys k = let e : length (x ∷ xs) + k ≡ suc (length xs + k) =
-    omega arith in rw e (ap (λ l. x ∷ l) (take-both xs ys k))
 
 module _ {S : Type 0} {sink : BitSinkView S} where
   pub sent-nil : {a : StuffingWriter} {s : S} → Sent sink [] a a s s
@@ -41,7 +34,8 @@ module _ {S : Type 0} {sink : BitSinkView S} where
     within = omega (arith, length-append xs ys, q.within);
     took =
         q.took ∙ (ap (λ z. told z (take q.count ys)) p.took
-        ∙ (told-more (sink.taken s) xs (take q.count ys) ∙ ap (told (sink.taken s)) (sym (take-both xs ys q.count))));
+        ∙ (told-more (sink.taken s) xs (take q.count ys)
+        ∙ ap (told (sink.taken s)) (sym (take-append-add xs ys q.count))));
     failed = q.failed ∙ ap (λ n. n + 1) p.kept;
     written = omega (arith, p.written, q.written);
   }
@@ -59,43 +53,38 @@ module _ {S : Type 0} {sink : BitSinkView S} where
 
 -- ---- inserted zeros
 
--- a 1, which is the fifth in a row or not
-one-append : (t : Bool) (e xs ys xs' ys' : List Bool) (j k : ℕ) → xs' ≡ xs ++ raw_after j e → ys' ≡ ys ++ raw_after k e
-    → (if t then true ∷ xs' else true ∷ false ∷ ys') ≡ (if t then true ∷ xs else true ∷ false ∷ ys)
-    ++ raw_after (if t then j else k) e
-one-append true e xs ys xs' ys' j k p q = ap (λ r. true ∷ r) p
-one-append false e xs ys xs' ys' j k p q = ap (λ r. true ∷ false ∷ r) q
-
 pub raw-append : (k : ℕ) (d e : List Bool) → raw_after k (d ++ e) ≡ raw_after k d ++ raw_after (run_after k d) e
 raw-append k [] e = refl
 raw-append k (false ∷ d) e = ap (λ r. false ∷ r) (raw-append 0 d e)
-raw-append k (true ∷ d) e = one-append (nat_lt k 4) e _ _ _ _ (run_after (suc k) d) (run_after 0 d)
-    (raw-append (suc k) d e) (raw-append 0 d e)
+raw-append k (true ∷ d) e = elim (cases_Bool (nat_lt k 4)) [
+  | inl less ↦ rw less (ap (λ r. true ∷ r) (raw-append (suc k) d e))
+  | inr full ↦ rw full (ap (λ r. true ∷ false ∷ r) (raw-append 0 d e))
+]
 
 pub run-append : (k : ℕ) (d e : List Bool) → run_after k (d ++ e) ≡ run_after (run_after k d) e
 run-append k [] e = refl
 run-append k (false ∷ d) e = run-append 0 d e
-run-append k (true ∷ d) e = elim (cases_lt k 4) [
-  | inl l ↦ let t : nat_lt k 4 ≡ true = grind (arith, nat_tests) in rw t (run-append (suc k) d e)
-  | inr l ↦ let t : nat_lt k 4 ≡ false = grind (arith, nat_tests) in rw t (run-append 0 d e)
+run-append k (true ∷ d) e = elim (cases_Bool (nat_lt k 4)) [
+  | inl less ↦ rw less (run-append (suc k) d e)
+  | inr full ↦ rw full (run-append 0 d e)
 ]
 
 -- at most twice as many
 pub raw-few : (k : ℕ) (d : List Bool) → length (raw_after k d) ≤ 2 * length d
 raw-few k [] = omega arith
 raw-few k (false ∷ d) = omega (arith, raw-few 0 d)
-raw-few k (true ∷ d) = elim (cases_lt k 4) [
-  | inl l ↦ let t : nat_lt k 4 ≡ true = grind (arith, nat_tests) in rw t (omega (arith, raw-few (suc k) d))
-  | inr l ↦ let t : nat_lt k 4 ≡ false = grind (arith, nat_tests) in rw t (omega (arith, raw-few 0 d))
+raw-few k (true ∷ d) = elim (cases_Bool (nat_lt k 4)) [
+  | inl less ↦ rw less (omega (arith, raw-few (suc k) d))
+  | inr full ↦ rw full (omega (arith, raw-few 0 d))
 ]
 
 -- one inserted 0 for five ones
 pub raw-bound : (k : ℕ) (d : List Bool) → 5 * length (raw_after k d) ≤ 6 * length d + k
 raw-bound k [] = omega arith
 raw-bound k (false ∷ d) = omega (arith, raw-bound 0 d)
-raw-bound k (true ∷ d) = elim (cases_lt k 4) [
-  | inl l ↦ let t : nat_lt k 4 ≡ true = grind (arith, nat_tests) in rw t (omega (arith, raw-bound (suc k) d))
-  | inr l ↦ let t : nat_lt k 4 ≡ false = grind (arith, nat_tests) in rw t (omega (arith, raw-bound 0 d))
+raw-bound k (true ∷ d) = elim (cases_Bool (nat_lt k 4)) [
+  | inl less ↦ rw less (omega (arith, raw-bound (suc k) d))
+  | inr full ↦ rw full (omega (arith, raw-bound 0 d, ltb-false k 4 full))
 ]
 
 -- from a 0 on, this is the spelling
@@ -120,8 +109,7 @@ on_err (Err e) p = p
 
 pub next-of : {X : Type 0} (xs : List X) (i : ℕ) (d : X) → i < length xs →
     xs ≡ (take i xs ++ get_or xs i d ∷ []) ++ drop (i + 1) xs
-next-of xs i d h = split_at xs i d (get_or xs i d) h refl
-    ∙ sym (append_assoc (take i xs) (get_or xs i d ∷ []) (drop (i + 1) xs))
+next-of xs i d h = rw (← take_more xs i d h) (sym (take-append-drop (i + 1) xs))
 
 module _ {S : Type 0} {sink : BitSinkView S} (k : ℕ) (d e : List Bool) {a b : StuffingWriter} {s t : S} where
   -- data d, and after it e
@@ -140,7 +128,7 @@ module _ {S : Type 0} {sink : BitSinkView S} (k : ℕ) (d e : List Bool) {a b : 
 
 pub octets-next : (os : List ℕ) (i : ℕ) → i < length os →
     bits_of_octets (take (i + 1) os) ≡ bits_of_octets (take i os) ++ bits_of 8 (get_or os i 0)
-octets-next os i h = ap bits_of_octets (take_next os i 0 h) ∙ bits_of_octets-push (take i os) (get_or os i 0)
+octets-next os i h = ap bits_of_octets (take_more os i 0 h) ∙ bits_of_octets-push (take i os) (get_or os i 0)
 
 pub octets-split : (os : List ℕ) (i : ℕ) → i < length os →
     bits_of_octets os ≡ (bits_of_octets (take i os) ++ bits_of 8 (get_or os i 0)) ++ bits_of_octets (drop (i + 1) os)

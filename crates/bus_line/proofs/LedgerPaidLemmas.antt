@@ -5,13 +5,15 @@ use Rattle.std.proofs.Common.{arith, inl, inr, ◌⊎◌, if◌then◌else◌}
 use Rattle.std.specs.List.{slice_range, count_by, sum_by}
 use Rattle.std.specs.Option.{option_to_list}
 use Rattle.std.specs.Prelude.{nat_le, nat_lt}
+use Rattle.std.proofs.Math.Seq.{take-suc}
 use Rattle.std.proofs.lemmas.List.{length_push, take_all}
-use Rattle.std.proofs.lemmas.Bool.{cases_lt, cases_eq, cases_Bool, le-leb, and_from, eq-eqb, eqb-true, ltb-true}
+use Rattle.std.proofs.lemmas.Bool.{cases_lt, cases_eq, cases_Bool, le-leb, and_from, and_left, and_right, eq-eqb}
+use Rattle.std.proofs.lemmas.Bool.{eqb-true, ltb-true}
 use Rattle.std.proofs.lemmas.List.Sums.{sum_by-append}
 use Rattle.bus_bits.specs.Octet.{octets}
 use Rattle.bus_line.specs.Spelling.{unspelled}
 use Rattle.bus_line.specs.Internal.Run.{ones_at_end, data_so_far}
-use Rattle.bus_line.specs.Report.{Report, Kind, Frame, Damaged, Overlong, Abort, class_of_data}
+use Rattle.bus_line.specs.Report.{Report, Frame, Damaged, Overlong, Abort, class_of_data}
 use Rattle.bus_line.specs.Due.{Mark, NoMark, FlagAt, AbortAt, current, class_of, class_of_read, piece_report, due_at}
 use Rattle.bus_line.specs.Due.{reports, places}
 use Rattle.bus_line.specs.Ledger.{is_inserted, is_stored, stored, stored_from, kind_octets, octet_count, copied}
@@ -25,9 +27,9 @@ use Rattle.bus_line.proofs.LedgerSettledLemmas.{one_if, one-place, stored-more, 
 use Rattle.bus_line.proofs.LedgerRankLemmas.{kept, stored_from-is, none-behind, stores-now}
 use Rattle.bus_fcs.specs.FrameCheck.{is_good}
 use Rattle.bus_line.specs.declared.cause.Cause.TheVariants.{Short, Unaligned, Fcs}
-use Rattle.bus_line.proofs.RunLemmas.{IsLow, low-from, low-unspelled}
+use Rattle.bus_line.proofs.RunLemmas.{IsLow, low-unspelled}
 use Rattle.bus_line.proofs.SpellingRawLemmas.{current-low}
-use Rattle.bus_line.proofs.WholeLemmas.{length-octets, take_next}
+use Rattle.bus_line.proofs.WholeLemmas.{length-octets}
 use Rattle.bus_line.proofs.StepLemmas.{data-inserted, data-more, data-settled, closing, seven, fifteen, other}
 use Rattle.std.proofs.lemmas.Bool.Decides.{nat_tests}
 
@@ -74,15 +76,8 @@ kept-more longest b bit p =
     ap (λ k. count_by (kept longest c p) (places k)) size
     ∙ one-place (kept longest c p) (kept longest b p) (length b)
     (λ i below. ap (λ t. nat_le (p + 8) i && t) (is_stored-append longest b (bit ∷ []) i below (omega (arith, size))))
-    (λ i below. none-behind (nat_le (p + 8) i) _ (late c i (omega (arith, size, below))))
-    (λ i below. none-behind (nat_le (p + 8) i) _ (late b i below))
-  where
-    none-behind : (x y : Bool) → y ≡ false → (x && y) ≡ false
-    none-behind true y none = none
-    none-behind false y none = refl
-
-    late : (d : List Bool) (i : ℕ) → length d ≤ i + 8 → is_stored longest d i ≡ false
-    late d i past = rw (is_settled-late d i past) refl
+    (λ i below. and_right (nat_le (p + 8) i) _ (and_left _ _ (is_settled-late c i (omega (arith, size, below)))))
+    (λ i below. and_right (nat_le (p + 8) i) _ (and_left _ _ (is_settled-late b i below)))
 
 one-below : (x y : Bool) → one_if (x && y) ≤ one_if y
 one-below true y = omega arith
@@ -111,14 +106,7 @@ paid-kept longest b bit paid mark copies =
 no-octets : (mark : Mark) (m : ℕ) → sum_by octet_count (option_to_list (piece_report (λ p. Abort) mark m)) ≡ 0
 no-octets NoMark m = refl
 no-octets (AbortAt a) m = refl
-no-octets (FlagAt p) m = choice (nat_lt (p + 8) m)
-  where
-    choice : (t : Bool) →
-        sum_by octet_count
-        (option_to_list (if t then Some (record { kind = Abort; first = p + 8; past = m }) else None))
-        ≡ 0
-    choice true = refl
-    choice false = refl
+no-octets (FlagAt p) m = elim (cases_Bool (nat_lt (p + 8) m)) [ inl some ↦ rw some refl | inr none ↦ rw none refl ]
 
 -- an abort hands on no octets, and opens no piece
 paid-abort : (longest : ℕ) (b : List Bool) (bit : Bool) (a : ℕ) → IsPaid longest b →
@@ -150,7 +138,7 @@ closed-octets longest b bit p mark long =
     let raw = slice_range c (p + 8) m in
     let same : raw ≡ slice_range b (p + 8) m = range-append b (bit ∷ []) (p + 8) m (omega arith) in
     let low : IsLow 0 raw =
-    subst (IsLow 0) (sym same) (low-from (slice_range b (p + 8) m) (current-low b p m mark (omega arith))) in
+    subst (IsLow 0) (sym same) (current-low b p m mark (omega arith)) in
     let end : length c - 8 ≡ m = omega (arith, length_push b bit) in
     let bits : settled_data c p ≡ data_so_far raw = ap (λ k. data_so_far (slice_range c (p + 8) k)) end in
     elim (spelled-octets longest raw low) [
@@ -203,25 +191,18 @@ piece-octets : (longest : ℕ) (b : List Bool) (bit : Bool) (mark : Mark) → cu
     (length b - 7))) ≤ open_stored longest b mark + one_if (is_stored longest (b ++ bit ∷ []) (length b - 8))
 piece-octets longest b bit NoMark mark = omega arith
 piece-octets longest b bit (AbortAt a) mark = omega arith
-piece-octets longest b bit (FlagAt p) mark =
-    let kind = class_of longest (slice_range (b ++ bit ∷ []) (p + 8) (length b - 7)) in
-    choice kind (nat_lt (p + 8) (length b - 7))
-    (λ begun. closed-octets longest b bit p mark (omega (arith, ltb-true (p + 8) (length b - 7) begun)))
-  where
-    choice : (kind : Kind) (t : Bool) →
-        (t ≡ true → kind_octets kind ≤ stored_from longest b (p + 8)
-        + one_if (is_stored longest (b ++ bit ∷ []) (length b - 8)))
-        → sum_by octet_count
-        (option_to_list (if t then Some (record { kind = kind; first = p + 8; past = length b - 7 }) else None))
-        ≤ stored_from longest b (p + 8) + one_if (is_stored longest (b ++ bit ∷ []) (length b - 8))
-    choice kind true most = omega (arith, most refl)
-    choice kind false most = omega arith
+piece-octets longest b bit (FlagAt p) mark = elim (cases_Bool (nat_lt (p + 8) (length b - 7))) [
+  | inl begun ↦
+      let long : p + 15 < length b = omega (arith, ltb-true (p + 8) (length b - 7) begun) in
+      rw begun (omega (arith, closed-octets longest b bit p mark long))
+  | inr none ↦ rw none (omega arith)
+]
 
-paid-flag : (longest : ℕ) (b : List Bool) (bit : Bool) (due : Option Report) → IsPaid longest b → 6 < length b →
+paid-flag : (longest : ℕ) (b : List Bool) (bit : Bool) → IsPaid longest b → 6 < length b →
     current (b ++ bit ∷ []) ≡ FlagAt (length b - 7)
     → copied longest (b ++ bit ∷ []) ≡ copied longest b
     + sum_by octet_count (option_to_list (closed_piece longest b bit)) → IsPaid longest (b ++ bit ∷ [])
-paid-flag longest b bit due paid long mark copies =
+paid-flag longest b bit paid long mark copies =
     let c = b ++ bit ∷ [] in
     let opened = ap (open_stored longest c) mark in
     let none = none-behind longest c (length b - 7) (omega (arith, length_push b bit)) in
@@ -231,7 +212,7 @@ paid-step : (longest : ℕ) (b : List Bool) (bit : Bool) (f : EndedMark) → Has
     IsPaid longest b → IsPaid longest (b ++ bit ∷ [])
 paid-step longest b bit FlagMark found paid =
     let decides = closing longest b bit found in
-    paid-flag longest b bit None paid found.2 decides.leaves (copied-more longest b bit _ decides.answers)
+    paid-flag longest b bit paid found.2 decides.leaves (copied-more longest b bit _ decides.answers)
 paid-step longest b bit AbortMark found paid =
     let decides = seven longest b bit found in
     paid-abort longest b bit (length b - 6) paid decides.leaves
@@ -248,10 +229,9 @@ paid-front longest b zero within = omega arith
 paid-front longest b (suc n) within =
     let before = paid-front longest b n (omega arith) in
     let x = get_or b n false in
-    let next : suc n ≡ n + 1 = omega arith in
     let front = take n b in
     let found = find x (ones_at_end front) (length front) in
-    subst (IsPaid longest) (sym (ap (λ k. take k b) next ∙ take_next b n false (omega arith)))
+    subst (IsPaid longest) (sym (take-suc b n false (omega arith)))
     (paid-step longest front x found.0 found.1 before)
 
 -- the octets of all frames are among those that were stored

@@ -1,11 +1,12 @@
 -- How many data bits are settled.
 use Rattle.std.proofs.Common.{◌≡◌, ℕ, zero, suc, ◌+◌, ◌-◌, ◌*◌, ◌%◌, ◌≤◌, ◌<◌, ◌==◌, Bool, true, false, not, ◌&&◌}
-use Rattle.std.proofs.Common.{if◌then◌else◌, List, [], ◌∷◌, ◌++◌, length, take, drop, get_or, refl, sym, ap, ◌∙◌, ◌⊎◌}
-use Rattle.std.proofs.Common.{inl, inr, arith, nat_le, nat_lt, ◌≢◌, ◌/◌, min, Some, None}
+use Rattle.std.proofs.Common.{if◌then◌else◌, List, [], ◌∷◌, ◌++◌, length, get_or, refl, sym, ap, ◌∙◌, ◌⊎◌}
+use Rattle.std.proofs.Common.{inl, inr, arith, nat_le, nat_lt, ◌/◌, min, Some, None}
 use Rattle.std.specs.List.{slice_range, count_by}
-use Rattle.std.proofs.lemmas.List.{length_push, length-drop, take_more, get_or-drop, length-take}
+use Rattle.std.proofs.lemmas.List.{length_push, length-take}
 use Rattle.std.proofs.lemmas.Bool.{cases_lt, cases_Bool, leb-true, le-leb, lt-leb, lt-ltb, and_left, and_right}
 use Rattle.std.proofs.lemmas.Bool.{and_from, and_parts, eqb-true}
+use Rattle.std.proofs.Math.Bool.{and_assoc}
 use Rattle.bus_line.specs.Internal.Run.{ones_at_end, data_so_far}
 use Rattle.bus_line.proofs.RunLemmas.{data_after-more}
 use Rattle.bus_line.specs.Due.{Mark, NoMark, FlagAt, AbortAt, last_mark, places, current, begun_by}
@@ -13,8 +14,10 @@ use Rattle.bus_line.specs.Ledger.{is_settled, belongs, is_inserted, rank_under, 
 use Rattle.bus_line.specs.Ledger.{stored_from, stored_behind, stored_open}
 use Rattle.bus_line.proofs.MarkLemmas.{last_mark-append, last_mark-flag, last_mark-is}
 use Rattle.bus_line.proofs.DueStreamLemmas.{not-abort, flag-fits}
-use Rattle.bus_line.proofs.LedgerSettledLemmas.{one_if, count-more, count-same, is_settled-append, is_settled-late}
-use Rattle.bus_line.proofs.SpellingRawLemmas.{current-low, inserted-raw}
+use Rattle.bus_line.proofs.LedgerSettledLemmas.{of_flag, one_if, and-same, count-up, count-more, count-same}
+use Rattle.bus_line.proofs.LedgerSettledLemmas.{is_settled-append, is_settled-late}
+use Rattle.bus_line.proofs.SpellingRawLemmas.{inserted-raw}
+use Rattle.bus_line.proofs.DueMoreLemmas.{range-step, range-none}
 use Rattle.std.specs.Prelude.{nat_le, nat_lt, if◌then◌else◌}
 use Rattle.std.proofs.lemmas.Bool.Decides.{nat_tests}
 use Rattle.bus_bits.specs.Octet.{octets}
@@ -23,18 +26,6 @@ use Rattle.bus_line.specs.Internal.LineState.{LineState}
 use Rattle.bus_line.specs.Internal.Tracks.{first_of, settled_data, HoldsFor}
 use Rattle.bus_line.specs.After.{After}
 use Rattle.bus_line.proofs.WholeLemmas.{length-octets}
-
-range-step : (b : List Bool) (x m : ℕ) → x ≤ m → m < length b →
-    slice_range b x (suc m) ≡ slice_range b x m ++ get_or b m false ∷ []
-range-step b x m begun inside =
-    let next : suc m - x ≡ (m - x) + 1 = omega arith in
-    let end : x + (m - x) ≡ m = omega arith in
-    ap (λ n. take n (drop x b)) next
-    ∙ (take_more (drop x b) (m - x) false (omega (arith, length-drop x b))
-    ∙ ap (λ y. take (m - x) (drop x b) ++ y ∷ []) (get_or-drop x b (m - x) false ∙ ap (λ n. get_or b n false) end))
-
-range-none : (b : List Bool) (x m : ℕ) → m ≤ x → slice_range b x m ≡ []
-range-none b x m short = let none : m - x ≡ 0 = omega arith in ap (λ n. take n (drop x b)) none
 
 -- a flag that is the last mark is so before each place after it
 pub flag-stays : (b : List Bool) (p m n : ℕ) → last_mark b n ≡ FlagAt p → p < m → m ≤ n → last_mark b m ≡ FlagAt p
@@ -54,19 +45,15 @@ flag-settled b p i mark after room =
     let belonging = le-leb (p + 8) i after in
     rw (in-list, same, no-abort, belonging) refl
 
-grown : (bit is_full : Bool) (d : List Bool) →
-    length (if bit then d ++ true ∷ [] else (if is_full then d else d ++ false ∷ []))
-    ≡ length d + one_if (not (not bit && is_full))
-grown true true d = omega (arith, length_push d true)
-grown true false d = omega (arith, length_push d true)
-grown false true d = omega arith
-grown false false d = omega (arith, length_push d false)
+grown : (t x : Bool) (d : List Bool) → length (if t then d else d ++ x ∷ []) ≡ length d + one_if (not t)
+grown true x d = omega arith
+grown false x d = length_push d x
 
 pub rank-data : (b : List Bool) (p m : ℕ) → current b ≡ FlagAt p → m + 8 ≤ length b →
-    count_by (λ j. nat_le (p + 8) j && is_settled b j) (places m) ≡ length (data_so_far (slice_range b (p + 8) m))
+    count_by (of_flag b p) (places m) ≡ length (data_so_far (slice_range b (p + 8) m))
 rank-data b p zero mark room = sym (ap (λ r. length (data_so_far r)) (range-none b (p + 8) 0 (omega arith)))
 rank-data b p (suc m) mark room =
-    let f = λ (j : ℕ). nat_le (p + 8) j && is_settled b j in
+    let f = of_flag b p in
     let before = rank-data b p m mark (omega arith) in
     elim (cases_lt m (p + 8)) [
       | inl early ↦
@@ -79,8 +66,7 @@ rank-data b p (suc m) mark room =
           let r = slice_range b (p + 8) m in
           let belonging = le-leb (p + 8) m after in
           let settled = flag-settled b p m mark after (omega arith) in
-          let inserted = inserted-raw b p m (last_mark-flag b (length b) p mark).flag after (omega arith)
-          (current-low b p m mark (omega arith)) in
+          let inserted = inserted-raw b p m mark after (omega arith) in
           let counted : one_if (nat_le (p + 8) m && is_settled b m)
           ≡ one_if (not (not (get_or b m false) && (ones_at_end (slice_range b (p + 8) m) == 5))) =
           rw (belonging, settled, inserted) refl in
@@ -89,13 +75,9 @@ rank-data b p (suc m) mark room =
           + one_if (not (not (get_or b m false) && (ones_at_end (slice_range b (p + 8) m) == 5))) =
           ap (λ r. length (data_so_far r)) (range-step b (p + 8) m after (omega arith))
           ∙ (ap length (data_after-more 0 r (get_or b m false))
-          ∙ grown (get_or b m false) (ones_at_end r == 5) (data_so_far r)) in
+          ∙ grown (not (get_or b m false) && (ones_at_end r == 5)) (get_or b m false) (data_so_far r)) in
           count-more f m ∙ (rw (before, counted) (sym grows))
     ]
-
-and-true : (p q r : Bool) → (p ≡ true → q ≡ r) → (p && q) ≡ (p && r)
-and-true true q r same = same refl
-and-true false q r same = refl
 
 pub stores-now : (longest : ℕ) (b : List Bool) (bit : Bool) (p : ℕ) → current b ≡ FlagAt p → p + 16 ≤ length b →
     is_stored longest (b ++ bit ∷ []) (length b - 8)
@@ -109,9 +91,9 @@ stores-now longest b bit p mark late =
     let same : last_mark (b ++ bit ∷ []) (suc i) ≡ FlagAt p =
     last_mark-append b (bit ∷ []) (suc i) (omega arith)
     ∙ flag-stays b p (suc i) (length b) mark (omega arith) (omega arith) in
-    and-true (is_settled c i) _ _ (λ settled.
-    let f = λ (j : ℕ). nat_le (p + 8) j && is_settled c j in
-    let g = λ (j : ℕ). nat_le (p + 8) j && is_settled b j in
+    and-same (is_settled c i) _ _ (λ settled.
+    let f = of_flag c p in
+    let g = of_flag b p in
     let one : one_if (nat_le (p + 8) i && is_settled c i) ≡ 1 =
     ap one_if (and_from _ _ (le-leb (p + 8) i (omega arith)) settled) in
     let others : count_by f (places i) ≡ count_by g (places i) =
@@ -126,12 +108,7 @@ stores-now longest b bit p mark late =
 abbrev open_rank : List Bool → Mark → ℕ → ℕ
 open_rank b NoMark m = 0
 open_rank b (AbortAt a) m = 0
-open_rank b (FlagAt p) m = count_by (λ j. nat_le (p + 8) j && is_settled b j) (places m)
-
-pub count-none : (f : ℕ → Bool) (n : ℕ) → ((i : ℕ) → i < n → f i ≡ false) → count_by f (places n) ≡ 0
-count-none f zero none = refl
-count-none f (suc n) none =
-    omega (arith, count-more f n, count-none f n (λ i below. none i (omega arith)), ap one_if (none n (omega arith)))
+open_rank b (FlagAt p) m = count_by (of_flag b p) (places m)
 
 -- a place that is not settled
 rank-still : (b : List Bool) (m : ℕ) (mark : Mark) → last_mark b (suc m) ≡ mark → is_settled b m ≡ false →
@@ -139,11 +116,12 @@ rank-still : (b : List Bool) (m : ℕ) (mark : Mark) → last_mark b (suc m) ≡
 rank-still b m NoMark mark unsettled = inl refl
 rank-still b m (AbortAt a) mark unsettled = inl refl
 rank-still b m (FlagAt p) mark unsettled =
-    let f = λ (j : ℕ). nat_le (p + 8) j && is_settled b j in
+    let f = of_flag b p in
     elim (cases_lt p m) [
       | inl below ↦ inr (omega (arith, count-more f m, ap one_if (and_right (nat_le (p + 8) m) _ unsettled))
           ∙ sym (ap (λ x. open_rank b x m) (flag-stays b p m (suc m) mark below (omega arith))))
-      | inr here ↦ inl (count-none f (suc m) (λ j below. and_left _ _ (lt-leb (p + 8) j (omega arith))))
+      | inr here ↦ inl (count-up f 0 (suc m) (omega arith)
+          (λ j from below. and_left _ _ (lt-leb (p + 8) j (omega arith))))
     ]
 
 rank-step : (b : List Bool) (m : ℕ) (mark : Mark) → last_mark b (suc m) ≡ mark → is_settled b m ≡ true →
@@ -152,7 +130,7 @@ rank-step : (b : List Bool) (m : ℕ) (mark : Mark) → last_mark b (suc m) ≡ 
 rank-step b m NoMark mark settled belonging = absurd (cc)
 rank-step b m (AbortAt a) mark settled belonging = absurd (cc)
 rank-step b m (FlagAt p) mark settled belonging =
-    let f = λ (j : ℕ). nat_le (p + 8) j && is_settled b j in
+    let f = of_flag b p in
     let after = leb-true (p + 8) m belonging in
     let before = ap (λ x. open_rank b x m) (flag-stays b p m (suc m) mark (omega (arith, after)) (omega arith)) in
     (omega (arith, count-more f m, ap one_if (and_from _ _ belonging settled), before), refl)
@@ -191,99 +169,56 @@ stored-paid longest b = omega (arith, paid longest b (length b))
 
 -- ---- how many octets are stored for the open piece
 
--- the settled places of the flag, and those of them that fill a stored octet
-abbrev ranked : List Bool → ℕ → ℕ → Bool
-ranked b p j = nat_le (p + 8) j && is_settled b j
-
+-- the places after the flag that fill a stored octet
 abbrev pub kept : ℕ → List Bool → ℕ → ℕ → Bool
 kept longest b p j = nat_le (p + 8) j && is_stored longest b j
 
 -- one more settled place stores an octet where it is the eighth of one that fits
-one-stored : (limit rank : ℕ) → min limit ((rank + 1) / 8)
-    ≡ min limit (rank / 8) + one_if (((rank + 1) % 8 == 0) && nat_le (rank + 1) (8 * limit))
-one-stored limit rank =
-    elim (cases_Bool ((rank + 1) % 8 == 0)) [
-      | inl eighth ↦
-          let whole : (rank + 1) % 8 ≡ 0 = grind (arith, nat_tests) in
-          elim (cases_Bool (nat_le (rank + 1) (8 * limit))) [
-            | inl fits ↦ rw (eighth, fits) (omega (arith, whole, leb-true (rank + 1) (8 * limit) fits))
-            | inr full ↦ rw (eighth, full) (omega (arith, whole, not_below full))
-          ]
-      | inr odd ↦ rw odd (omega (arith, uneven odd))
-    ]
-  where
-    not_below : nat_le (rank + 1) (8 * limit) ≡ false → 8 * limit < rank + 1
-    not_below full = grind (arith, nat_tests)
-
-    uneven : ((rank + 1) % 8 == 0) ≡ false → (rank + 1) / 8 ≡ rank / 8
-    uneven odd = let not-whole : (rank + 1) % 8 ≢ 0 = grind (arith, nat_tests) in omega (arith, not-whole)
+pub octet-step : (n k : ℕ) → one_if (((n + 1) % 8 == 0) && nat_le (n + 1) (8 * k)) + min (n / 8) k ≡ min ((n + 1) / 8) k
+octet-step n k = grind (arith, nat_tests)
 
 stored-ranked : (longest : ℕ) (b : List Bool) (p m : ℕ) → current b ≡ FlagAt p → m ≤ length b →
-    count_by (kept longest b p) (places m) ≡ min (longest + 2) (count_by (ranked b p) (places m) / 8)
+    count_by (kept longest b p) (places m) ≡ min (longest + 2) (count_by (of_flag b p) (places m) / 8)
 stored-ranked longest b p zero mark within = omega arith
 stored-ranked longest b p (suc m) mark within =
     let before = stored-ranked longest b p m mark (omega arith) in
     let more-kept = count-more (kept longest b p) m in
-    let more-ranked = count-more (ranked b p) m in
-    elim (cases_Bool (ranked b p m)) [
+    let more-ranked = count-more (of_flag b p) m in
+    elim (cases_Bool (of_flag b p m)) [
       | inr not-ranked ↦
-          let none : kept longest b p m ≡ false = unranked not-ranked in
+          let none : kept longest b p m ≡ false =
+          sym (and_assoc (nat_le (p + 8) m) (is_settled b m) _) ∙ and_left _ _ not-ranked in
           omega (arith, before, more-kept, more-ranked, ap one_if not-ranked, ap one_if none)
       | inl is-ranked ↦
-          let rank = count_by (ranked b p) (places m) in
+          let rank = count_by (of_flag b p) (places m) in
           let parts = and_parts (nat_le (p + 8) m) (is_settled b m) is-ranked in
           let begun = leb-true (p + 8) m parts.0 in
           let same = flag-stays b p (suc m) (length b) mark (omega (arith, begun)) within in
-          let size : count_by (ranked b p) (places (suc m)) ≡ rank + 1 =
+          let size : count_by (of_flag b p) (places (suc m)) ≡ rank + 1 =
           omega (arith, more-ranked, ap one_if is-ranked) in
           let now : kept longest b p m ≡ (((rank + 1) % 8 == 0) && nat_le (rank + 1) (8 * (longest + 2))) =
-          both (nat_le (p + 8) m) (is_settled b m) _ parts.0 parts.1
+          rw (parts.0, parts.1) refl
           ∙ ap (λ k. (k % 8 == 0) && nat_le k (8 * (longest + 2))) (ap (λ k. rank_under b k m) same ∙ size) in
-          more-kept
-          ∙ (rw (before, now) (sym (ap (λ k. min (longest + 2) (k / 8)) size ∙ one-stored (longest + 2) rank)))
+          omega (arith, more-kept, before, ap one_if now, size, octet-step rank (longest + 2))
     ]
-  where
-    both : (x y z : Bool) → x ≡ true → y ≡ true → (x && (y && z)) ≡ z
-    both x y z first second = rw (first, second) refl
-
-    unranked : ranked b p m ≡ false → kept longest b p m ≡ false
-    unranked no-rank = unranked-by (nat_le (p + 8) m) (is_settled b m) _ no-rank
-      where
-        unranked-by : (x y z : Bool) → (x && y) ≡ false → (x && (y && z)) ≡ false
-        unranked-by true true z no-rank = absurd (cc)
-        unranked-by true false z no-rank = refl
-        unranked-by false y z no-rank = refl
-
-count-up : (f : ℕ → Bool) (m n : ℕ) → ((i : ℕ) → m ≤ i → f i ≡ false) →
-    count_by f (places (m + n)) ≡ count_by f (places m)
-count-up f m zero none = let next : m + 0 ≡ m = omega arith in ap (λ k. count_by f (places k)) next
-count-up f m (suc n) none =
-    let next : m + suc n ≡ suc (m + n) = omega arith in
-    rw next (omega (arith, count-more f (m + n), count-up f m n none, ap one_if (none (m + n) (omega arith))))
 
 -- the octets stored for the open piece are as many as its settled data have, up to the buffer's room
 pub stored_from-is : (longest : ℕ) (b : List Bool) (p : ℕ) → current b ≡ FlagAt p →
     stored_from longest b (p + 8) ≡ min (longest + 2) (length (data_so_far (slice_range b (p + 8) (length b - 8))) / 8)
 stored_from-is longest b p mark =
     let fits = flag-fits b p (last_mark-flag b (length b) p mark).flag in
-    let size : length b ≡ (length b - 8) + 8 = omega arith in
-    let late = λ (i : ℕ) (l : length b - 8 ≤ i). settled-kept i (omega (arith, l)) in
-    ap (λ k. count_by (kept longest b p) (places k)) size
-    ∙ (count-up (kept longest b p) (length b - 8) 8 late
+    count-up (kept longest b p) (length b - 8) (length b) (omega arith) (λ i from below. settled-kept i (omega arith))
     ∙ (stored-ranked longest b p (length b - 8) mark (omega arith)
-    ∙ ap (λ k. min (longest + 2) (k / 8)) (rank-data b p (length b - 8) mark (omega arith))))
+    ∙ ap (λ k. min (longest + 2) (k / 8)) (rank-data b p (length b - 8) mark (omega arith)))
   where
     settled-kept : (i : ℕ) → length b ≤ i + 8 → kept longest b p i ≡ false
-    settled-kept i late = rw (is_settled-late b i late) (and-none (nat_le (p + 8) i))
-      where
-        and-none : (x : Bool) → (x && false) ≡ false
-        and-none true = refl
-        and-none false = refl
+    settled-kept i late = and_right (nat_le (p + 8) i) _ (and_left _ _ (is_settled-late b i late))
 
 -- and none where nothing stands after the flag
 pub none-behind : (longest : ℕ) (b : List Bool) (p : ℕ) → length b ≤ p + 8 → stored_from longest b (p + 8) ≡ 0
 none-behind longest b p short =
-    count-none (kept longest b p) (length b) (λ i below. and_left _ _ (lt-leb (p + 8) i (omega (arith, short, below))))
+    count-up (kept longest b p) 0 (length b) (omega arith)
+    (λ i from below. and_left _ _ (lt-leb (p + 8) i (omega (arith, short, below))))
 
 -- ---- what is buffered of the open piece
 
@@ -298,21 +233,14 @@ stored-behind-flag longest b p e = ap (λ m. stored_behind longest b (begun_by m
     open_if true h = refl
     open_if false h = sym (none-behind longest b p (grind (arith, nat_tests)))
 
--- where no piece has begun none is stored
-none-behind-mark : (longest origin : ℕ) (b : List Bool) (m : Mark) → current b ≡ m → first_of origin m ≡ None →
-    0 ≡ stored_open longest b
-none-behind-mark longest origin b NoMark e f = sym (ap (λ m. stored_behind longest b (begun_by m (length b))) e)
-none-behind-mark longest origin b (AbortAt a) e f = sym (ap (λ m. stored_behind longest b (begun_by m (length b))) e)
-none-behind-mark longest origin b (FlagAt p) e f = absurd (cc)
-
 -- before the first octet none is stored
 pub none-stored : {C : Type 0} (view : CheckView C) (d : LineState C) (b : List Bool) →
     After view d b → d.data_bits < 8 → 0 ≡ stored_open d.longest b
 none-stored view d b h l = by_mark (current b) refl h.piece
   where
     by_mark : (m : Mark) → current b ≡ m → HoldsFor view.folded d b m → 0 ≡ stored_open d.longest b
-    by_mark NoMark e k = none-behind-mark d.longest d.origin b NoMark e refl
-    by_mark (AbortAt a) e k = none-behind-mark d.longest d.origin b (AbortAt a) e refl
+    by_mark NoMark e k = sym (ap (λ m. stored_behind d.longest b (begun_by m (length b))) e)
+    by_mark (AbortAt a) e k = sym (ap (λ m. stored_behind d.longest b (begun_by m (length b))) e)
     by_mark (FlagAt p) e k = omega (arith, stored-behind-flag d.longest b p e, k.count, l)
 
 -- from then on those that are held

@@ -1,11 +1,11 @@
 -- Settled places, and counts over places.
-use Rattle.std.proofs.Common.{◌≡◌, ◌≢◌, ℕ, zero, suc, ◌+◌, ◌-◌, ◌≤◌, ◌<◌, Bool, true, false, not, ◌&&◌, cond, subst}
+use Rattle.std.proofs.Common.{◌≡◌, ℕ, zero, suc, ◌+◌, ◌-◌, ◌≤◌, ◌<◌, Bool, true, false, not, ◌&&◌, cond, subst}
 use Rattle.std.proofs.Common.{if◌then◌else◌, List, [], ◌∷◌, ◌++◌, length, refl, sym, ap, ◌∙◌, inl, inr, arith, nat_le}
 use Rattle.std.proofs.Common.{nat_lt, ◌*◌, ◌%◌, ◌==◌}
 use Rattle.std.specs.List.{count_by, filter, Contains, AllPairs}
 use Rattle.std.proofs.lemmas.List.{length_push}
-use Rattle.std.proofs.lemmas.List.Sums.{sum_by-append, length-filter}
-use Rattle.std.proofs.lemmas.Bool.{cases_Bool, cases_lt, and_parts, and_from, and_left, not-true, not_from_false}
+use Rattle.std.proofs.lemmas.List.Sums.{sum_by-append, length-filter, count_by-le-length}
+use Rattle.std.proofs.lemmas.Bool.{cases_lt, and_parts, and_from, and_left, not-true, not_from_false}
 use Rattle.std.proofs.lemmas.Bool.{false_from_ne_true, leb-true, le-leb, ltb-true, lt-ltb, le-ltb, both_ways, eqb-true}
 use Rattle.std.proofs.lemmas.Bool.{eq-eqb}
 use Rattle.bus_line.specs.Spelling.{ones}
@@ -37,32 +37,23 @@ count-same p q (suc n) same =
     let before = count-same p q n (λ i last. same i (omega arith)) in
     count-more p n ∙ (rw (before, same n last) refl ∙ sym (count-more q n))
 
-pub count-one : (p q : ℕ → Bool) (k n : ℕ) → k < n → ((i : ℕ) → i < n → i ≢ k → p i ≡ q i) → q k ≡ false →
-    count_by p (places n) ≡ count_by q (places n) + one_if (p k)
-count-one p q k zero inside same none = absurd (omega arith)
-count-one p q k (suc n) inside same none =
-    elim (cases_lt k n) [
-      | inl below ↦
-          let before = count-one p q k n below (λ i less. same i (omega arith)) none in
-          let same-last : p n ≡ q n = same n (omega arith) (omega arith) in
-          omega (arith, count-more p n, count-more q n, before, ap one_if same-last)
-      | inr last ↦
-          let is : k ≡ n = omega arith in
-          let others = count-same p q n (λ i less. same i (omega arith) (omega arith)) in
-          let nothing : one_if (q n) ≡ 0 = ap one_if (ap q (sym is) ∙ none) in
-          let one : one_if (p n) ≡ one_if (p k) = ap (λ i. one_if (p i)) (sym is) in
-          omega (arith, count-more p n, count-more q n, others, nothing, one)
-    ]
-
-pub count-within : (p : ℕ → Bool) (n : ℕ) → count_by p (places n) ≤ n
-count-within p zero = omega arith
-count-within p (suc n) = elim (cases_Bool (p n)) [
-  | inl is ↦ omega (arith, count-more p n, count-within p n, ap one_if is)
-  | inr is ↦ omega (arith, count-more p n, count-within p n, ap one_if is)
+-- from place m on none passes
+pub count-up : (f : ℕ → Bool) (m n : ℕ) → m ≤ n → ((i : ℕ) → m ≤ i → i < n → f i ≡ false) →
+    count_by f (places n) ≡ count_by f (places m)
+count-up f m zero within none = let start : 0 ≡ m = omega arith in ap (λ k. count_by f (places k)) start
+count-up f m (suc n) within none = elim (cases_lt n m) [
+  | inl all ↦ let end : suc n ≡ m = omega arith in ap (λ k. count_by f (places k)) end
+  | inr more ↦
+      let before = count-up f m n more (λ i from below. none i from (omega arith)) in
+      omega (arith, count-more f n, before, ap one_if (none n more (omega arith)))
 ]
 
+length-places : (n : ℕ) → length (places n) ≡ n
+length-places zero = refl
+length-places (suc n) = omega (arith, length_push (places n) n, length-places n)
+
 -- a list that goes on
-and-same : (p q r : Bool) → (p ≡ true → q ≡ r) → (p && q) ≡ (p && r)
+pub and-same : (p q r : Bool) → (p ≡ true → q ≡ r) → (p && q) ≡ (p && r)
 and-same true q r same = same refl
 and-same false q r same = refl
 
@@ -88,17 +79,15 @@ is_settled-late b i late = and_left _ _ (le-ltb (i + 8) (length b) late)
 pub one-place : (p q : ℕ → Bool) (n : ℕ) → ((i : ℕ) → i + 8 < n → p i ≡ q i) → ((i : ℕ) → suc n ≤ i + 8 → p i ≡ false) →
     ((i : ℕ) → n ≤ i + 8 → q i ≡ false) → count_by p (places (suc n)) ≡ count_by q (places n) + one_if (p (n - 8))
 one-place p q n same late before =
-    let last-none : one_if (p n) ≡ 0 = ap one_if (late n (omega arith)) in
+    let old = count-up q (n - 8) n (omega arith) (λ i from below. before i (omega arith)) in
+    let others = count-same p q (n - 8) (λ i below. same i (omega arith)) in
     elim (cases_lt n 8) [
       | inl few ↦
-          let others = count-same p q n (λ i below. late i (omega arith) ∙ sym (before i (omega arith))) in
-          omega (arith, count-more p n, others, last-none, ap one_if (late (n - 8) (omega arith)))
+          let new = count-up p (n - 8) (suc n) (omega arith) (λ i from below. late i (omega arith)) in
+          omega (arith, new, others, old, ap one_if (late (n - 8) (omega arith)))
       | inr many ↦
-          let others = count-one p q (n - 8) n (omega arith) (λ i below other. elim (cases_lt (i + 8) n) [
-            | inl here ↦ same i here
-            | inr here ↦ late i (omega arith) ∙ sym (before i here)
-          ]) (before (n - 8) (omega arith)) in
-          omega (arith, count-more p n, others, last-none)
+          let new = count-up p (suc (n - 8)) (suc n) (omega arith) (λ i from below. late i (omega arith)) in
+          omega (arith, new, count-more p (n - 8), others, old)
     ]
 
 pub assembled-more : (b : List Bool) (bit : Bool) → assembled (b ++ bit ∷ [])
@@ -140,7 +129,7 @@ stored-more longest b bit =
     (λ i late. and_left _ _ (is_settled-late b i late))
 
 pub assembled-within : (b : List Bool) → assembled b ≤ length b
-assembled-within b = count-within (is_settled b) (length b)
+assembled-within b = omega (arith, count_by-le-length (is_settled b) (places (length b)), length-places (length b))
 
 -- the test and the fact
 belongs-true : (mark : Mark) (i : ℕ) → belongs mark i ≡ true → (p : ℕ) × (mark ≡ FlagAt p) × (p + 8 ≤ i)
@@ -182,20 +171,20 @@ settled-true b i is =
       no_inserted = λ found. both_ways (is_inserted b i) (not-true (is_inserted b i) none.1) (inserted-is b i found);
     }
 
+belongs-last : (b : List Bool) (i p : ℕ) → Belongs b i p → last_mark b (suc i) ≡ FlagAt p
+belongs-last b i p one = last_mark-is b (suc i) p (record {
+  flag = one.flag;
+  below = omega (arith, one.behind);
+  greatest = λ q below mark.
+      elim (cases_lt i q) [ inl past ↦ omega arith | inr is ↦ omega (arith, one.greatest q mark is) ];
+})
+
 pub settled-is : (b : List Bool) (i : ℕ) → IsSettled b i → is_settled b i ≡ true
 settled-is b i settled =
-    let at = settled.belongs in
-    let mark =
-    last_mark-is b (suc i) settled.flag
-    (record {
-      flag = at.flag;
-      below = omega (arith, at.behind);
-      greatest =
-          λ q to found. elim (cases_lt i q) [ inl past ↦ omega arith | inr is ↦ omega (arith, at.greatest q found is) ];
-    }) in
+    let mark = belongs-last b i settled.flag settled.belongs in
     let next : suc i ≡ i + 1 = omega arith in
     and_from _ _ (lt-ltb (i + 8) (length b) settled.later)
-    (and_from _ _ (rw mark (le-leb (settled.flag + 8) i at.behind))
+    (and_from _ _ (rw mark (le-leb (settled.flag + 8) i settled.belongs.behind))
     (and_from _ _
     (not_from_false _ (false_from_ne_true _
     (λ is. settled.no_abort (subst (IsAbort b) next (abort-true b (suc i) is)))))
@@ -246,20 +235,12 @@ one-flag b i p q one other =
     let second = other.greatest p (inl one.flag) (omega (arith, one.behind)) in
     omega (arith, first, second)
 
-belongs-last : (b : List Bool) (i p : ℕ) → Belongs b i p → last_mark b (suc i) ≡ FlagAt p
-belongs-last b i p one = last_mark-is b (suc i) p (record {
-  flag = one.flag;
-  below = omega (arith, one.behind);
-  greatest = λ q below mark.
-      elim (cases_lt i q) [ inl past ↦ omega arith | inr is ↦ omega (arith, one.greatest q mark is) ];
-})
-
 belongs-before : (b : List Bool) (i j p : ℕ) → Belongs b i p → p + 8 ≤ j → j ≤ i → Belongs b j p
 belongs-before b i j p one from within =
     record { flag = one.flag; behind = from; greatest = λ q mark below. one.greatest q mark (omega arith) }
 
 -- its settled places
-abbrev of_flag : List Bool → ℕ → ℕ → Bool
+abbrev pub of_flag : List Bool → ℕ → ℕ → Bool
 of_flag b p j = nat_le (p + 8) j && is_settled b j
 
 abbrev settled_so_far : List Bool → ℕ → ℕ → List ℕ

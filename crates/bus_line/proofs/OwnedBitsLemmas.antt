@@ -1,62 +1,39 @@
 -- Each report owns bits of its own.
-use Rattle.std.proofs.Common.{◌≡◌, ℕ, suc, ◌+◌, ◌-◌, ◌≤◌, ◌<◌, Bool, true, false, List, ◌∷◌, length, get_or, refl, sym}
-use Rattle.std.proofs.Common.{◌∙◌, subst, ◌⊎◌, inl, inr, arith, nat_lt, if◌then◌else◌}
+use Rattle.std.proofs.Common.{◌≡◌, ℕ, ◌+◌, ◌-◌, ◌≤◌, ◌<◌, Bool, true, false, List, ◌∷◌, length, get_or, refl, sym}
+use Rattle.std.proofs.Common.{◌∙◌, ◌⊎◌, inl, inr, arith}
 use Rattle.std.proofs.lemmas.List.{length-append, get_or-replicate}
-use Rattle.std.proofs.lemmas.Bool.{cases_lt, both_ways, ltb-false}
+use Rattle.std.proofs.lemmas.Bool.{cases_lt, both_ways}
 use Rattle.bus_line.specs.Spelling.{ones, IsSpelledBy, ends, short, five}
-use Rattle.bus_line.specs.Mark.{flag, StandsAt, StartsRun, IsFlag, IsAbort, IsIdle, IsPiece}
-use Rattle.bus_line.specs.Report.{Report, Kind, Frame, Damaged, Overlong, due, IsClass, readable, unstuffed, IsReport}
-use Rattle.bus_line.specs.Report.{closed, aborted, idle}
-use Rattle.bus_line.specs.declared.cause.Cause.TheVariants.{Short, Unaligned, Fcs}
-use Rattle.bus_bits.specs.Octet.{octets}
+use Rattle.bus_line.specs.Mark.{flag, StandsAt, IsFlag, IsAbort, IsIdle, IsPiece}
+use Rattle.bus_line.specs.Report.{Report, Kind, Frame, due, IsClass, IsReport, closed, aborted, idle}
+use Rattle.std.specs.List.{slice_range}
+use Rattle.bus_bits.specs.Octet.{bits_of_octets}
+use Rattle.bus_bits.proofs.OctetLemmas.{length-bits_of_octets}
 use Rattle.bus_line.specs.OwnedBits.{owned_by, owned_from}
-use Rattle.bus_line.proofs.MarkLemmas.{stands-bit, fresh-bit}
-use Rattle.bus_line.proofs.DueLemmas.{class-due}
+use Rattle.bus_line.proofs.MarkLemmas.{stands-bit, stands-part, fresh-bit}
+use Rattle.bus_line.proofs.DueLemmas.{class-due, class-plain}
+use Rattle.bus_line.proofs.SentLemmas.{frame-spelled}
 use Rattle.bus_line.proofs.SpellingRawLemmas.{range-length}
-use Rattle.bus_line.proofs.DueStreamLemmas.{flag-not_abort, stands-part}
+use Rattle.bus_line.proofs.DueStreamLemmas.{flag-not_abort}
 
 -- bits
 pub ones-bit : (b : List Bool) (a n j : ℕ) → StandsAt b a (ones n) → length (ones n) ≡ n → a ≤ j → j < a + n →
     get_or b j false ≡ true
 ones-bit b a n j stands size begun before =
-    let k = j - a in
-    let place : a + (j - a) ≡ j = omega arith in
-    subst (λ i. get_or b i false ≡ true) place (stands-bit b a (ones n) k stands (omega (arith, size))
-    ∙ get_or-replicate n k true false (omega arith))
+    stands-bit b a (ones n) (j - a) j stands (omega (arith, size)) (omega arith)
+    ∙ get_or-replicate n (j - a) true false (omega arith)
 
-fresh-zero : (b : List Bool) (a j : ℕ) → StartsRun b a → a ≡ suc j → get_or b j false ≡ false
-fresh-zero b a j start next = let here : j + 0 ≡ j = omega arith in rw here at (fresh-bit b j (rw next at start))
-
-flag-last : (b : List Bool) (p j : ℕ) → IsFlag b p → p + 7 ≡ j → get_or b j false ≡ false
-flag-last b p j is-flag end = rw end at (stands-bit b p flag 7 is-flag (omega arith))
-
-pub flag-first : (b : List Bool) (p j : ℕ) → IsFlag b p → p ≡ j → get_or b j false ≡ false
-flag-first b p j is-flag place =
-    let here : p + 0 ≡ j = omega (arith, place) in rw here at (stands-bit b p flag 0 is-flag (omega arith))
-
-pub clash : (b : List Bool) (j : ℕ) → get_or b j false ≡ false → get_or b j false ≡ true → ⊥
-clash b j low high = both_ways (get_or b j false) low high
+pub flag-first : (b : List Bool) (p : ℕ) → IsFlag b p → get_or b p false ≡ false
+flag-first b p is-flag = stands-bit b p flag 0 p is-flag (omega arith) (omega arith)
 
 idle-abort : (b : List Bool) (a : ℕ) → IsIdle b a → IsAbort b a
-idle-abort b a is-idle = let here : a + 0 ≡ a = omega arith in
-    (rw here at (stands-part b a (ones 15) 0 7 15 refl (omega arith) is-idle.0), is-idle.1)
+idle-abort b a is-idle = (stands-part b a (ones 15) 0 a 7 (omega arith) (omega arith) is-idle.0, is-idle.1)
 
 -- a class takes its own bits
-data-owned : (t u v w : Bool) (os : List ℕ) (first : ℕ) →
-    owned_by
-    (if t then Overlong else
-    (if u then Damaged Short else (if v then Damaged Unaligned else (if w then Damaged Fcs else Frame os)))) first
-    ≡ first
-data-owned true u v w os first = refl
-data-owned false true v w os first = refl
-data-owned false false true w os first = refl
-data-owned false false false true os first = refl
-data-owned false false false false os first = refl
-
 class-owned : (longest : ℕ) (raw : List Bool) (kind : Kind) (first : ℕ) → IsClass longest raw kind →
     owned_by kind first ≡ first
-class-owned longest raw _ first (readable d spelled) = data-owned _ _ _ _ (octets d) first
-class-owned longest raw _ first (unstuffed none) = refl
+class-owned longest raw kind first is =
+    class-plain longest raw kind (λ k. owned_by k first ≡ first) refl (λ cause. refl) (λ os. refl) is
 
 pub owns-eight : (longest : ℕ) (b : List Bool) (r : Report) → IsReport longest b r → owned_from r + 8 ≤ due r + 1
 owns-eight longest b _ (closed p m kind piece end is-class) =
@@ -71,34 +48,18 @@ spelled-longer _ _ (short k d r few spelled) =
     omega (arith, length-append (ones k) (false ∷ d), length-append (ones k) (false ∷ r), spelled-longer d r spelled)
 spelled-longer _ _ (five d r spelled) = omega (arith, spelled-longer d r spelled)
 
-frame-long : (t u v w : Bool) (os qs : List ℕ) →
-    (if t then Overlong else
-    (if u then Damaged Short else (if v then Damaged Unaligned else (if w then Damaged Fcs else Frame os))))
-    ≡ Frame qs →
-    u ≡ false
-frame-long true u v w os qs is = absurd (cc)
-frame-long false true v w os qs is = absurd (cc)
-frame-long false false v w os qs is = refl
-
-class-long : (longest : ℕ) (raw : List Bool) (kind : Kind) (os : List ℕ) → IsClass longest raw kind → kind ≡ Frame os →
-    32 ≤ length raw
-class-long longest raw _ os (readable d spelled) is =
-    omega (
-      arith,
-      spelled-longer d raw spelled,
-      ltb-false (length d) 32 (frame-long _ (nat_lt (length d) 32) _ _ (octets d) os is),
-    )
-class-long longest raw _ os (unstuffed none) is = absurd (cc)
-
 pub frame-owns : (longest : ℕ) (b : List Bool) (r : Report) (os : List ℕ) → IsReport longest b r → r.kind ≡ Frame os →
     owned_from r + 40 ≤ due r + 1
 frame-owns longest b _ os (closed p m kind piece end is-class) is =
+    let frame = frame-spelled longest b _ os (closed p m kind piece end is-class) is in
     omega (
       arith,
       piece.some,
       class-due longest _ kind (p + 8) m is-class,
       class-owned longest _ kind (p + 8) is-class,
-      class-long longest _ kind os is-class is,
+      frame.2,
+      length-bits_of_octets os,
+      spelled-longer (bits_of_octets os) (slice_range b (p + 8) m) frame.0,
       range-length b (p + 8) m,
     )
 frame-owns longest b _ os (aborted p m piece end) is = absurd (cc)
@@ -139,7 +100,7 @@ piece-apart b p m n e piece due-at at before =
         | inr found ↦ elim (cases_lt p found.0) [
           | inl past ↦ omega (arith, piece.next.least found.0 past (inr (idle-abort b found.0 found.1)), found.2)
           | inr early ↦ elim (cases_lt p (found.0 + 15)) [
-            | inl in-run ↦ absurd (clash b p (flag-first b p p piece.opening refl)
+            | inl in-run ↦ absurd (both_ways _ (flag-first b p piece.opening)
                 (ones-bit b found.0 15 p found.1.0 refl early in-run))
             | inr after ↦ omega (arith, found.2)
           ]
@@ -152,12 +113,12 @@ idle-apart : (b : List Bool) (a n : ℕ) → IsIdle b a → Ends b n → n < a +
 idle-apart b a n is-idle at before = elim (cases_lt n (a + 7)) [
   | inl early ↦ early
   | inr late ↦ absurd (elim at.flag_or_run [
-    | inl found ↦ clash b n (flag-last b found.0 n found.1 found.2)
+    | inl found ↦ both_ways _ (stands-bit b found.0 flag 7 n found.1 (omega arith) found.2)
         (ones-bit b a 15 n is-idle.0 refl (omega arith) (omega arith))
     | inr run ↦ elim run [
-      | inl found ↦ clash b (found.0 - 1) (fresh-zero b found.0 (found.0 - 1) found.1.1 (omega (arith, found.2)))
+      | inl found ↦ both_ways _ (fresh-bit b found.0 (found.0 - 1) found.1.1 (omega (arith, found.2)))
           (ones-bit b a 15 (found.0 - 1) is-idle.0 refl (omega (arith, found.2)) (omega (arith, found.2)))
-      | inr found ↦ clash b (a - 1) (fresh-zero b a (a - 1) is-idle.1 (omega (arith, found.2)))
+      | inr found ↦ both_ways _ (fresh-bit b a (a - 1) is-idle.1 (omega (arith, found.2)))
           (ones-bit b found.0 15 (a - 1) found.1.0 refl (omega (arith, found.2)) (omega (arith, found.2)))
     ]
   ])

@@ -9,11 +9,12 @@ use Rattle.std.proofs.lemmas.List.Quantifiers.{all_pairs_push}
 use Rattle.std.proofs.lemmas.Bool.{cases_lt, cond-true, ltb-true, lt-ltb}
 use Rattle.bus_line.specs.Report.{Report, due, IsReport, closed, aborted, idle, AreReports}
 use Rattle.bus_line.specs.Spelling.{ones}
-use Rattle.bus_line.specs.Mark.{flag, IsMark, HasBegun}
+use Rattle.bus_line.specs.Mark.{flag, HasBegun}
 use Rattle.bus_line.proofs.MarkLemmas.{stands-within, IsLastFlag, last_mark-flag, last_mark-is}
 use Rattle.std.proofs.lemmas.Option.{cond_some}
 use Rattle.bus_line.specs.Due.{Mark, NoMark, FlagAt, AbortAt, last_mark, due_at, places, reports, begun_by, begun}
 use Rattle.bus_line.proofs.DueLemmas.{class-due, due_at-is, due_at-report}
+use Rattle.bus_line.proofs.DueStreamLemmas.{mark-fits}
 
 -- ---- lists that rise by a number of each element
 
@@ -149,11 +150,6 @@ due-it longest b i r = (
   λ is. due_at-report longest b i r is,
 )
 
--- a mark stands within the list
-mark-within : (b : List Bool) (q : ℕ) → IsMark b q → q < length b
-mark-within b q (inl is-flag) = omega (arith, stands-within b q flag is-flag (omega arith))
-mark-within b q (inr is-abort) = omega (arith, stands-within b q (ones 7) is-abort.0 (omega arith))
-
 pub begun_by-Some : (mark : Mark) (n first : ℕ) → begun_by mark n ≡ Some first →
     (p : ℕ) × (mark ≡ FlagAt p) × (p + 8 < n) × (p + 8 ≡ first)
 begun_by-Some NoMark n first is = absurd (cc)
@@ -178,7 +174,7 @@ begun-from b first is =
       flag_at = found.0;
       opening = last.flag;
       greatest = λ q mark. elim (cases_lt found.0 q) [
-        | inl past ↦ absurd (omega (arith, last.greatest q past mark, mark-within b q mark))
+        | inl past ↦ absurd (omega (arith, last.greatest q past mark, mark-fits b q mark))
         | inr is ↦ is
       ];
       behind = sym found.3;

@@ -1,26 +1,27 @@
 -- What was sent is read back.
 use Rattle.std.proofs.Common.{◌≡◌, ◌≢◌, ℕ, zero, suc, ◌+◌, ◌-◌, ◌≤◌, ◌<◌, Bool, true, false, List, [], ◌∷◌, ◌++◌}
-use Rattle.std.proofs.Common.{length, take, drop, Option, Some, None, refl, sym, ap, ◌∙◌, subst, arith, nat_lt}
-use Rattle.std.proofs.Common.{if◌then◌else◌}
+use Rattle.std.proofs.Common.{length, Option, Some, None, refl, sym, ap, ◌∙◌, subst, arith, if◌then◌else◌}
 use Rattle.std.specs.List.{slice_range, All}
 use Rattle.std.specs.Option.{option_to_list}
-use Rattle.std.proofs.lemmas.List.{append_assoc, append-nil, length-append, length_push, drop_at, take_at}
+use Rattle.std.proofs.lemmas.List.{append_assoc, append-nil, length-append, length_push}
+use Rattle.std.proofs.Math.Seq.{drop-append_seam, take-append_seam}
 use Rattle.std.proofs.lemmas.List.Elements.{All-head, All-tail}
-use Rattle.std.proofs.lemmas.Bool.{cond-false}
-use Rattle.std.proofs.lemmas.Bool.Decides.{nat_tests}
 use Rattle.bus_line.specs.Spelling.{ones, IsSpelledBy, ends, short, five}
 use Rattle.bus_line.specs.Internal.Run.{ones_after, ones_at_end}
 use Rattle.bus_line.specs.Mark.{flag}
+use Rattle.bus_line.specs.Internal.Flags.{EndsInFlag}
+use Rattle.bus_line.proofs.FlagLemmas.{flag-last, flag-length, run-here}
 use Rattle.bus_line.specs.Report.{Kind, Report, class_of_data}
-use Rattle.bus_line.specs.Due.{reports, due_at, class_of, class_of_read, piece_report, FlagAt, AbortAt, current}
+use Rattle.bus_line.specs.Due.{reports, due_at, class_of, class_of_read, piece_report, AbortAt, current}
 use Rattle.bus_line.specs.Line.{Call, Flag, Idle, Frame, raw_bits, added, line_behind}
 use Rattle.bus_line.specs.Sent.{CanBeRead, idle_at, sent_frame, read_of, read_behind, LineIsReadBack}
 use Rattle.bus_line.proofs.SpellingLemmas.{unspelled-is}
 use Rattle.bus_line.proofs.RunLemmas.{IsLow, IsLow-start, spelled-low, ones_after-more}
 use Rattle.bus_line.proofs.DueMoreLemmas.{reports-more}
-use Rattle.bus_line.proofs.DueLemmas.{piece_report-is}
+use Rattle.bus_line.proofs.DueLemmas.{piece_report-is, piece_report-shut}
 use Rattle.bus_line.proofs.SpellingRawLemmas.{low-ones}
-use Rattle.bus_line.proofs.DueStreamLemmas.{at-flag, at-abort, at-idle, at-other}
+use Rattle.bus_line.proofs.DueStreamLemmas.{at-flag, at-abort, at-idle}
+use Rattle.bus_line.proofs.StepLemmas.{decides-nothing}
 use Rattle.bus_line.proofs.SentLemmas.{data_sent, length-sent, raw-spelled, class-sent}
 
 -- the bits c after b leave the reports, the last mark and k ones at the end
@@ -55,7 +56,7 @@ many-neither n many = (λ six. omega (arith, many, six), λ fourteen. omega (ari
 quiet-bit : (longest : ℕ) (b : List Bool) (x : Bool) → IsNeither (ones_at_end b) →
     Quiet longest b (x ∷ []) (if x then suc (ones_at_end b) else 0)
 quiet-bit longest b x neither =
-    let other = at-other longest b x (λ is six long. neither.0 six) (λ is. neither) in
+    let other = decides-nothing longest b x neither.0 neither.1 in
     record {
       none = reports-more longest b x
           ∙ (ap (λ y. reports longest b ++ option_to_list y) other.answers ∙ append-nil (reports longest b));
@@ -99,82 +100,47 @@ record Adds (longest : ℕ) (b c : List Bool) (rs : List Report) (Ends : List Bo
 abbrev IsShut : List Bool → Type 0
 IsShut b = (kind : ℕ → Kind) → piece_report kind (current b) (length b) ≡ None
 
--- a flag stands at the end
-record EndsFlag (b : List Bool) : Type 0 where
-  run : ones_at_end b ≡ 0
-  mark : current b ≡ FlagAt (length b - 8)
-  room : 8 ≤ length b
-
-piece_report-shut : (kind : ℕ → Kind) (p m : ℕ) → m ≤ p + 8 → piece_report kind (FlagAt p) m ≡ None
-piece_report-shut kind p m early = let none : nat_lt (p + 8) m ≡ false =
-    grind (arith, nat_tests) in cond-false (nat_lt (p + 8) m) _ _ none
-
-flag-shut : (b : List Bool) → EndsFlag b → IsShut b
-flag-shut b ended kind = ap (λ x. piece_report kind x (length b)) ended.mark
-    ∙ piece_report-shut kind (length b - 8) (length b) (omega (arith, ended.room))
+flag-shut : (b : List Bool) → EndsInFlag b → IsShut b
+flag-shut b ended kind = ap (λ x. piece_report kind x (length b)) (flag-last b ended)
+    ∙ piece_report-shut kind (length b - 8) (length b) (omega (arith, flag-length b ended))
 
 -- a flag after any bits but six ones
-record FlagAdded (longest : ℕ) (b : List Bool) : Type 0 where
-  adds : reports longest (b ++ flag) ≡ reports longest b
-      ++ option_to_list (piece_report (λ p. class_of longest (slice_range (b ++ flag) (p + 8) (length b))) (current b)
-      (length b))
-  ends : EndsFlag (b ++ flag)
-  place : current (b ++ flag) ≡ FlagAt (length b)
-
-flag-added : (longest : ℕ) (b : List Bool) → IsNeither (ones_at_end b) → FlagAdded longest b
+flag-added : (longest : ℕ) (b : List Bool) → IsNeither (ones_at_end b) → reports longest (b ++ flag)
+    ≡ reports longest b ++ option_to_list
+    (piece_report (λ p. class_of longest (slice_range (b ++ flag) (p + 8) (length b))) (current b) (length b))
 flag-added longest b neither =
     let first = quiet-bit longest b false neither in
     let more = quiet-ones longest (b ++ false ∷ []) 0 6 first.run
     (λ i below. few-neither (0 + i) (omega (arith, below))) in
     let quiet = quiet-more first more in
     let c = b ++ false ∷ ones 6 in
-    let six : ones_at_end (b ++ false ∷ ones 6) ≡ 6 = quiet.run ∙ omega arith in
     let size : length (b ++ false ∷ ones 6) ≡ length b + 7 = length-append b (false ∷ ones 6) in
     let at : length (b ++ false ∷ ones 6) - 7 ≡ length b = omega (arith, size) in
-    let decides = at-flag longest c six (omega (arith, size)) in
+    let decides = at-flag longest c (quiet.run ∙ omega arith) (omega (arith, size)) in
     let whole : c ++ false ∷ [] ≡ b ++ flag = append_assoc b (false ∷ ones 6) (false ∷ []) in
-    let all : length (b ++ flag) ≡ length b + 8 = length-append b flag in
-    let place : current (b ++ flag) ≡ FlagAt (length b) = ap current (sym whole) ∙ (decides.leaves ∙ ap FlagAt at) in
-    let end : length b ≡ length (b ++ flag) - 8 = omega (arith, all) in
-    record {
-      adds =
-          ap (reports longest) (sym whole)
-          ∙ (reports-more longest c false
-          ∙ (ap (λ x. x ++ option_to_list (due_at longest (c ++ false ∷ []) (length c))) quiet.none
-          ∙ ap (λ x. reports longest b ++ option_to_list x)
-          (decides.answers
-          ∙ (ap (λ x. piece_report (λ p. class_of longest (slice_range x (p + 8) (length c - 7))) (current c)
-          (length c - 7)) whole
-          ∙ (ap (λ k. piece_report (λ p. class_of longest (slice_range (b ++ flag) (p + 8) k)) (current c) k) at
-          ∙ ap (λ x. piece_report (λ p. class_of longest (slice_range (b ++ flag) (p + 8) (length b))) x (length b))
-          quiet.mark)))));
-      ends = record {
-        run = ap ones_at_end (sym whole) ∙ ones_after-more 0 c false;
-        mark = place ∙ ap FlagAt end;
-        room = omega (arith, all);
-      };
-      place = place;
-    }
+    ap (reports longest) (sym whole)
+    ∙ (reports-more longest c false
+    ∙ (ap (λ x. x ++ option_to_list (due_at longest (c ++ false ∷ []) (length c))) quiet.none
+    ∙ ap (λ x. reports longest b ++ option_to_list x) (decides.answers ∙ rw (whole, at, quiet.mark) refl)))
 
 range-mid : (b r t : List Bool) → slice_range ((b ++ r) ++ t) (length b) (length b + length r) ≡ r
 range-mid b r t =
     let size : (length b + length r) - length b ≡ length r = omega arith in
     ap (λ x. slice_range x (length b) (length b + length r)) (append_assoc b r t)
-    ∙ (ap (λ n. take n (drop (length b) (b ++ (r ++ t)))) size
-    ∙ (ap (take (length r)) (drop_at b (r ++ t) (length b) refl) ∙ take_at r t (length r) refl))
+    ∙ rw (drop-append_seam, size) (take-append_seam r t)
 
 -- raw bits of data and a flag, after a flag
-content-added : (longest : ℕ) (b d r : List Bool) → EndsFlag b → IsSpelledBy d r → 0 < length r
+content-added : (longest : ℕ) (b d r : List Bool) → EndsInFlag b → IsSpelledBy d r → 0 < length r
     → Adds longest b (r ++ flag)
-    (record { kind = class_of_data longest d; first = length b; past = length b + length r } ∷ []) EndsFlag
+    (record { kind = class_of_data longest d; first = length b; past = length b + length r } ∷ []) EndsInFlag
 content-added longest b d r opened spelled some =
-    let low : IsLow (ones_at_end b) r = subst (λ n. IsLow n r) (sym opened.run) (spelled-low d r spelled) in
+    let low : IsLow (ones_at_end b) r = subst (λ n. IsLow n r) (sym (run-here b opened)) (spelled-low d r spelled) in
     let quiet = quiet-low longest b r low in
     let few : ones_at_end (b ++ r) ≤ 5 = omega (arith, quiet.run, low-ones (ones_at_end b) r low) in
     let closed = flag-added longest (b ++ r) (few-neither (ones_at_end (b ++ r)) few) in
     let whole : (b ++ r) ++ flag ≡ b ++ (r ++ flag) = append_assoc b r flag in
     let size : length (b ++ r) ≡ length b + length r = length-append b r in
-    let first : (length b - 8) + 8 ≡ length b = omega (arith, opened.room) in
+    let first : (length b - 8) + 8 ≡ length b = omega (arith, flag-length b opened) in
     let kind : ℕ → Kind = λ p. class_of longest (slice_range ((b ++ r) ++ flag) (p + 8) (length b + length r)) in
     let read : kind (length b - 8) ≡ class_of_data longest d =
     ap (λ i. class_of longest (slice_range ((b ++ r) ++ flag) i (length b + length r))) first
@@ -183,16 +149,16 @@ content-added longest b d r opened spelled some =
     (current (b ++ r)) (length (b ++ r))
     ≡ Some (record { kind = class_of_data longest d; first = length b; past = length b + length r }) =
     ap (λ k. piece_report (λ p. class_of longest (slice_range ((b ++ r) ++ flag) (p + 8) k)) (current (b ++ r)) k) size
-    ∙ (ap (λ x. piece_report kind x (length b + length r)) (quiet.mark ∙ opened.mark)
+    ∙ (ap (λ x. piece_report kind x (length b + length r)) (quiet.mark ∙ flag-last b opened)
     ∙ (piece_report-is kind (length b - 8) (length b + length r) (omega (arith, first, some))
     ∙ (ap (λ (i : ℕ). Some (record { kind = kind (length b - 8); first = i; past = length b + length r })) first
     ∙ ap (λ (k : Kind). Some (record { kind = k; first = length b; past = length b + length r })) read))) in
     record {
       adds = ap (reports longest) (sym whole)
-          ∙ (closed.adds ∙ (ap (λ x. reports longest (b ++ r) ++ option_to_list x) report
+          ∙ (closed ∙ (ap (λ x. reports longest (b ++ r) ++ option_to_list x) report
           ∙ ap (λ x. x ++ record { kind = class_of_data longest d; first = length b; past = length b + length r } ∷ [])
           quiet.none));
-      ends = subst EndsFlag whole closed.ends;
+      ends = record { front = b ++ r; all = sym whole };
     }
 
 spelled-some : (d r : List Bool) → IsSpelledBy d r → 0 < length d → 0 < length r
@@ -200,8 +166,8 @@ spelled-some _ _ (ends k few) some = some
 spelled-some _ _ (short k d r few spelled) some = omega (arith, length-append (ones k) (false ∷ r))
 spelled-some _ _ (five d r spelled) some = omega arith
 
-frame-added : (longest : ℕ) (b : List Bool) (os : List ℕ) → EndsFlag b → CanBeRead longest (Frame os) →
-    Adds longest b (raw_bits os ++ flag) (sent_frame (length b) os ∷ []) EndsFlag
+frame-added : (longest : ℕ) (b : List Bool) (os : List ℕ) → EndsInFlag b → CanBeRead longest (Frame os) →
+    Adds longest b (raw_bits os ++ flag) (sent_frame (length b) os ∷ []) EndsInFlag
 frame-added longest b os opened readable =
     let spelled = raw-spelled os in
     let content = content-added longest b (data_sent os) (raw_bits os) opened spelled
@@ -274,20 +240,22 @@ idle-goes_on longest b ended =
 -- the bits b end as they do after this call, or are none
 abbrev EndsWith : Option Call → List Bool → Type 0
 EndsWith None b = b ≡ []
-EndsWith (Some Flag) b = EndsFlag b
+EndsWith (Some Flag) b = EndsInFlag b
 EndsWith (Some Idle) b = EndsIdle b
-EndsWith (Some (Frame os)) b = EndsFlag b
+EndsWith (Some (Frame os)) b = EndsInFlag b
 
 -- a flag, where no piece has begun
-lone-flag : (longest : ℕ) (b : List Bool) → IsNeither (ones_at_end b) × IsShut b → Adds longest b flag [] EndsFlag
+lone-flag : (longest : ℕ) (b : List Bool) → IsNeither (ones_at_end b) × IsShut b → Adds longest b flag [] EndsInFlag
 lone-flag longest b rest =
-    let closed = flag-added longest b rest.0 in
-    record { adds = closed.adds ∙ ap (λ x. reports longest b ++ option_to_list x) (rest.1 _); ends = closed.ends }
+    record {
+      adds = flag-added longest b rest.0 ∙ ap (λ x. reports longest b ++ option_to_list x) (rest.1 _);
+      ends = record { front = b; all = refl };
+    }
 
 -- a flag and a frame, where no piece has begun
 flag-frame : (longest : ℕ) (b : List Bool) (os : List ℕ) → IsNeither (ones_at_end b) × IsShut b →
     CanBeRead longest (Frame os)
-    → Adds longest b (flag ++ (raw_bits os ++ flag)) (sent_frame (length b + 8) os ∷ []) EndsFlag
+    → Adds longest b (flag ++ (raw_bits os ++ flag)) (sent_frame (length b + 8) os ∷ []) EndsInFlag
 flag-frame longest b os rest readable =
     let opened = lone-flag longest b rest in
     let frame = frame-added longest (b ++ flag) os opened.ends readable in
@@ -295,23 +263,23 @@ flag-frame longest b os rest readable =
     record {
       adds = ap (reports longest) (sym whole)
           ∙ (frame.adds ∙ rw (opened.adds ∙ append-nil (reports longest b), length-append b flag) refl);
-      ends = subst EndsFlag whole frame.ends;
+      ends = subst EndsInFlag whole frame.ends;
     }
 
 -- after a call no piece has begun, and one bit more decides nothing
 at-rest : (before : Option Call) (b : List Bool) → EndsWith before b → IsNeither (ones_at_end b) × IsShut b
 at-rest None b start = rw start (few-neither 0 (omega arith), λ kind. refl)
-at-rest (Some Flag) b ended = (few-neither (ones_at_end b) (omega (arith, ended.run)), flag-shut b ended)
+at-rest (Some Flag) b ended = (few-neither (ones_at_end b) (omega (arith, run-here b ended)), flag-shut b ended)
 at-rest (Some Idle) b ended = (many-neither (ones_at_end b) ended.run, idle-shut b ended)
-at-rest (Some (Frame ps)) b ended = (few-neither (ones_at_end b) (omega (arith, ended.run)), flag-shut b ended)
+at-rest (Some (Frame ps)) b ended = (few-neither (ones_at_end b) (omega (arith, run-here b ended)), flag-shut b ended)
 
 step : (longest : ℕ) (before : Option Call) (call : Call) (b : List Bool) → EndsWith before b → CanBeRead longest call →
     Adds longest b (added before call) (read_of (length b) before call) (EndsWith (Some call))
 step longest before Flag b ended readable = lone-flag longest b (at-rest before b ended)
 step longest None Idle b start readable = idle-added longest b (ap ones_at_end start) (at-rest None b start).1
-step longest (Some Flag) Idle b ended readable = idle-added longest b ended.run (flag-shut b ended)
+step longest (Some Flag) Idle b ended readable = idle-added longest b (run-here b ended) (flag-shut b ended)
 step longest (Some Idle) Idle b ended readable = idle-goes_on longest b ended
-step longest (Some (Frame ps)) Idle b ended readable = idle-added longest b ended.run (flag-shut b ended)
+step longest (Some (Frame ps)) Idle b ended readable = idle-added longest b (run-here b ended) (flag-shut b ended)
 step longest None (Frame os) b start readable = flag-frame longest b os (at-rest None b start) readable
 step longest (Some Flag) (Frame os) b ended readable = frame-added longest b os ended readable
 step longest (Some Idle) (Frame os) b ended readable = flag-frame longest b os (at-rest (Some Idle) b ended) readable

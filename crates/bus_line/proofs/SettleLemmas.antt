@@ -1,10 +1,11 @@
 -- What bits taken at once settle.
 use Rattle.std.proofs.Common.{◌≡◌, ℕ, zero, suc, ◌+◌, ◌-◌, ◌*◌, ◌/◌, ◌%◌, ◌^◌, ◌≤◌, ◌<◌, ◌==◌, Bool, true, false, ◌&&◌}
 use Rattle.std.proofs.Common.{cond, List, [], ◌∷◌, ◌++◌, length, take, get_or, Option, Some, None, refl, sym, ap, ◌∙◌}
-use Rattle.std.proofs.Common.{arith, if◌then◌else◌, inl, inr, length-append, min}
+use Rattle.std.proofs.Common.{subst, arith, if◌then◌else◌, inl, inr, length-append, min}
 use Rattle.std.specs.Prelude.{nat_le}
-use Rattle.std.proofs.Math.Nat.{mul-add, mul-zero}
+use Rattle.std.proofs.Math.Nat.{mul-add, mul-zero, add-zero}
 use Rattle.std.proofs.lemmas.Nat.{shr-shr}
+use Rattle.std.proofs.Math.Seq.{take-suc}
 use Rattle.std.proofs.lemmas.List.{length_push, append_assoc, append-nil}
 use Rattle.std.proofs.lemmas.Bool.{cases_Bool, cases_lt, false_from_ne_true, eqb-true}
 use Rattle.std.proofs.lemmas.Bool.Decides.{nat_tests}
@@ -15,16 +16,15 @@ use Rattle.bus_line.specs.Due.{FlagAt, current}
 use Rattle.bus_line.specs.Ledger.{is_settled, is_inserted, assembled, stored}
 use Rattle.bus_line.specs.Internal.LineState.{LineState}
 use Rattle.bus_line.specs.Internal.LineView.{settles_from}
-use Rattle.bus_line.specs.Internal.Tracks.{first_of, settled_data, Counts, Tracks}
+use Rattle.bus_line.specs.Internal.Tracks.{first_of, settled_data, HoldsFor, Counts, Tracks}
 use Rattle.bus_line.specs.After.{After}
 use Rattle.bus_line.specs.Internal.Settled.{AppendsBits, HasNoStop, IsWord, LagsBy, data_in_word, octets_more}
 use Rattle.bus_line.proofs.LedgerSettledLemmas.{assembled-more, stored-more}
-use Rattle.bus_line.proofs.LedgerRankLemmas.{stores-now}
+use Rattle.bus_line.proofs.LedgerRankLemmas.{stores-now, octet-step}
 use Rattle.bus_line.proofs.WordLemmas.{length-front, word-inserted, word-bit, word-next}
-use Rattle.bus_line.proofs.WholeLemmas.{take_next}
 use Rattle.bus_line.proofs.StepLemmas.{first-Some, none-holds, none-settled, early-settled, inserted-settled}
-use Rattle.bus_line.proofs.StepLemmas.{data-settled, stored-false, data-early, data-inserted, data-more, counts-kept}
-use Rattle.bus_line.proofs.StepLemmas.{holds-of, holds-for, stands-same, moved-counts, moved-holds, mark-kept}
+use Rattle.bus_line.proofs.StepLemmas.{data-settled, nothing-more, data-early, data-inserted, data-more, counts-kept}
+use Rattle.bus_line.proofs.StepLemmas.{stands-same, moved-counts, moved-holds, decides-nothing}
 
 -- ---- what bits settle
 
@@ -53,19 +53,12 @@ settles-both longest p a b c x y first next = record {
 settles-nothing : (longest p : ℕ) (b : List Bool) (bit : Bool) → is_settled (b ++ bit ∷ []) (length b - 8) ≡ false →
     settled_data (b ++ bit ∷ []) p ≡ settled_data b p → Settles longest p b (b ++ bit ∷ []) []
 settles-nothing longest p b bit unsettled same =
-    let counted : assembled (b ++ bit ∷ []) ≡ assembled b = assembled-more b bit ∙ rw unsettled (omega arith) in
-    let kept : stored longest (b ++ bit ∷ []) ≡ stored longest b =
-    stored-more longest b bit ∙ rw (stored-false longest (b ++ bit ∷ []) (length b - 8) unsettled) (omega arith) in
+    let counted = nothing-more longest b bit unsettled in
     record {
       more = same ∙ sym (append-nil (settled_data b p));
-      settled = omega (arith, counted);
-      filled = omega (arith, kept, ap (λ (z : List Bool). min (length z / 8) (longest + 2)) same);
+      settled = omega (arith, counted.0);
+      filled = omega (arith, counted.1, ap (λ (z : List Bool). min (length z / 8) (longest + 2)) same);
     }
-
--- the full octets of one bit more, as far as there is room
-octet-step : (n k : ℕ) → (if (((n + 1) % 8 == 0) && nat_le (n + 1) (8 * k)) then 1 else 0) + min (n / 8) k
-    ≡ min ((n + 1) / 8) k
-octet-step n k = grind (arith, nat_tests)
 
 -- a bit of data
 settles-data : (longest p : ℕ) (b : List Bool) (bit : Bool) → current b ≡ FlagAt p → p + 16 ≤ length b →
@@ -101,10 +94,8 @@ bit-is n false is = rw is refl
 pub next-bit : (i : ℕ) (b bits : List Bool) → i < length bits →
     b ++ take (suc i) bits ≡ (b ++ take i bits) ++ get_or bits i false ∷ []
 next-bit i b bits inside =
-    let next : suc i ≡ i + 1 = omega arith in
-    ap (λ (j : ℕ). b ++ take j bits) next
-    ∙ (ap (λ (z : List Bool). b ++ z) (take_next bits i false inside)
-    ∙ sym (append_assoc b (take i bits) (get_or bits i false ∷ [])))
+    ap (λ (z : List Bool). b ++ z) (take-suc bits i false inside)
+    ∙ sym (append_assoc b (take i bits) (get_or bits i false ∷ []))
 
 -- a bit that comes late enough
 settles-late : (longest p w i : ℕ) (b bits : List Bool) (bit : Bool) → IsWord w b bits → i < length bits →
@@ -140,7 +131,7 @@ mark-no_stop b bits n zero no_stop within inside = ap current (append-nil b)
 mark-no_stop b bits n (suc i) no_stop within inside =
     let here = no_stop i (omega (arith, within)) in
     ap current (next-bit i b bits (omega (arith, inside)))
-    ∙ (mark-kept (b ++ take i bits) (get_or bits i false) here.0 here.1
+    ∙ ((decides-nothing 3 (b ++ take i bits) (get_or bits i false) here.0 here.1).leaves
     ∙ mark-no_stop b bits n i no_stop (omega (arith, within)) (omega (arith, inside)))
 
 -- where no flag was last they settle nothing, nor does the bit after them
@@ -206,7 +197,7 @@ tracks-settled {C} {view} {p} {d} {e} {b} {bits} {gained} lags mark settles appe
     let kept = appends.kept in
     let longest = ap (λ (x : LineState C). x.longest) kept in
     let origin = ap (λ (x : LineState C). x.origin) kept in
-    let held = holds-of view.folded d b p (current b) mark lags.piece in
+    let held = subst (HoldsFor view.folded d b) mark lags.piece in
     let spent = appends.spent (settled_data b p) held in
     let n = octets_more d.longest (length (settled_data b p)) (length gained) in
     let more : length (settled_data (b ++ bits) p) ≡ length (settled_data b p) + length gained =
@@ -217,7 +208,7 @@ tracks-settled {C} {view} {p} {d} {e} {b} {bits} {gained} lags mark settles appe
       has_taken = stands-same d e (b ++ bits) (ap (λ (x : LineState C). x.place) kept) origin
           (ap (λ (x : LineState C). x.last_bits) kept) lags.has_taken;
       first = ap (λ (x : LineState C). x.first) kept ∙ (lags.first ∙ ap (λ k. first_of k (current b)) (sym origin));
-      piece = holds-for view.folded e (b ++ bits) p (current b) mark
+      piece = subst (HoldsFor view.folded e (b ++ bits)) (sym mark)
           (rw settles.more (appends.holds (settled_data b p) held));
       counts = rw longest (record {
         settled = ap (λ (x : Spent). x.assembled) spent ∙ omega (arith, lags.counts.settled, settles.settled);
@@ -239,11 +230,7 @@ spent-none : (s : Spent) (cost longest n : ℕ) →
     }
 spent-none s cost longest n =
     let none : octets_more longest n 0 ≡ 0 = omega arith in
-    let product = mul-zero cost in
-    let same-assembled : s.assembled + 0 ≡ s.assembled = omega arith in
-    let same-stored : s.stored + 0 ≡ s.stored = omega arith in
-    let same-folded : s.folded + cost * 0 ≡ s.folded = omega (arith, product) in
-    rw (none, same-assembled, same-stored, same-folded) refl
+    rw (none, mul-zero cost, add-zero s.assembled, add-zero s.stored, add-zero s.folded) refl
 
 -- no data
 pub appends-none : {C : Type 0} {view : CheckView C} (d : LineState C) → AppendsBits view d [] d
@@ -278,7 +265,7 @@ shifted-word {C} {view} d b bits w t place last_bits shifted stands word within 
     first = stands.first;
     piece =
         moved-holds view.folded d b place last_bits (record d.spent { shifted = shifted }) (current b) stands.piece;
-    counts = moved-counts view.cost d b place last_bits shifted d.first stands.counts;
+    counts = moved-counts refl refl stands.counts;
   };
 }
 

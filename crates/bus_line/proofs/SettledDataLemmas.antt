@@ -114,46 +114,46 @@ fourteen-shr w k =
 
 -- ---- where taking bits stops
 
-abbrev MAX : ℕ
+abbrev pub MAX : ℕ
 MAX = 18446744073709551615
 
--- exactly six ones, or fourteen, before each new bit, and a 1 after the new bits
+-- exactly six ones before each new bit, and exactly fourteen
+abbrev after_six : ℕ → ℕ
+after_six w = bit_and (six w / 1024) (MAX - w / 512)
+
+abbrev after_fourteen : ℕ → ℕ
+after_fourteen w = bit_and (fourteen w / 4) (MAX - w / 2)
+
+-- either of them, and a 1 after the new bits
 abbrev pub stops : ℕ → ℕ → ℕ
-stops w count = bit_or (bit_or (bit_and (six w / 1024) (MAX - w / 512)) (bit_and (fourteen w / 4) (MAX - w / 2)))
-    (1 * 2 ^ count % 18446744073709551616)
+stops w count = bit_or (bit_or (after_six w) (after_fourteen w)) (1 * 2 ^ count % 18446744073709551616)
 
 -- the bits of one number that another one lets through
 masked : (a b i : ℕ) → b < 2 ^ 64 → i < 64 → bit_at (bit_and a (MAX - b)) i ≡ min (bit_at a i) (1 - bit_at b i)
 masked a b i below inside = bit_at_and a (MAX - b) i ∙ ap (min (bit_at a i)) (bit_at_not w64 b i below inside)
 
-six-at : (w i : ℕ) → w < 2 ^ 64 → i < 64 →
-    (bit_at (bit_and (six w / 1024) (MAX - w / 512)) i ≡ 1 → w / 2 ^ (9 + i) % 128 ≡ 126)
-    × (w / 2 ^ (9 + i) % 128 ≡ 126 → bit_at (bit_and (six w / 1024) (MAX - w / 512)) i ≡ 1)
+-- a run of ones that follows on a 0
+run-at : (f : ℕ → ℕ) → ((w k : ℕ) → f w / 2 ^ k ≡ f (w / 2 ^ k)) → (w s i : ℕ) → w < 2 ^ 64 → i < 64 →
+    bit_at (bit_and (f w / 2 ^ (s + 1)) (MAX - w / 2 ^ s)) i
+    ≡ min (f (w / 2 ^ (s + i) / 2) % 2) (1 - w / 2 ^ (s + i) % 2)
+run-at f shift w s i word inside =
+    let next : s + 1 + i ≡ s + i + 1 = omega arith in
+    let run : f w / 2 ^ (s + 1) / 2 ^ i ≡ f (w / 2 ^ (s + i) / 2) = shr-shr (f w) (s + 1) i
+    ∙ (shift w (s + 1 + i) ∙ ap f (ap (λ (j : ℕ). w / 2 ^ j) next ∙ sym (shr-shr w (s + i) 1))) in
+    masked (f w / 2 ^ (s + 1)) (w / 2 ^ s) i (omega (arith, word)) inside ∙ rw (run, shr-shr w s i) refl
+
+six-at : (w i : ℕ) → w < 2 ^ 64 → i < 64 → bit_at (after_six w) i ≡ 1 ↔ w / 2 ^ (9 + i) % 128 ≡ 126
 six-at w i word inside =
-    let v : ℕ = w / 2 ^ (9 + i) in
-    let next : 10 + i ≡ (9 + i) + 1 = omega arith in
-    let run : six w / 1024 / 2 ^ i ≡ six (v / 2) = shr-shr (six w) 10 i
-    ∙ (six-shr w (10 + i) ∙ ap six (ap (λ (j : ℕ). w / 2 ^ j) next ∙ sym (shr-shr w (9 + i) 1))) in
-    let before : bit_at (w / 512) i ≡ v % 2 = ap (λ (x : ℕ). x % 2) (shr-shr w 9 i) in
-    let both : bit_at (bit_and (six w / 1024) (MAX - w / 512)) i ≡ min (six (v / 2) % 2) (1 - v % 2) =
-    masked (six w / 1024) (w / 512) i (omega (arith, word)) inside ∙ rw (run, before) refl in
-    let ones = six-ones (v / 2) in (
+    let both = run-at six six-shr w 9 i word inside in
+    let ones = six-ones (w / 2 ^ (9 + i) / 2) in (
       (λ is. let shown = ones.0 (omega (arith, both, is)) in omega (arith, both, is, shown)),
       λ is. let shown = ones.1 (omega (arith, is)) in omega (arith, both, is, shown),
     )
 
-fourteen-at : (w i : ℕ) → w < 2 ^ 64 → i < 64 →
-    (bit_at (bit_and (fourteen w / 4) (MAX - w / 2)) i ≡ 1 → w / 2 ^ (1 + i) % 32768 ≡ 32766)
-    × (w / 2 ^ (1 + i) % 32768 ≡ 32766 → bit_at (bit_and (fourteen w / 4) (MAX - w / 2)) i ≡ 1)
+fourteen-at : (w i : ℕ) → w < 2 ^ 64 → i < 64 → bit_at (after_fourteen w) i ≡ 1 ↔ w / 2 ^ (1 + i) % 32768 ≡ 32766
 fourteen-at w i word inside =
-    let v : ℕ = w / 2 ^ (1 + i) in
-    let next : 2 + i ≡ (1 + i) + 1 = omega arith in
-    let run : fourteen w / 4 / 2 ^ i ≡ fourteen (v / 2) = shr-shr (fourteen w) 2 i
-    ∙ (fourteen-shr w (2 + i) ∙ ap fourteen (ap (λ (j : ℕ). w / 2 ^ j) next ∙ sym (shr-shr w (1 + i) 1))) in
-    let before : bit_at (w / 2) i ≡ v % 2 = ap (λ (x : ℕ). x % 2) (shr-shr w 1 i) in
-    let both : bit_at (bit_and (fourteen w / 4) (MAX - w / 2)) i ≡ min (fourteen (v / 2) % 2) (1 - v % 2) =
-    masked (fourteen w / 4) (w / 2) i (omega (arith, word)) inside ∙ rw (run, before) refl in
-    let ones = fourteen-ones (v / 2) in (
+    let both = run-at fourteen fourteen-shr w 1 i word inside in
+    let ones = fourteen-ones (w / 2 ^ (1 + i) / 2) in (
       (λ is. let shown = ones.0 (omega (arith, both, is)) in omega (arith, both, is, shown)),
       λ is. let shown = ones.1 (omega (arith, is)) in omega (arith, both, is, shown),
     )
@@ -167,13 +167,12 @@ one-at count i few =
     )
 
 stops-at : (w count i : ℕ) → bit_at (stops w count) i
-    ≡ max (max (bit_at (bit_and (six w / 1024) (MAX - w / 512)) i) (bit_at (bit_and (fourteen w / 4) (MAX - w / 2)) i))
+    ≡ max (max (bit_at (after_six w) i) (bit_at (after_fourteen w) i))
     (bit_at (1 * 2 ^ count % 18446744073709551616) i)
 stops-at w count i =
-    bit_at_or (bit_or (bit_and (six w / 1024) (MAX - w / 512)) (bit_and (fourteen w / 4) (MAX - w / 2)))
-    (1 * 2 ^ count % 18446744073709551616) i
+    bit_at_or (bit_or (after_six w) (after_fourteen w)) (1 * 2 ^ count % 18446744073709551616) i
     ∙ ap (λ (x : ℕ). max x (bit_at (1 * 2 ^ count % 18446744073709551616) i))
-    (bit_at_or (bit_and (six w / 1024) (MAX - w / 512)) (bit_and (fourteen w / 4) (MAX - w / 2)) i)
+    (bit_at_or (after_six w) (after_fourteen w) i)
 
 -- no stop, no bit, and the other way
 stop-zero : (w count i : ℕ) → w < 2 ^ 64 → i < 64 → count < 64 → bit_at (stops w count) i ≡ 0 → IsStop w i → ⊥
@@ -191,10 +190,8 @@ pub record IsFirstStop (w count n : ℕ) : Type 0 where
 
 stops-lt : (w count : ℕ) → stops w count < 2 ^ 64
 stops-lt w count =
-    or_lt 64 (bit_or (bit_and (six w / 1024) (MAX - w / 512)) (bit_and (fourteen w / 4) (MAX - w / 2)))
-    (1 * 2 ^ count % 18446744073709551616)
-    (or_lt 64 (bit_and (six w / 1024) (MAX - w / 512)) (bit_and (fourteen w / 4) (MAX - w / 2))
-    (omega (arith, and_le_r (six w / 1024) (MAX - w / 512)))
+    or_lt 64 (bit_or (after_six w) (after_fourteen w)) (1 * 2 ^ count % 18446744073709551616)
+    (or_lt 64 (after_six w) (after_fourteen w) (omega (arith, and_le_r (six w / 1024) (MAX - w / 512)))
     (omega (arith, and_le_r (fourteen w / 4) (MAX - w / 2)))) (omega arith)
 
 pub first-stop : (w count : ℕ) → w < 2 ^ 64 → count ≤ 48 → IsFirstStop w count (trailing_zeros w64 (stops w count))

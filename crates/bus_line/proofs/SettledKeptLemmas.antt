@@ -5,7 +5,7 @@ use Rattle.std.specs.Prelude.{bit_and, false, ◌↔◌}
 use mir.Val.{bool_byte}
 use Rattle.std.specs.Int.Bits.{and_self, and_zero_r}
 use Rattle.std.specs.Int.{bit_at, w64, trailing_zeros}
-use Rattle.std.proofs.lemmas.Nat.{shr-shr, and_le_l, and_mask, and_shr, and_block, mod_below, mod-pow-add, mul-add-lt}
+use Rattle.std.proofs.lemmas.Nat.{shr-shr, and_le_l, and_mask, and_shr, and_block, mod_below, mul-add-lt}
 use Rattle.std.proofs.lemmas.Nat.{pow-add, pow_below, pow_pos, one_shl, shr_below, shr_high, shr_split}
 use Rattle.std.proofs.lemmas.Grind.{and-not_self}
 use Rattle.std.proofs.lemmas.Nat.Bits.{bit_at-zero, bit_at_and, bit_at_not, bit_at_ones, bit_at_above, bit_at_cat_low}
@@ -14,6 +14,8 @@ use Rattle.std.proofs.lemmas.List.{append-nil}
 use Rattle.std.proofs.lemmas.Bool.{cases_lt, eq-eqb, ne_eqb}
 use Rattle.std.proofs.Math.Nat.{pow-suc, mul_assoc, add-zero, mod-eq_of_lt, mod_self}
 use Rattle.bus_bits.specs.Octet.{bits_of}
+use Rattle.bus_line.proofs.WordLemmas.{field-more}
+use Rattle.bus_line.proofs.SettledDataLemmas.{MAX}
 use Rattle.bus_line.specs.Internal.Settled.{kept, data_in_word}
 
 -- ---- bits of a number
@@ -45,17 +47,17 @@ kept-in : (x s k : ℕ) → bit_at s k ≢ 1 → kept x s (suc k) ≡ kept x s k
 kept-in x s k free = rw (ne_eqb _ _ free) refl
 
 -- one bit more of each
-kept-both : (x y s t k i : ℕ) → bit_at y k ≡ bit_at x i → bit_at t k ≡ bit_at s i → kept y t k ≡ kept x s i →
-    kept y t (suc k) ≡ kept x s (suc i)
+kept-both : (x y s t k i : ℕ) → (bit_at s i ≢ 1 → bit_at y k ≡ bit_at x i) → bit_at t k ≡ bit_at s i →
+    kept y t k ≡ kept x s i → kept y t (suc k) ≡ kept x s (suc i)
 kept-both x y s t k i same-bit same-mark same =
     elim (marked-or-free s i) [
       | inl marked ↦ kept-out y t k (same-mark ∙ marked) ∙ (same ∙ sym (kept-out x s i marked))
       | inr free ↦ kept-in y t k (λ one. free (sym same-mark ∙ one))
-          ∙ rw (same-bit, same) (sym (kept-in x s i free))
+          ∙ rw (same-bit free, same) (sym (kept-in x s i free))
     ]
 
--- only the bits count
-kept-same : (x y s t k : ℕ) → ((i : ℕ) → i < k → bit_at y i ≡ bit_at x i) →
+-- only the bits count, and of these only those that are not marked
+kept-same : (x y s t k : ℕ) → ((i : ℕ) → i < k → bit_at s i ≢ 1 → bit_at y i ≡ bit_at x i) →
     ((i : ℕ) → i < k → bit_at t i ≡ bit_at s i) → kept y t k ≡ kept x s k
 kept-same x y s t zero bits marks = refl
 kept-same x y s t (suc k) bits marks =
@@ -73,7 +75,7 @@ less j k x y without i below = without i (omega (arith, below))
 kept-last : (x y s t j k : ℕ) → j ≡ k → bit_at s j ≡ 1 → Without j k x y → Without j k s t →
     kept y t k ≡ kept x s (suc k)
 kept-last x y s t j k last marked bits marks =
-    kept-same x y s t k (λ i below. (bits i below).0 (omega (arith, last, below)))
+    kept-same x y s t k (λ i below free. (bits i below).0 (omega (arith, last, below)))
     (λ i below. (marks i below).0 (omega (arith, last, below)))
     ∙ sym (kept-out x s k (ap (bit_at s) (sym last) ∙ marked))
 
@@ -85,7 +87,7 @@ kept-without x y s t j (suc k) within marked bits marks =
     elim (cases_lt j (suc k)) [
       | inl before ↦
           let inside : j ≤ k = omega (arith, before) in
-          kept-both x y s t k (suc k) ((bits k (omega arith)).1 inside) ((marks k (omega arith)).1 inside)
+          kept-both x y s t k (suc k) (λ free. (bits k (omega arith)).1 inside) ((marks k (omega arith)).1 inside)
           (kept-without x y s t j k inside marked (less j k x y bits) (less j k s t marks))
       | inr last ↦ kept-last x y s t j (suc k) (omega (arith, within, last)) marked bits marks
     ]
@@ -96,16 +98,6 @@ unfolding bits_of
 kept-all x zero = refl
 kept-all x (suc k) =
     kept-in x 0 k (λ one. omega (arith, bit_at-zero k, one)) ∙ rw (kept-all x k) (sym (bits-back k x))
-
--- marked bits do not matter
-kept-others : (x y s k : ℕ) → ((i : ℕ) → i < k → bit_at s i ≢ 1 → bit_at y i ≡ bit_at x i) → kept y s k ≡ kept x s k
-kept-others x y s zero same = refl
-kept-others x y s (suc k) same =
-    let rest = kept-others x y s k (λ i below. same i (omega (arith, below))) in
-    elim (marked-or-free s k) [
-      | inl marked ↦ kept-out y s k marked ∙ rest ∙ sym (kept-out x s k marked)
-      | inr free ↦ kept-in y s k free ∙ rw (same k (omega arith) free, rest) (sym (kept-in x s k free))
-    ]
 
 -- an inserted 0 is no data, and any other bit is
 settled-inserted : (w k : ℕ) → w / 2 ^ (3 + k) % 64 ≡ 31 → data_in_word w (suc k) ≡ data_in_word w k
@@ -150,9 +142,6 @@ settled-word w s n few marks =
 
 -- ---- the bits that are not marked
 
-abbrev MAX : ℕ
-MAX = 18446744073709551615
-
 -- the lowest bits, without those that are marked
 abbrev pub unmarked : ℕ → ℕ → ℕ → ℕ
 unmarked x s n = bit_and (bit_and x (1 * 2 ^ n % 18446744073709551616 - 1)) (MAX - s)
@@ -187,7 +176,8 @@ unmarked-are x s n few below =
       small = omega (arith, and_le_l (bit_and x all) (MAX - s), low, mod_below x (2 ^ n) (pow_pos n));
       marked = below;
       zeros = and-not_self (bit_and x all) MAX s s refl (omega (arith, word)) refl;
-      same = kept-others x (unmarked x s n) s n (λ i inside free. unmarked-at x s n i few word inside free);
+      same = kept-same x (unmarked x s n) s s n (λ i inside free. unmarked-at x s n i few word inside free)
+          (λ i inside. refl);
     }
 
 -- ---- the lowest marked bit taken out
@@ -199,18 +189,13 @@ one_less s = (s + MAX) % 18446744073709551616
 -- a number by a place and those above and below it
 parts : (x j : ℕ) → x ≡ x / 2 ^ suc j * 2 ^ suc j + (bit_at x j * 2 ^ j + x % 2 ^ j)
 parts x j =
-    let next : suc j ≡ 1 + j = omega arith in
-    let low : x % 2 ^ suc j ≡ bit_at x j * 2 ^ j + x % 2 ^ j = ap (λ (k : ℕ). x % 2 ^ k) next ∙ mod-pow-add x 1 j in
-    sym (shr_split x (suc j)) ∙ ap (λ (r : ℕ). x / 2 ^ suc j * 2 ^ suc j + r) low
+    sym (shr_split x (suc j)) ∙ ap (λ (r : ℕ). x / 2 ^ suc j * 2 ^ suc j + r) (field-more x j)
 
 none-below : (s j : ℕ) → ((i : ℕ) → i < j → bit_at s i ≡ 0) → s % 2 ^ j ≡ 0
 none-below s zero zeros = omega arith
 none-below s (suc j) zeros =
-    let next : suc j ≡ 1 + j = omega arith in
-    let here : bit_at s j ≡ 0 = zeros j (omega arith) in
     let rest = none-below s j (λ i below. zeros i (omega (arith, below))) in
-    ap (λ (k : ℕ). s % 2 ^ k) next ∙ mod-pow-add s 1 j ∙ ap (λ (b : ℕ). b * 2 ^ j + s % 2 ^ j) here
-    ∙ omega (arith, rest)
+    field-more s j ∙ ap (λ (b : ℕ). b * 2 ^ j + s % 2 ^ j) (zeros j (omega arith)) ∙ omega (arith, rest)
 
 -- the places above one lower, and those below as they are
 lower : (a l m j k : ℕ) → l < 2 ^ suc j → m < 2 ^ j → ((i : ℕ) → i < j → bit_at m i ≡ bit_at l i)

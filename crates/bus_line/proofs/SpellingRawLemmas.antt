@@ -3,37 +3,28 @@ use Rattle.std.proofs.Common.{◌≡◌, ℕ, suc, ◌+◌, ◌-◌, ◌≤◌, 
 use Rattle.std.proofs.Common.{length, take, drop, get_or, refl, sym, ap, ◌∙◌, subst, inl, inr, arith, nat_le}
 use Rattle.std.specs.List.{slice_range}
 use Rattle.std.proofs.lemmas.List.{append_assoc, length-append, length_push, length-take, length-drop, take_all}
-use Rattle.std.proofs.lemmas.List.{drop_at, take_at, take-take, drop-take, drop-drop, drop_more, take_more, get_or-drop}
-use Rattle.std.proofs.lemmas.List.{get_or-replicate, take-append-drop}
+use Rattle.std.proofs.lemmas.List.{drop_more, take_more, get_or-drop, get_or-replicate, take-append-drop}
 use Rattle.std.proofs.lemmas.Bool.{cases_lt, false_from_ne_true, cases_Bool, le-leb, lt-leb, lt-ltb, both_ways}
 use Rattle.std.proofs.lemmas.Bool.{and_left, and_right, and_from, and_parts, not-true, not_from_false, eq-eqb, eqb-true}
 use Rattle.bus_line.specs.Spelling.{ones}
 use Rattle.bus_line.specs.Internal.Run.{ones_after, ones_at_end}
-use Rattle.bus_line.proofs.RunLemmas.{HasSix, zero-six, IsLow, low-from}
+use Rattle.bus_line.proofs.RunLemmas.{HasZeroSix, IsLow, low-from}
 use Rattle.bus_line.specs.Mark.{flag, StandsAt, IsFlag, IsMark}
 use Rattle.bus_line.specs.Due.{is_abort, FlagAt, AbortAt, last_mark, current}
 use Rattle.bus_line.specs.Ledger.{is_settled, belongs, is_inserted}
 use Rattle.bus_line.proofs.MarkLemmas.{stands-within, stands-bit, is_abort-append, last_mark-append, last_mark-flag}
 use Rattle.bus_line.proofs.LedgerSettledLemmas.{inserted-true, inserted-is, is_inserted-append, is_settled-late}
 use Rattle.bus_line.proofs.DueStreamLemmas.{ones_after-ones, run-stands, last_mark-down, mark-fits, flag-fits, not-flag}
-use Rattle.bus_line.proofs.DueStreamLemmas.{stands-part}
+use Rattle.bus_line.proofs.MarkLemmas.{stands-part, window-in}
+use Rattle.std.proofs.Math.Seq.{drop-append_seam}
 
--- what stands in a part of the list
-stands-range : (b : List Bool) (x m : ℕ) (u w v : List Bool) → slice_range b x m ≡ u ++ w ++ v →
-    take (length w) (drop (x + length u) b) ≡ w
-stands-range b x m u w v stands =
-    let k = m - x in
-    let size : length (take k (drop x b)) ≡ length (u ++ w ++ v) = ap length stands in
-    let fits : length u + length w ≤ k =
-    omega (arith, size, length-take k (drop x b), length-append (u ++ w) v, length-append u w) in
-    let sum : length u + (k - length u) ≡ k = omega arith in
-    let parts : take (length u + (k - length u)) (drop x b) ≡ u ++ w ++ v =
-    subst (λ i. take i (drop x b) ≡ u ++ w ++ v) (sym sum) stands in
-    ap (take (length w)) (sym (drop-drop (length u) x b))
-    ∙ (sym (take-take (length w) (k - length u) (drop (length u) (drop x b)) (omega arith))
-    ∙ (ap (take (length w)) (sym (drop-take (length u) (k - length u) (drop x b)))
-    ∙ (ap (λ xs. take (length w) (drop (length u) xs)) (parts ∙ append_assoc u w v)
-    ∙ (ap (take (length w)) (drop_at u (w ++ v) (length u) refl) ∙ take_at w v (length w) refl))))
+-- what stands in a part stands in the list
+stands-out : (b : List Bool) (x m a : ℕ) (w : List Bool) → StandsAt (slice_range b x m) a w → 0 < length w →
+    StandsAt b (x + a) w
+stands-out b x m a w stands some =
+    let within : a + length w ≤ m - x =
+    omega (arith, stands-within (slice_range b x m) a w stands some, length-take (m - x) (drop x b)) in
+    sym (window-in (m - x) x a (x + a) (length w) b within refl) ∙ stands
 
 stands-extend : (b : List Bool) (z : ℕ) (w : List Bool) (x : Bool) → StandsAt b z w → z + length w < length b →
     get_or b (z + length w) false ≡ x → StandsAt b z (w ++ x ∷ [])
@@ -52,23 +43,30 @@ range-first b x m y bit some at within is =
     let size : m - x ≡ suc (m - y) = omega arith in
     ap (λ i. take i (drop x b)) size ∙ (ap (take (suc (m - y))) (drop_more b x false (omega arith)) ∙ rw (is, at) refl)
 
-short : {r : List Bool} → length r ≤ 5 → HasSix r → ⊥
-short {r} few six = omega (arith, ap length six.2, length-append (six.0 ++ ones 6) six.1, length-append six.0 (ones 6))
+short : {r : List Bool} → length r ≤ 6 → HasZeroSix r → ⊥
+short {r} few six =
+    omega (
+      arith,
+      ap length six.2,
+      length-append (six.0 ++ (false ∷ ones 6)) six.1,
+      length-append six.0 (false ∷ ones 6),
+    )
 
 -- after a flag there are no six ones in a row before the next mark
 pub raw-low : (b : List Bool) (p m : ℕ) → IsFlag b p → ((q : ℕ) → p < q → IsMark b q → m ≤ q) → m + 7 ≤ length b →
-    HasSix (slice_range b (p + 8) m) → ⊥
-raw-low b p m is-flag next room six =
+    HasZeroSix (false ∷ slice_range b (p + 8) m) → ⊥
+raw-low b p m is-flag next room found =
     elim (cases_lt (p + 7) m) [
-      | inr some ↦ short (omega (arith, range-length b (p + 8) m)) six
+      | inr some ↦ short (omega (arith, range-length b (p + 8) m)) found
       | inl some ↦
           let front : slice_range b (p + 7) m ≡ false ∷ slice_range b (p + 8) m =
           range-first b (p + 7) m (p + 8) false some (omega arith) (omega arith)
-          (stands-bit b p flag 7 is-flag (omega arith)) in
-          let found = zero-six (slice_range b (p + 8) m) six in
+          (stands-bit b p flag 7 (p + 7) is-flag (omega arith) refl) in
           let z = (p + 7) + length found.0 in
-          let run : take 7 (drop ((p + 7) + length found.0) b) ≡ false ∷ ones 6 =
-          stands-range b (p + 7) m found.0 (false ∷ ones 6) found.1 (front ∙ found.2) in
+          let parts : slice_range b (p + 7) m ≡ found.0 ++ ((false ∷ ones 6) ++ found.1) =
+          front ∙ (found.2 ∙ append_assoc found.0 (false ∷ ones 6) found.1) in
+          let run : StandsAt b z (false ∷ ones 6) =
+          stands-out b (p + 7) m (length found.0) (false ∷ ones 6) (rw (parts, drop-append_seam) refl) (omega arith) in
           let inside : z + 7 ≤ m =
           omega (
             arith,
@@ -80,13 +78,11 @@ raw-low b p m is-flag next room six =
           elim (cases_Bool (get_or b (z + 7) false)) [
             | inl one ↦
                 let seven = stands-extend b z (false ∷ ones 6) true run (omega arith) one in
-                let after : z + 1 ≡ suc z = omega arith in
-                let here : z + 0 ≡ z = omega arith in
-                let high : take 7 (drop (z + 1) b) ≡ ones 7 =
-                stands-part b z (false ∷ ones 7) 1 7 7 refl (omega arith) seven in
-                let low : take 1 (drop (z + 0) b) ≡ false ∷ [] =
-                stands-part b z (false ∷ ones 7) 0 1 8 refl (omega arith) seven in
-                omega (arith, next (suc z) (omega arith) (inr ((rw after at high), rw here at low)))
+                let high : StandsAt b (suc z) (ones 7) =
+                stands-part b z (false ∷ ones 7) 1 (suc z) 7 (omega arith) (omega arith) seven in
+                let low : StandsAt b z (false ∷ []) =
+                stands-part b z (false ∷ ones 7) 0 z 1 (omega arith) (omega arith) seven in
+                omega (arith, next (suc z) (omega arith) (inr (high, low)))
             | inr zero-bit ↦
                 let closing : IsFlag b z = stands-extend b z (false ∷ ones 6) false run (omega arith) zero-bit in
                 omega (arith, next z (omega arith) (inl closing))
@@ -94,10 +90,10 @@ raw-low b p m is-flag next room six =
     ]
 
 pub current-low : (b : List Bool) (p m : ℕ) → current b ≡ FlagAt p → m + 7 ≤ length b →
-    HasSix (slice_range b (p + 8) m) → ⊥
-current-low b p m mark room six =
+    IsLow 0 (slice_range b (p + 8) m)
+current-low b p m mark room =
     let last = last_mark-flag b (length b) p mark in
-    raw-low b p m last.flag (λ q past is-mark. omega (arith, last.greatest q past is-mark)) room six
+    low-from _ (raw-low b p m last.flag (λ q past is-mark. omega (arith, last.greatest q past is-mark)) room)
 
 -- an abort mark that just ended is the last mark
 marks : (b : List Bool) (i : ℕ) → 8 ≤ length b →
@@ -137,31 +133,6 @@ settles-now b bit =
           rw (in-range, in-list, mark, abort, inserted) (marks b i late)
     ]
 
--- what stands in a part stands in the list
-stands-out : (b : List Bool) (x m a : ℕ) (w : List Bool) → StandsAt (slice_range b x m) a w → 0 < length w →
-    StandsAt b (x + a) w
-stands-out b x m a w stands some =
-    let k = m - x in
-    let fits : a + length w ≤ k =
-    omega (arith, stands-within (slice_range b x m) a w stands some, length-take (m - x) (drop x b)) in
-    let sum : a + (k - a) ≡ k = omega arith in
-    let parts : drop a (take k (drop x b)) ≡ take (k - a) (drop a (drop x b)) =
-    ap (λ i. drop a (take i (drop x b))) (sym sum) ∙ drop-take a (k - a) (drop x b) in
-    ap (take (length w)) (sym (drop-drop a x b))
-    ∙ (sym (take-take (length w) (k - a) (drop a (drop x b)) (omega arith))
-    ∙ (ap (take (length w)) (sym parts) ∙ stands))
-
-stands-in : (b : List Bool) (x m a : ℕ) (w : List Bool) → StandsAt b (x + a) w → a + length w ≤ m - x →
-    StandsAt (slice_range b x m) a w
-stands-in b x m a w stands fits =
-    let k = m - x in
-    let sum : a + (k - a) ≡ k = omega arith in
-    let parts : drop a (take k (drop x b)) ≡ take (k - a) (drop a (drop x b)) =
-    ap (λ i. drop a (take i (drop x b))) (sym sum) ∙ drop-take a (k - a) (drop x b) in
-    ap (take (length w)) parts
-    ∙ (take-take (length w) (k - a) (drop a (drop x b)) (omega arith)
-    ∙ (ap (take (length w)) (drop-drop a x b) ∙ stands))
-
 pub low-ones : (k : ℕ) (r : List Bool) → IsLow k r → ones_after k r ≤ 5
 low-ones k [] low = low
 low-ones k (true ∷ r) low = low-ones (suc k) r low
@@ -181,42 +152,37 @@ five-end b x i inside long stands =
     let r = slice_range b x i in
     let size : length (slice_range b x i) ≡ i - x = range-length-is b x i (omega arith) in
     let a = (i - x) - 5 in
-    let place : i - 5 ≡ x + a = omega arith in
     let here : StandsAt (slice_range b x i) a (ones 5) =
-    stands-in b x i a (ones 5) (subst (λ q. StandsAt b q (ones 5)) place stands) (omega arith) in
+    window-in (i - x) x a (i - 5) 5 b (omega arith) (omega arith) ∙ stands in
     let last : drop a r ≡ ones 5 = sym (take_all 5 (drop a r) (omega (arith, length-drop a r, size))) ∙ here in
     let parts : r ≡ take a r ++ ones 5 = sym (take-append-drop a r) ∙ ap (λ xs. take a r ++ xs) last in
     subst (λ z. 5 ≤ ones_after 0 z) (sym parts) (ones-after_ones 0 (take a r) 5)
 
-pub inserted-raw : (b : List Bool) (p i : ℕ) → IsFlag b p → p + 8 ≤ i → i < length b →
-    (HasSix (slice_range b (p + 8) i) → ⊥) → is_inserted b i
+pub inserted-raw : (b : List Bool) (p i : ℕ) → current b ≡ FlagAt p → p + 8 ≤ i → i + 7 ≤ length b → is_inserted b i
     ≡ (not (get_or b i false) && (ones_at_end (slice_range b (p + 8) i) == 5))
-inserted-raw b p i is-flag past inside low =
+inserted-raw b p i mark past room =
+    let is-flag = (last_mark-flag b (length b) p mark).flag in
     let r = slice_range b (p + 8) i in
     let size : length (slice_range b (p + 8) i) ≡ i - (p + 8) = range-length-is b (p + 8) i (omega arith) in
-    let top = low-ones 0 r (low-from r low) in
+    let top = low-ones 0 r (current-low b p i mark room) in
     elim (cases_Bool (is_inserted b i)) [
       | inl is ↦
           let found = inserted-true b i is in
           let place : found.0 ≡ i - 5 = omega (arith, found.1) in
           let six : StandsAt b (i - 5) (ones 5 ++ false ∷ []) = rw place at found.2 in
-          let end : (i - 5) + 5 ≡ i = omega (arith, found.1) in
           let last : get_or b i false ≡ false =
-          rw end at (stands-bit b (i - 5) (ones 5 ++ false ∷ []) 5 six (omega arith)) in
-          let start : (i - 5) + 0 ≡ i - 5 = omega arith in
+          stands-bit b (i - 5) (ones 5 ++ false ∷ []) 5 i six (omega arith) (omega (arith, found.1)) in
           let five : StandsAt b (i - 5) (ones 5) =
-          rw start at (stands-part b (i - 5) (ones 5 ++ false ∷ []) 0 5 6 refl (omega arith) six) in
+          stands-part b (i - 5) (ones 5 ++ false ∷ []) 0 (i - 5) 5 (omega arith) (omega arith) six in
           let far : (p + 8) + 5 ≤ i = elim (cases_lt i ((p + 8) + 5)) [
             | inr far ↦ far
             | inl near ↦
                 let k = (p + 7) - (i - 5) in
-                let flag-end : (i - 5) + k ≡ p + 7 = omega arith in
-                let zero-bit : get_or b (p + 7) false ≡ false = stands-bit b p flag 7 is-flag (omega arith) in
-                let one : get_or b ((i - 5) + k) false ≡ true =
-                stands-bit b (i - 5) (ones 5) k five (omega arith) ∙ get_or-replicate 5 k true false (omega arith) in
-                absurd (both_ways (get_or b (p + 7) false) zero-bit (rw flag-end at one))
+                absurd (both_ways _ (stands-bit b p flag 7 (p + 7) is-flag (omega arith) refl)
+                (stands-bit b (i - 5) (ones 5) k (p + 7) five (omega arith) (omega arith)
+                ∙ get_or-replicate 5 k true false (omega arith)))
           ] in
-          let run : ones_at_end r ≡ 5 = omega (arith, top, five-end b (p + 8) i inside far five) in
+          let run : ones_at_end r ≡ 5 = omega (arith, top, five-end b (p + 8) i (omega arith) far five) in
           is ∙ sym (and_from _ _ (not_from_false _ last) (eq-eqb _ 5 run))
       | inr not-inserted ↦
           not-inserted ∙ sym (false_from_ne_true _ (λ is.

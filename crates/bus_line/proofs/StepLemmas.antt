@@ -1,27 +1,29 @@
 -- One bit more of what a decoder tracks.
-use Rattle.std.proofs.Common.{◌≡◌, ℕ, ◌+◌, ◌-◌, ◌*◌, ◌^◌, ◌≤◌, ◌<◌, ◌==◌, Bool, true, false, not, ◌&&◌, List, [], ◌∷◌}
-use Rattle.std.proofs.Common.{◌++◌, length, take, drop, get_or, Option, Some, None, refl, sym, ap, ◌∙◌, subst, arith}
-use Rattle.std.proofs.Common.{◌≢◌, suc}
+use Rattle.std.proofs.Common.{◌≡◌, ℕ, ◌+◌, ◌-◌, ◌*◌, ◌^◌, ◌≤◌, ◌<◌, Bool, true, false, not, List, [], ◌∷◌}
+use Rattle.std.proofs.Common.{◌++◌, length, drop, get_or, Option, Some, None, refl, sym, ap, ◌∙◌, subst, arith}
+use Rattle.std.proofs.Common.{◌≢◌, suc, if◌then◌else◌}
 use Rattle.std.specs.List.{slice_range}
 use Rattle.std.proofs.Math.Nat.{mul-zero}
 use Rattle.std.specs.Prelude.{nat_le, drop}
 use Rattle.std.proofs.lemmas.List.{length_push}
-use Rattle.std.proofs.lemmas.Bool.{false_from_ne_true, leb-true, le-leb, and_from}
+use Rattle.std.proofs.lemmas.Bool.{lt-leb, le-leb, and_from, and_left, and_right}
 use Rattle.bus_bits.specs.Octet.{number}
+use Rattle.bus_line.proofs.WordLemmas.{none_number}
 use Rattle.bus_bits.specs.declared.spent.Spent.{Spent}
 use Rattle.bus_fcs.specs.Check.{CheckView}
 use Rattle.bus_line.specs.Internal.Run.{ones_at_end, data_so_far, ones_after}
-use Rattle.bus_line.specs.Due.{Mark, NoMark, FlagAt, AbortAt, current, piece_report, due_at}
-use Rattle.bus_line.specs.Ledger.{is_settled, belongs, is_inserted, assembled, is_stored, stored}
+use Rattle.bus_line.specs.Due.{Mark, NoMark, FlagAt, AbortAt, current, piece_report}
+use Rattle.bus_line.specs.Ledger.{is_settled, belongs, is_inserted, assembled, stored}
 use Rattle.bus_line.specs.Internal.LineState.{LineState}
 use Rattle.bus_line.specs.Internal.AdvancesTo.{closed_piece}
 use Rattle.bus_line.specs.Internal.LineView.{settles_from}
 use Rattle.bus_line.specs.Internal.Tracks.{first_of, settled_data, padded, Holds, HoldsFor, Counts, HasTaken, Tracks}
 use Rattle.bus_line.proofs.RunLemmas.{data_after-more}
 use Rattle.bus_line.proofs.MarkLemmas.{last_mark-flag}
-use Rattle.bus_line.proofs.DueStreamLemmas.{range-more, flag-fits, Decides, at-flag, at-abort, at-idle, at-other}
+use Rattle.bus_line.proofs.DueStreamLemmas.{flag-fits, Decides, at-flag, at-abort, at-idle, at-other}
 use Rattle.bus_line.proofs.LedgerSettledLemmas.{assembled-more, stored-more}
-use Rattle.bus_line.proofs.SpellingRawLemmas.{settles-now, inserted-raw, current-low}
+use Rattle.bus_line.proofs.SpellingRawLemmas.{settles-now, inserted-raw}
+use Rattle.bus_line.proofs.DueMoreLemmas.{range-append, range-none, range-step}
 use Rattle.bus_line.specs.Report.{Abort, Idle}
 use Rattle.bus_line.specs.Internal.EndedMark.{HasEnded}
 use Rattle.bus_line.specs.declared.decoder.ended_mark.EndedMark.{EndedMark}
@@ -46,38 +48,25 @@ none-holds folded d b origin NoMark none = tt
 none-holds folded d b origin (AbortAt a) none = tt
 none-holds folded d b origin (FlagAt p) none = absurd (cc)
 
-and-false : (x y z : Bool) → y ≡ false → (x && (y && z)) ≡ false
-and-false true y z none = rw none refl
-and-false false y z none = refl
-
 -- a bit whose place belongs to no flag settles nothing
 pub none-settled : (b : List Bool) (bit : Bool) (origin : ℕ) → first_of origin (current b) ≡ None →
     is_settled (b ++ bit ∷ []) (length b - 8) ≡ false
 none-settled b bit origin none = settles-now b bit
-    ∙ and-false (nat_le 8 (length b)) (belongs (current b) (length b - 8)) _
-    (none-belongs origin (length b - 8) (current b) none)
+    ∙ and_right (nat_le 8 (length b)) _ (and_left _ _ (none-belongs origin (length b - 8) (current b) none))
 
 -- a bit that comes too early after its flag does not either
 pub early-settled : (b : List Bool) (bit : Bool) (p : ℕ) → current b ≡ FlagAt p → length b < p + 16 →
     is_settled (b ++ bit ∷ []) (length b - 8) ≡ false
 early-settled b bit p mark soon =
-    let early : nat_le (p + 8) (length b - 8) ≡ false =
-    false_from_ne_true _ (λ is. omega (arith, leb-true (p + 8) (length b - 8) is, flag-within b p mark)) in
-    settles-now b bit ∙ and-false (nat_le 8 (length b)) (belongs (current b) (length b - 8)) _
-    (ap (λ m. belongs m (length b - 8)) mark ∙ early)
-  where
-    flag-within : (b : List Bool) (p : ℕ) → current b ≡ FlagAt p → p + 8 ≤ length b
-    flag-within b p mark = flag-fits b p (last_mark-flag b (length b) p mark).flag
+    let within = flag-fits b p (last_mark-flag b (length b) p mark).flag in
+    let early : nat_le (p + 8) (length b - 8) ≡ false = lt-leb (p + 8) (length b - 8) (omega (arith, within)) in
+    settles-now b bit
+    ∙ and_right (nat_le 8 (length b)) _ (and_left _ _ (ap (λ m. belongs m (length b - 8)) mark ∙ early))
 
 pub inserted-settled : (b : List Bool) (bit : Bool) → is_inserted b (length b - 8) ≡ true →
     is_settled (b ++ bit ∷ []) (length b - 8) ≡ false
 inserted-settled b bit inserted = settles-now b bit
-    ∙ last-false (nat_le 8 (length b)) (belongs (current b) (length b - 8)) (is_inserted b (length b - 8)) inserted
-  where
-    last-false : (x y z : Bool) → z ≡ true → (x && (y && not z)) ≡ false
-    last-false true true z is = rw is refl
-    last-false true false z is = refl
-    last-false false y z is = refl
+    ∙ and_right (nat_le 8 (length b)) _ (and_right (belongs (current b) (length b - 8)) _ (ap not inserted))
 
 pub data-settled : (b : List Bool) (bit : Bool) (p : ℕ) → current b ≡ FlagAt p → p + 16 ≤ length b →
     is_inserted b (length b - 8) ≡ false → is_settled (b ++ bit ∷ []) (length b - 8) ≡ true
@@ -88,19 +77,21 @@ data-settled b bit p mark late plain =
     (rw plain refl))
 
 -- what the ledger counts, where nothing settles
-pub stored-false : (longest : ℕ) (c : List Bool) (i : ℕ) → is_settled c i ≡ false → is_stored longest c i ≡ false
-stored-false longest c i unsettled = rw unsettled refl
+pub nothing-more : (longest : ℕ) (b : List Bool) (bit : Bool) → is_settled (b ++ bit ∷ []) (length b - 8) ≡ false →
+    (assembled (b ++ bit ∷ []) ≡ assembled b) × (stored longest (b ++ bit ∷ []) ≡ stored longest b)
+nothing-more longest b bit unsettled = (
+  assembled-more b bit ∙ rw unsettled (omega arith),
+  stored-more longest b bit ∙ rw unsettled (omega arith),
+)
 
 pub counts-kept : {C : Type 0} (cost : ℕ) (d : LineState C) (b : List Bool) (bit : Bool) →
     is_settled (b ++ bit ∷ []) (length b - 8) ≡ false → Counts cost d b → Counts cost d (b ++ bit ∷ [])
 counts-kept cost d b bit unsettled counts =
-    let same : assembled (b ++ bit ∷ []) ≡ assembled b = assembled-more b bit ∙ rw unsettled (omega arith) in
-    let kept : stored d.longest (b ++ bit ∷ []) ≡ stored d.longest b =
-    stored-more d.longest b bit ∙ rw (stored-false d.longest (b ++ bit ∷ []) (length b - 8) unsettled) (omega arith) in
+    let same = nothing-more d.longest b bit unsettled in
     record {
-      settled = counts.settled ∙ sym same;
-      filled = counts.filled ∙ sym kept;
-      paid = counts.paid ∙ ap (λ n. cost * n) (sym kept);
+      settled = counts.settled ∙ sym same.0;
+      filled = counts.filled ∙ sym same.1;
+      paid = counts.paid ∙ ap (λ n. cost * n) (sym same.1);
       copied = counts.copied;
       handled = counts.handled;
     }
@@ -110,57 +101,35 @@ raw-more : (b : List Bool) (bit : Bool) (p : ℕ) → p + 16 ≤ length b →
     slice_range (b ++ bit ∷ []) (p + 8) (length (b ++ bit ∷ []) - 8)
     ≡ slice_range b (p + 8) (length b - 8) ++ get_or b (length b - 8) false ∷ []
 raw-more b bit p late =
-    let next : length (b ++ bit ∷ []) - 8 ≡ (length b - 8) + 1 = omega (arith, length_push b bit) in
-    rw next (range-more b bit (p + 8) (length b - 8) (omega arith) (omega arith))
+    let next : length (b ++ bit ∷ []) - 8 ≡ suc (length b - 8) = omega (arith, length_push b bit) in
+    rw next (range-append b (bit ∷ []) (p + 8) (suc (length b - 8)) (omega arith)
+    ∙ range-step b (p + 8) (length b - 8) (omega arith) (omega arith))
 
-raw-none : (b : List Bool) (p : ℕ) → length b ≤ p + 16 → slice_range b (p + 8) (length b - 8) ≡ []
-raw-none b p early = let none : (length b - 8) - (p + 8) ≡ 0 = omega arith in ap (λ n. take n (drop (p + 8) b)) none
+pub data-start : (b : List Bool) (p : ℕ) → length b ≤ p + 16 → settled_data b p ≡ []
+data-start b p early = ap data_so_far (range-none b (p + 8) (length b - 8) (omega arith))
 
 pub data-early : (b : List Bool) (bit : Bool) (p : ℕ) → length b < p + 16 →
     settled_data (b ++ bit ∷ []) p ≡ settled_data b p
 data-early b bit p early =
-    ap data_so_far (raw-none (b ++ bit ∷ []) p (omega (arith, length_push b bit)) ∙ sym (raw-none b p (omega arith)))
+    data-start (b ++ bit ∷ []) p (omega (arith, length_push b bit)) ∙ sym (data-start b p (omega arith))
 
-pub data-start : (b : List Bool) (p : ℕ) → length b ≤ p + 16 → settled_data b p ≡ []
-data-start b p early = ap data_so_far (raw-none b p early)
-
-kept-data : (r : List Bool) (x : Bool) → (not x && (ones_at_end r == 5)) ≡ true →
-    data_so_far (r ++ x ∷ []) ≡ data_so_far r
-kept-data r true inserted = absurd (cc)
-kept-data r false inserted = data_after-more 0 r false ∙ rw inserted refl
-
-more-data : (r : List Bool) (x : Bool) → (not x && (ones_at_end r == 5)) ≡ false →
-    data_so_far (r ++ x ∷ []) ≡ data_so_far r ++ x ∷ []
-more-data r true plain = data_after-more 0 r true
-more-data r false plain = data_after-more 0 r false ∙ rw plain refl
-
--- the bit that is eight before the newest is an inserted 0 by the raw bits too
-inserted-here : (b : List Bool) (p : ℕ) → current b ≡ FlagAt p → p + 16 ≤ length b
-    → is_inserted b (length b - 8)
-    ≡ (not (get_or b (length b - 8) false) && (ones_at_end (slice_range b (p + 8) (length b - 8)) == 5))
-inserted-here b p mark late = inserted-raw b p (length b - 8) (last_mark-flag b (length b) p mark).flag (omega arith)
-    (omega arith) (current-low b p (length b - 8) mark (omega arith))
+-- the bit that is eight before the newest is data, unless it is an inserted 0
+data-step : (b : List Bool) (bit : Bool) (p : ℕ) → current b ≡ FlagAt p → p + 16 ≤ length b →
+    settled_data (b ++ bit ∷ []) p ≡ (if is_inserted b (length b - 8) then settled_data b p else
+    settled_data b p ++ get_or b (length b - 8) false ∷ [])
+data-step b bit p mark late =
+    let i = length b - 8 in
+    ap data_so_far (raw-more b bit p late) ∙ (data_after-more 0 (slice_range b (p + 8) i) (get_or b i false)
+    ∙ rw (inserted-raw b p i mark (omega arith) (omega arith)) refl)
 
 pub data-inserted : (b : List Bool) (bit : Bool) (p : ℕ) → current b ≡ FlagAt p → p + 16 ≤ length b →
     is_inserted b (length b - 8) ≡ true → settled_data (b ++ bit ∷ []) p ≡ settled_data b p
-data-inserted b bit p mark late inserted =
-    ap data_so_far (raw-more b bit p late) ∙ kept-data (slice_range b (p + 8) (length b - 8))
-    (get_or b (length b - 8) false) (sym (inserted-here b p mark late) ∙ inserted)
+data-inserted b bit p mark late inserted = data-step b bit p mark late ∙ rw inserted refl
 
 pub data-more : (b : List Bool) (bit : Bool) (p : ℕ) → current b ≡ FlagAt p → p + 16 ≤ length b →
     is_inserted b (length b - 8) ≡ false
     → settled_data (b ++ bit ∷ []) p ≡ settled_data b p ++ get_or b (length b - 8) false ∷ []
-data-more b bit p mark late plain =
-    ap data_so_far (raw-more b bit p late) ∙ more-data (slice_range b (p + 8) (length b - 8))
-    (get_or b (length b - 8) false) (sym (inserted-here b p mark late) ∙ plain)
-
-pub holds-of : {C : Type 0} (folded : C → List ℕ → Type 0) (d : LineState C) (b : List Bool) (p : ℕ) (mark : Mark) →
-    mark ≡ FlagAt p → HoldsFor folded d b mark → Holds folded d (settled_data b p)
-holds-of folded d b p mark is held = subst (HoldsFor folded d b) is held
-
-pub holds-for : {C : Type 0} (folded : C → List ℕ → Type 0) (d : LineState C) (b : List Bool) (p : ℕ) (mark : Mark) →
-    mark ≡ FlagAt p → Holds folded d (settled_data b p) → HoldsFor folded d b mark
-holds-for folded d b p mark is held = subst (HoldsFor folded d b) (sym is) held
+data-more b bit p mark late plain = data-step b bit p mark late ∙ rw plain refl
 
 -- from there on a piece is open
 pub settles-open : (at place : ℕ) (first : Option ℕ) → at ≡ settles_from first → place ≤ 2 ^ 60 → at < place →
@@ -176,11 +145,16 @@ moved-holds folded d b place last_bits spent (AbortAt a) held = held
 moved-holds folded d b place last_bits spent (FlagAt p) held =
     record { count = held.count; partial = held.partial; held = held.held; checked = held.checked }
 
-pub moved-counts : {C : Type 0} (cost : ℕ) (d : LineState C) (b : List Bool) (place last_bits shifted : ℕ)
-    (first : Option ℕ) → Counts cost d b → let spent = record d.spent { shifted = shifted } in
-    Counts cost (record d { place = place; last_bits = last_bits; first = first; spent = spent }) b
-moved-counts cost d b place last_bits shifted first c =
-    record { settled = c.settled; filled = c.filled; paid = c.paid; copied = c.copied; handled = c.handled }
+-- what no counter but `shifted` changed
+pub moved-counts : {C : Type 0} {cost : ℕ} {d e : LineState C} {b : List Bool} → e.longest ≡ d.longest →
+    e.spent ≡ record d.spent { shifted = e.spent.shifted } → Counts cost d b → Counts cost e b
+moved-counts {C} {cost} {d} {e} {b} longest spent c = record {
+  settled = ap (λ (s : Spent). s.assembled) spent ∙ c.settled;
+  filled = ap (λ (s : Spent). s.stored) spent ∙ rw longest c.filled;
+  paid = ap (λ (s : Spent). s.folded) spent ∙ rw longest c.paid;
+  copied = ap (λ (s : Spent). s.copied) spent ∙ c.copied;
+  handled = ap (λ (s : Spent). s.handled) spent ∙ c.handled;
+}
 
 none_last_bits : number (drop (length {A = Bool} []) (padded [])) ≡ 0
 unfolding number
@@ -211,18 +185,10 @@ stands-same d e b place origin last taken =
 
 -- ---- what the bit after six ones or fourteen decides
 
-decides-nothing : (longest : ℕ) (b : List Bool) (bit : Bool) → ones_at_end b ≢ 6 → ones_at_end b ≢ 14 →
+-- a bit after another run decides nothing, and leaves the last mark
+pub decides-nothing : (longest : ℕ) (b : List Bool) (bit : Bool) → ones_at_end b ≢ 6 → ones_at_end b ≢ 14 →
     Decides longest b bit None (current b)
 decides-nothing longest b bit six fourteen = at-other longest b bit (λ e k l. six k) (λ e. (six, fourteen))
-
--- a bit after another run decides nothing, and leaves the last mark
-pub nothing-due : (longest : ℕ) (b : List Bool) (bit : Bool) → ones_at_end b ≢ 6 → ones_at_end b ≢ 14 →
-    due_at longest (b ++ bit ∷ []) (length b) ≡ None
-nothing-due longest b bit six fourteen = (decides-nothing longest b bit six fourteen).answers
-
-pub mark-kept : (b : List Bool) (bit : Bool) → ones_at_end b ≢ 6 → ones_at_end b ≢ 14 →
-    current (b ++ bit ∷ []) ≡ current b
-mark-kept b bit six fourteen = (decides-nothing 3 b bit six fourteen).leaves
 
 -- what the bit decides, by what was found
 pub closing : (longest : ℕ) (b : List Bool) (bit : Bool) → HasEnded bit (ones_at_end b) (length b) FlagMark
@@ -244,9 +210,15 @@ pub other : (longest : ℕ) (b : List Bool) (bit : Bool) → HasEnded bit (ones_
     Decides longest b bit None (current b)
 other longest b bit found = at-other longest b bit found.0 found.1
 
-none_number : number [] ≡ 0
-unfolding number
-none_number = refl
+-- nothing is held of no data
+pub holds-none : {C : Type 0} {folded : C → List ℕ → Type 0} {d : LineState C} → d.data_bits ≡ 0 → d.partial ≡ 0 →
+    Holds folded d []
+holds-none count partial = record {
+  count = count;
+  partial = partial ∙ sym none_number;
+  held = λ full. absurd (omega (arith, full));
+  checked = λ full. absurd (omega (arith, full));
+}
 
 -- a flag has come: nothing of its piece is there yet
 pub tracks-flag : {C : Type 0} {view : CheckView C} {d : LineState C} {c : List Bool} {mark : Mark} {p : ℕ}
@@ -257,21 +229,8 @@ tracks-flag {C} {view} {d} {c} {mark} {p} tracks end =
     record {
       has_taken = record { place = tracks.has_taken.place; last_bits = tracks.has_taken.last_bits };
       first = ap Some (tracks.has_taken.place ∙ ap (λ n. d.origin + n) (sym end));
-      piece =
-          rw none
-          (record {
-            count = refl;
-            partial = sym none_number;
-            held = λ full. absurd (omega (arith, full));
-            checked = λ full. absurd (omega (arith, full));
-          });
-      counts = record {
-        settled = tracks.counts.settled;
-        filled = tracks.counts.filled;
-        paid = tracks.counts.paid;
-        copied = tracks.counts.copied;
-        handled = tracks.counts.handled;
-      };
+      piece = rw none (holds-none refl refl);
+      counts = moved-counts refl refl tracks.counts;
     }
 
 -- an abort has come: no piece is open
@@ -281,13 +240,7 @@ tracks-abort a tracks = record {
   has_taken = record { place = tracks.has_taken.place; last_bits = tracks.has_taken.last_bits };
   first = refl;
   piece = tt;
-  counts = record {
-    settled = tracks.counts.settled;
-    filled = tracks.counts.filled;
-    paid = tracks.counts.paid;
-    copied = tracks.counts.copied;
-    handled = tracks.counts.handled;
-  };
+  counts = moved-counts refl refl tracks.counts;
 }
 
 -- no run is longer than the list

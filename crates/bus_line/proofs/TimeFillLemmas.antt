@@ -29,8 +29,8 @@ use Rattle.bus_line.specs.Internal.Tracks.{padded, HasTaken}
 use Rattle.bus_line.proofs.WordLemmas.{last-below, word-made}
 use Rattle.bus_line.proofs.AdvanceLemmas.{no_stop-before, no_stop-placed, no_stop-after}
 use Rattle.bus_line.proofs.SettleLemmas.{word-unsettled}
-use Rattle.bus_line.proofs.WordsLemmas.{flags-skipped, shifted, shows-flag}
-use Rattle.bus_line.proofs.FlagLemmas.{flags-length, flags-placed}
+use Rattle.bus_line.proofs.WordsLemmas.{flags-skipped, settles-told, shifted}
+use Rattle.bus_line.proofs.FlagLemmas.{flags-length, flags-placed, mark-is}
 use Rattle.bus_line.proofs.DecidesLemmas.{decides-none, decides-more}
 
 -- ---- where six ones end
@@ -266,29 +266,23 @@ module _ {C : Type 0} (view : CheckView C) (check : C) (octets : List ℕ) where
       Decides view (state old check octets) (flags k) None (state new check octets)
   skipped-flags old new k passed within flag fits =
       let ends : (b : List Bool) → After view (state old check octets) b → EndsInFlag b =
-      λ b stands. shows-flag view old check octets b within stands flag in
+      λ b stands. mark-is view (state old check octets) old.settles_at b stands
+      (settles-told old.settles_at within.settles_late) within.place_fits flag in
       record {
         leads = record {
           after = λ b stands. flags-skipped view old new check octets b k passed (λ _. ends b stands) fits stands;
-          longest = kept-longest k passed;
-          origin = kept-origin k passed;
-          place = moved-place k passed ∙ ap (λ (n : ℕ). old.place + n) (sym (flags-length k));
+          longest = (kept k passed).0;
+          origin = (kept k passed).1;
+          place = (kept k passed).2 ∙ ap (λ (n : ℕ). old.place + n) (sym (flags-length k));
         };
         says = λ b stands. flags-placed old.origin old.longest b k (λ _. ends b stands)
             ∙ sym (append-nil (placed old.origin old.longest b));
       }
     where
-      kept-longest : (k : ℕ) → SkipsFlags old k new → new.longest ≡ old.longest
-      kept-longest zero passed = ap (λ (w : DecoderWords). w.longest) (passed.none refl)
-      kept-longest (suc k) passed = ap (λ (w : DecoderWords). w.longest) (passed.some (omega arith))
-
-      kept-origin : (k : ℕ) → SkipsFlags old k new → new.origin ≡ old.origin
-      kept-origin zero passed = ap (λ (w : DecoderWords). w.origin) (passed.none refl)
-      kept-origin (suc k) passed = ap (λ (w : DecoderWords). w.origin) (passed.some (omega arith))
-
-      moved-place : (k : ℕ) → SkipsFlags old k new → new.place ≡ old.place + 8 * k
-      moved-place zero passed = ap (λ (w : DecoderWords). w.place) (passed.none refl) ∙ omega arith
-      moved-place (suc k) passed = ap (λ (w : DecoderWords). w.place) (passed.some (omega arith))
+      kept : (k : ℕ) → SkipsFlags old k new → (new.longest ≡ old.longest) × (new.origin ≡ old.origin)
+          × (new.place ≡ old.place + 8 * k)
+      kept zero passed = rw (passed.none refl) (refl, refl, omega arith)
+      kept (suc k) passed = rw (passed.some (omega arith)) (refl, refl, refl)
 
 -- ---- data
 

@@ -3,32 +3,29 @@ use Rattle.std.proofs.Common.{◌≡◌, ℕ, zero, suc, ◌+◌, ◌-◌, ◌*�
 use Rattle.std.proofs.Common.{length, take, drop, min, refl, sym, ap, ◌∙◌, subst, arith, length-append, inl, inr}
 use Rattle.std.specs.Prelude.{bit_or}
 use Rattle.std.specs.Int.Bits.{or_shifted_r}
-use Rattle.std.proofs.Math.Seq.{take-add, drop-append-add}
+use Rattle.std.proofs.Math.Seq.{take-add, take-nil, drop-append-add}
 use Rattle.std.proofs.lemmas.Bool.{cases_lt}
 use Rattle.std.proofs.lemmas.Nat.{shl_whole}
-use Rattle.std.proofs.lemmas.List.{append_assoc, length-take, length-drop, take_all, take-append-le}
+use Rattle.std.proofs.lemmas.List.{append-nil, append_assoc, length-take, length-drop, take_all, take-append-le}
 use Rattle.bus_bits.specs.Octet.{number, bits_of, octets}
 use Rattle.bus_bits.specs.declared.spent.Spent.{Spent}
 use Rattle.bus_bits.proofs.OctetLemmas.{number-append, number-bits, number-lt, length-bits, octets-push, octets-append}
+use Rattle.bus_bits.proofs.CaptureLemmas.{take_past}
 use Rattle.bus_fcs.specs.Check.{CheckView}
 use Rattle.bus_line.specs.Internal.LineState.{LineState}
 use Rattle.bus_line.specs.Internal.LineView.{settles_from}
 use Rattle.bus_line.specs.Internal.Tracks.{Holds}
 use Rattle.bus_line.specs.Internal.Settled.{AppendsBits, HoldsOctets, StoresOctets, more_within, octets_more}
 use Rattle.bus_line.specs.Internal.Settled.{low_octets}
-use Rattle.bus_line.proofs.WholeLemmas.{octets-short, whole, part, whole-is, part-is, whole-part, length-whole}
+use Rattle.bus_line.proofs.WholeLemmas.{octets-short, whole, part, whole-part, length-whole}
 use Rattle.bus_line.proofs.WholeLemmas.{length-part, octets-here, length-octets}
 use Rattle.bus_line.proofs.WordLemmas.{number-drop, number-take}
 
 -- ---- octets of a number
 
-none_octets : octets [] ≡ []
-unfolding octets
-none_octets = refl
-
 -- the first octets of bits are those of their number
 octets-first : (k : ℕ) (d : List Bool) → 8 * k ≤ length d → octets (take (8 * k) d) ≡ low_octets k (number d)
-octets-first zero d within = none_octets
+octets-first zero d within = octets-short [] refl
 octets-first (suc k) d within =
     let a = take (8 * k) d in
     let b = take 8 (drop (8 * k) d) in
@@ -44,7 +41,7 @@ octets-first (suc k) d within =
 octets-all : (k : ℕ) (d : List Bool) → length d / 8 ≡ k → octets d ≡ low_octets k (number d)
 octets-all k d full =
     octets-here d
-    ∙ (ap octets (whole-is d) ∙ (ap (λ (j : ℕ). octets (take (8 * j) d)) full ∙ octets-first k d (omega (arith, full))))
+    ∙ (ap (λ (j : ℕ). octets (take (8 * j) d)) full ∙ octets-first k d (omega (arith, full)))
 
 -- the octets of bits and of further ones
 octets-both : (d e : List Bool) → octets (d ++ e) ≡ octets d
@@ -65,8 +62,7 @@ part-both d e = ap number (rest d e) ∙ sym (number-drop (8 * (length (part d +
         omega (arith, length-append d e, length-append (part d) e, length-whole d, length-part d) in
         let parts : d ++ e ≡ whole d ++ (part d ++ e) = ap (λ (z : List Bool). z ++ e) (sym (whole-part d))
         ∙ append_assoc (whole d) (part d) e in
-        part-is (d ++ e)
-        ∙ (ap (λ (j : ℕ). drop j (d ++ e)) end
+        (ap (λ (j : ℕ). drop j (d ++ e)) end
         ∙ (ap (drop (length (whole d) + 8 * (length (part d ++ e) / 8))) parts
         ∙ drop-append-add (whole d) (part d ++ e) (8 * (length (part d ++ e) / 8))))
 
@@ -99,7 +95,7 @@ pub holds-joined : {C : Type 0} (folded : C → List ℕ → Type 0) (d e : Line
 holds-joined folded d e n bits got holds few small grown left longest kept =
     let x = bits_of n bits in
     let one : joined d.partial (d.data_bits % 8) bits ≡ number (part got ++ bits_of n bits) =
-    joined-is d.partial (d.data_bits % 8) n bits got (holds.partial ∙ ap number (sym (part-is got)))
+    joined-is d.partial (d.data_bits % 8) n bits got holds.partial
     (ap (λ (m : ℕ). m % 8) holds.count) few small in
     let full : (d.data_bits % 8 + n) / 8 ≡ length (part got ++ bits_of n bits) / 8 =
     omega (arith, holds.count, length-part got, length-append (part got) (bits_of n bits), length-bits n bits) in
@@ -108,17 +104,12 @@ holds-joined folded d e n bits got holds few small grown left longest kept =
     let keeps = subst (HoldsOctets folded e) same kept in
     record {
       count = grown ∙ omega (arith, holds.count, length-append got (bits_of n bits), length-bits n bits);
-      partial = left ∙ rw (full, one) (sym (part-both got x) ∙ ap number (part-is (got ++ x)));
+      partial = left ∙ rw (full, one) (sym (part-both got x));
       held = λ whole. keeps.held;
       checked = λ whole. keeps.checked;
     }
 
--- before the first octet none is there
-pub none-yet : {C : Type 0} (folded : C → List ℕ → Type 0) (d : LineState C) (got : List Bool) → Holds folded d got →
-    d.data_bits < 8 → octets got ≡ []
-none-yet folded d got holds few = octets-short got (omega (arith, holds.count, few))
-
--- and after it some
+-- after the first octet the buffer holds those of the data
 pub keeps-held : {C : Type 0} (folded : C → List ℕ → Type 0) (d e : LineState C) (got : List Bool) →
     Holds folded d got → 8 ≤ d.data_bits → e.longest ≡ d.longest → e.octets ≡ d.octets → e.check ≡ d.check →
     HoldsOctets folded e (octets got)
@@ -139,33 +130,18 @@ gain-more folded d n got holds =
 -- ---- octets more, as many as there is room for
 
 -- the first of two lists
-take-none : {X : Type 0} (k j : ℕ) (ys : List X) → k ≤ j → take (k - j) ys ≡ []
-take-none k j ys within = let none : k - j ≡ 0 = omega (arith, within) in rw none refl
-
 take-over : {X : Type 0} (k : ℕ) (xs ys : List X) → take k (xs ++ ys) ≡ take k xs ++ take (k - length xs) ys
-take-over zero [] ys = refl
-take-over (suc k) [] ys = let all : suc k ≡ suc k - 0 = omega arith in ap (λ (j : ℕ). take j ys) all
-take-over zero (x ∷ xs) ys = sym (take-none 0 (suc (length xs)) ys (omega arith))
-take-over (suc k) (x ∷ xs) ys =
-    let left : k - length xs ≡ suc k - suc (length xs) = omega arith in
-    ap (λ (z : List _). x ∷ z) (take-over k xs ys) ∙ ap (λ (j : ℕ). x ∷ take k xs ++ take j ys) left
+take-over k xs ys = elim (cases_lt k (length xs)) [
+  | inl short ↦
+      let none : k - length xs ≡ 0 = omega arith in
+      rw none (take-append-le k xs ys (omega arith) ∙ sym (append-nil (take k xs)))
+  | inr long ↦ rw (take_all k xs long) (take_past k xs ys long)
+]
 
 pub length-octets_of : (k n : ℕ) → length (low_octets k n) ≡ k
 length-octets_of zero n = refl
 length-octets_of (suc k) n = length-append (low_octets k n) (n / 2 ^ (8 * k) % 256 ∷ [])
     ∙ omega (arith, length-octets_of k n)
-
--- fewer of the lowest octets
-octets-fewer : (k m n : ℕ) → k ≤ m → take k (low_octets m n) ≡ low_octets k n
-octets-fewer k zero n within = let none : k ≡ 0 = omega (arith, within) in rw none refl
-octets-fewer k (suc m) n within = elim (cases_lt m k) [
-  | inl past ↦
-      let all : k ≡ suc m = omega (arith, past, within) in
-      rw all (take_all (suc m) (low_octets (suc m) n) (omega (arith, length-octets_of (suc m) n)))
-  | inr fewer ↦
-      take-append-le k (low_octets m n) (n / 2 ^ (8 * m) % 256 ∷ []) (omega (arith, length-octets_of m n, fewer))
-      ∙ octets-fewer k m n (omega (arith, fewer))
-]
 
 -- one octet more
 pub octets-next : (k n rest octet : ℕ) → rest ≡ n / 2 ^ (8 * k) → octet ≡ rest % 256 →
@@ -177,13 +153,15 @@ octets-next k n rest octet left lowest =
 
 -- as many of them as there is room for
 octets-room : (k room m n : ℕ) → m ≡ min k room → low_octets m n ≡ take room (low_octets k n)
-octets-room k room m n is = elim (cases_lt room k) [
-  | inl over ↦
-      let all-room : m ≡ room = omega (arith, is, over) in
-      rw all-room (sym (octets-fewer room k n (omega (arith, over))))
-  | inr fits ↦
-      let all : m ≡ k = omega (arith, is, fits) in
-      rw all (sym (take_all room (low_octets k n) (omega (arith, length-octets_of k n, fits))))
+octets-room zero room m n is = let none : m ≡ 0 = omega (arith, is) in rw none (sym (take-nil room))
+octets-room (suc k) room m n is = elim (cases_lt k room) [
+  | inl fits ↦
+      let all : m ≡ suc k = omega (arith, is, fits) in
+      rw all (sym (take_all room (low_octets (suc k) n) (omega (arith, length-octets_of (suc k) n, fits))))
+  | inr over ↦
+      octets-room k room m n (omega (arith, is, over))
+      ∙ sym (take-append-le room (low_octets k n) (n / 2 ^ (8 * k) % 256 ∷ [])
+      (omega (arith, length-octets_of k n, over)))
 ]
 
 -- the buffer and its check have as many octets more as there is room for
@@ -246,9 +224,5 @@ appended {C} {view} d a e n bits j k late few small is-joined is-full same begun
 pub keeps-none : {C : Type 0} (folded : C → List ℕ → Type 0) (e : LineState C) → e.octets ≡ [] → folded e.check [] →
     HoldsOctets folded e []
 keeps-none folded e none check =
-    let still : take {A = ℕ} (e.longest + 2) [] ≡ [] = nothing (e.longest + 2) in
+    let still : take {A = ℕ} (e.longest + 2) [] ≡ [] = take-nil (e.longest + 2) in
     record { held = none ∙ sym still; checked = subst (folded e.check) (sym still) check }
-  where
-    nothing : (k : ℕ) → take {A = ℕ} k [] ≡ []
-    nothing zero = refl
-    nothing (suc k) = refl

@@ -1,12 +1,13 @@
 -- Numbers of bits, the oldest lowest, and what they show.
 use Rattle.std.proofs.Common.{◌≡◌, ℕ, zero, suc, ◌+◌, ◌-◌, ◌*◌, ◌/◌, ◌%◌, ◌^◌, ◌≤◌, ◌<◌, Bool, true, false, cond, List}
 use Rattle.std.proofs.Common.{[], ◌∷◌, ◌++◌, length, take, drop, get_or, replicate, refl, sym, ap, ◌∙◌, subst, arith}
-use Rattle.std.proofs.Common.{length-append, if◌then◌else◌}
+use Rattle.std.proofs.Common.{length-append, if◌then◌else◌, inl, inr}
 use Rattle.std.proofs.Math.Seq.{take-append-add, drop-append-add}
 use Rattle.std.proofs.Math.Nat.{mod-one, zero-mod, zero-div, pow-suc}
 use Rattle.std.proofs.lemmas.Nat.{mod_below, mod-pow-add, shr-shr, pow_pos}
 use Rattle.std.proofs.lemmas.List.{length-take, length-drop, take-append-drop, take-append-le, drop-append-le}
-use Rattle.std.proofs.lemmas.List.{drop-drop, get_or-drop, append_assoc, append-nil}
+use Rattle.std.proofs.lemmas.List.{take_more, drop-take, drop-drop, get_or-drop, append_assoc, append-nil}
+use Rattle.std.proofs.lemmas.Bool.{cases_Bool}
 use Rattle.bus_bits.specs.Octet.{number}
 use Rattle.bus_bits.proofs.OctetLemmas.{number-cons, number-lt, number-append, same_number}
 use Rattle.bus_line.specs.Spelling.{ones}
@@ -18,7 +19,6 @@ use Rattle.bus_line.specs.Internal.Settled.{IsWord}
 use Rattle.bus_line.proofs.RunLemmas.{ones_after-more}
 use Rattle.bus_line.proofs.MarkLemmas.{window-append}
 use Rattle.bus_line.proofs.LedgerSettledLemmas.{inserted-true, inserted-is}
-use Rattle.bus_line.proofs.WholeLemmas.{take_next}
 
 -- ---- numbers
 
@@ -26,7 +26,7 @@ bit-below : (x : Bool) → cond x 1 0 < 2
 bit-below true = omega arith
 bit-below false = omega arith
 
-none_number : number [] ≡ 0
+pub none_number : number [] ≡ 0
 unfolding number
 none_number = refl
 
@@ -75,10 +75,10 @@ number-bit k d =
 -- the ones at the end, one bit more
 run-more : (p : List Bool) (m : ℕ) → m < length p → ones_at_end (take (m + 1) p)
     ≡ (if get_or p m false then suc (ones_at_end (take m p)) else 0)
-run-more p m inside = ap ones_at_end (take_next p m false inside) ∙ ones_after-more 0 (take m p) (get_or p m false)
+run-more p m inside = ap ones_at_end (take_more p m false inside) ∙ ones_after-more 0 (take m p) (get_or p m false)
 
 -- one bit more of a number
-field-more : (n k : ℕ) → n % 2 ^ suc k ≡ n / 2 ^ k % 2 * 2 ^ k + n % 2 ^ k
+pub field-more : (n k : ℕ) → n % 2 ^ suc k ≡ n / 2 ^ k % 2 * 2 ^ k + n % 2 ^ k
 field-more n k = let next : suc k ≡ 1 + k = omega arith in ap (λ (j : ℕ). n % 2 ^ j) next ∙ mod-pow-add n 1 k
 
 place-bit : (p : List Bool) (m k : ℕ) → number (drop m p) / 2 ^ k % 2 ≡ cond (get_or p (m + k) false) 1 0
@@ -93,59 +93,40 @@ run-least (suc k) m p inside =
     let before = run-least k m p (omega (arith, inside)) in
     let next : m + suc k ≡ (m + k) + 1 = omega arith in
     let low = mod_below (number (drop m p)) (2 ^ k) (pow_pos k) in
-    step (get_or p (m + k) false) (number (drop m p) / 2 ^ k % 2) (number (drop m p) % 2 ^ k) (2 ^ k)
-    (number (drop m p) % 2 ^ suc k) (2 ^ suc k) (ones_at_end (take (m + k) p)) (ones_at_end (take (m + suc k) p)) k
-    (place-bit p m k) (field-more (number (drop m p)) k) (omega (arith, pow-suc 2 k)) low
-    (ap (λ (j : ℕ). ones_at_end (take j p)) next ∙ run-more p (m + k) (omega (arith, inside))) before.0 before.1
-  where
-    step : (x : Bool) (c n t a u r v k : ℕ) → c ≡ cond x 1 0 → a ≡ c * t + n → u ≡ t * 2 → n < t →
-        v ≡ (if x then suc r else 0)
-        → (n + 1 ≡ t → k ≤ r) → (k ≤ r → n + 1 ≡ t) → (a + 1 ≡ u → suc k ≤ v) × (suc k ≤ v → a + 1 ≡ u)
-    step true c n t a u r v k bit parts double low run ones full =
-        let whole : a ≡ t + n = parts ∙ rw bit (omega arith) in (
-          (λ is. omega (arith, run, ones (omega (arith, whole, double, is)))),
-          λ is. omega (arith, whole, double, full (omega (arith, run, is))),
-        )
-    step false c n t a u r v k bit parts double low run ones full =
-        let whole : a ≡ n = parts ∙ rw bit (omega arith) in
-        ((λ is. absurd (omega (arith, whole, double, low, is))), λ is. absurd (omega (arith, run, is)))
+    let double = pow-suc 2 k in
+    let run = ap (λ (j : ℕ). ones_at_end (take j p)) next ∙ run-more p (m + k) (omega (arith, inside)) in
+    let parts = field-more (number (drop m p)) k
+    ∙ ap (λ (c : ℕ). c * 2 ^ k + number (drop m p) % 2 ^ k) (place-bit p m k) in
+    elim (cases_Bool (get_or p (m + k) false)) [
+      | inl one ↦
+          let high : number (drop m p) % 2 ^ suc k ≡ 2 ^ k + number (drop m p) % 2 ^ k = parts ∙ rw one (omega arith) in
+          let more : ones_at_end (take (m + suc k) p) ≡ suc (ones_at_end (take (m + k) p)) = run ∙ rw one refl in (
+            (λ is. omega (arith, more, high, double, is, before.0)),
+            λ is. omega (arith, more, high, double, is, before.1),
+          )
+      | inr zero-bit ↦
+          let high : number (drop m p) % 2 ^ suc k ≡ number (drop m p) % 2 ^ k = parts ∙ rw zero-bit (omega arith) in
+          let none : ones_at_end (take (m + suc k) p) ≡ 0 = run ∙ rw zero-bit refl in
+          ((λ is. absurd (omega (arith, high, double, low, is))), λ is. absurd (omega (arith, none, is)))
+    ]
 
 -- so many, and no more, in one bit more
 pub run-just : (k m : ℕ) (p : List Bool) → m + suc k ≤ length p →
     (number (drop m p) % 2 ^ suc k + 2 ≡ 2 ^ suc k → ones_at_end (take (m + suc k) p) ≡ k)
     × (ones_at_end (take (m + suc k) p) ≡ k → number (drop m p) % 2 ^ suc k + 2 ≡ 2 ^ suc k)
-run-just zero m p inside =
-    let here : m + 0 ≡ m = omega arith in
-    let bit = place-bit p m 0 ∙ ap (λ (j : ℕ). cond (get_or p j false) 1 0) here in
-    first (get_or p m false) (number (drop m p) % 2 ^ 1) (ones_at_end (take (m + 1) p)) (ones_at_end (take m p))
-    (omega (arith, bit)) (run-more p m (omega (arith, inside)))
-  where
-    first : (x : Bool) (n v r : ℕ) → n ≡ cond x 1 0 → v ≡ (if x then suc r else 0) →
-        (n + 2 ≡ 2 → v ≡ 0) × (v ≡ 0 → n + 2 ≡ 2)
-    first true n v r bit run = ((λ is. absurd (omega (arith, bit, is))), λ none. absurd (omega (arith, run, none)))
-    first false n v r bit run = ((λ is. run), λ none. omega (arith, bit))
-run-just (suc k) m p inside =
-    let before = run-just k m p (omega (arith, inside)) in
-    let next : m + suc (suc k) ≡ (m + suc k) + 1 = omega arith in
-    let two : 2 ≤ 2 ^ suc k = omega (arith, pow-suc 2 k, pow_pos k) in
-    let low = mod_below (number (drop m p)) (2 ^ suc k) (pow_pos (suc k)) in
-    step (get_or p (m + suc k) false) (number (drop m p) / 2 ^ suc k % 2) (number (drop m p) % 2 ^ suc k) (2 ^ suc k)
-    (number (drop m p) % 2 ^ suc (suc k)) (2 ^ suc (suc k)) (ones_at_end (take (m + suc k) p))
-    (ones_at_end (take (m + suc (suc k)) p)) k
-    (place-bit p m (suc k)) (field-more (number (drop m p)) (suc k)) (omega (arith, pow-suc 2 (suc k))) low two
-    (ap (λ (j : ℕ). ones_at_end (take j p)) next ∙ run-more p (m + suc k) (omega (arith, inside))) before.0 before.1
-  where
-    step : (x : Bool) (c n t a u r v k : ℕ) → c ≡ cond x 1 0 → a ≡ c * t + n → u ≡ t * 2 → n < t → 2 ≤ t →
-        v ≡ (if x then suc r else 0)
-        → (n + 2 ≡ t → r ≡ k) → (r ≡ k → n + 2 ≡ t) → (a + 2 ≡ u → v ≡ suc k) × (v ≡ suc k → a + 2 ≡ u)
-    step true c n t a u r v k bit parts double low two run just shown =
-        let whole : a ≡ t + n = parts ∙ rw bit (omega arith) in (
-          (λ is. omega (arith, run, just (omega (arith, whole, double, is)))),
-          λ is. omega (arith, whole, double, shown (omega (arith, run, is))),
-        )
-    step false c n t a u r v k bit parts double low two run just shown =
-        let whole : a ≡ n = parts ∙ rw bit (omega arith) in
-        ((λ is. absurd (omega (arith, whole, double, low, two, is))), λ is. absurd (omega (arith, run, is)))
+run-just k m p inside =
+    let more = run-least (suc k) m p inside in
+    let least = run-least k (m + 1) p (omega (arith, inside)) in
+    let end : m + 1 + k ≡ m + suc k = omega arith in
+    let run = ap (λ (j : ℕ). ones_at_end (take j p)) end in
+    let next : suc k ≡ k + 1 = omega arith in
+    let parts : number (drop m p) % 2 ^ suc k ≡ number (drop (m + 1) p) % 2 ^ k * 2 + number (drop m p) % 2 =
+    ap (λ (j : ℕ). number (drop m p) % 2 ^ j) next ∙ (mod-pow-add (number (drop m p)) k 1
+    ∙ ap (λ (n : ℕ). n % 2 ^ k * 2 + number (drop m p) % 2) (number-drop 1 (drop m p) ∙ ap number (drop-drop 1 m p))) in
+    let double = pow-suc 2 k in (
+      (λ shown. grind (arith, run, parts, double, shown, more.1, least.0)),
+      λ is. grind (arith, run, parts, double, is, more.0, least.1),
+    )
 
 -- ---- the word
 
@@ -158,9 +139,6 @@ padded-drop k c = drop-append-add (replicate 16 false) c k
 
 pub padded-length : (c : List Bool) → length (padded c) ≡ 16 + length c
 padded-length c = length-append (replicate 16 false) c
-
-padded-ones : (c : List Bool) → ones_at_end (padded c) ≡ ones_at_end c
-padded-ones c = refl
 
 -- the last sixteen bits
 last-length : (b : List Bool) → length (drop (length b) (padded b)) ≡ 16
@@ -198,7 +176,7 @@ window-front n q i b bits within before =
 before-bit : (i : ℕ) (b bits : List Bool) → ones_at_end (take (16 + (length b + i)) (padded (b ++ bits)))
     ≡ ones_at_end (b ++ take i bits)
 before-bit i b bits = ap ones_at_end (padded-take (length b + i) (b ++ bits))
-    ∙ (padded-ones (take (length b + i) (b ++ bits)) ∙ ap ones_at_end (take-append-add b bits i))
+    ∙ ap ones_at_end (take-append-add b bits i)
 
 -- exactly so many ones before a new bit
 pub word-just : (k s w i : ℕ) (b bits : List Bool) → s + suc k ≡ 16 → IsWord w b bits → i ≤ length bits
@@ -222,22 +200,12 @@ pub word-next : (w t : ℕ) (b bits : List Bool) → IsWord w b bits → t ≤ l
     w / 2 ^ t % 65536 ≡ number (drop (length (b ++ take t bits)) (padded (b ++ take t bits)))
 word-next w t b bits word within =
     let p = padded (b ++ bits) in
-    let front : take (16 + (length b + t)) p ≡ padded (b ++ take t bits) =
-    padded-take (length b + t) (b ++ bits) ∙ ap padded (take-append-add b bits t) in
+    let size : length b + t + 16 ≡ 16 + (length b + t) = omega arith in
+    let front : take (length b + t + 16) p ≡ padded (b ++ take t bits) = ap (λ (j : ℕ). take j p) size
+    ∙ (padded-take (length b + t) (b ++ bits) ∙ ap padded (take-append-add b bits t)) in
     ap (λ (x : ℕ). x % 2 ^ 16) (word-part w t b bits word) ∙ (number-take 16 (drop (length b + t) p)
-    ∙ ap number (turn 16 (length b + t) p ∙ (ap (drop (length b + t)) front
+    ∙ ap number (sym (drop-take (length b + t) 16 p) ∙ (ap (drop (length b + t)) front
     ∙ ap (λ (j : ℕ). drop j (padded (b ++ take t bits))) (sym (length-front t b bits within)))))
-  where
-    nothing : (k : ℕ) → take {A = Bool} k [] ≡ []
-    nothing zero = refl
-    nothing (suc k) = refl
-
-    turn : (k m : ℕ) (p : List Bool) → take k (drop m p) ≡ drop m (take (k + m) p)
-    turn k zero p = let same : k ≡ k + 0 = omega arith in ap (λ (j : ℕ). take j p) same
-    turn k (suc m) [] = let next : suc (k + m) ≡ k + suc m =
-        omega arith in nothing k ∙ ap (λ (j : ℕ). drop (suc m) (take {A = Bool} j [])) next
-    turn k (suc m) (x ∷ p) = let next : suc (k + m) ≡ k + suc m =
-        omega arith in turn k m p ∙ ap (λ (j : ℕ). drop (suc m) (take j (x ∷ p))) next
 
 -- the last sixteen bits and new ones are the word
 pub word-made : (h n : ℕ) (b bits : List Bool) → h ≡ number (drop (length b) (padded b)) → n ≡ number bits →
@@ -344,8 +312,7 @@ last-bits-five h b bit far last =
     let run : ones_at_end (take (m + 5) (padded c)) ≡ ones_at_end (take (length b - 7) b) =
     ap (λ (j : ℕ). ones_at_end (take j (padded c))) end
     ∙ (ap ones_at_end (padded-take (length b - 7) c)
-    ∙ (padded-ones (take (length b - 7) c)
-    ∙ ap ones_at_end (take-append-le (length b - 7) b (bit ∷ []) (omega arith)))) in
+    ∙ ap ones_at_end (take-append-le (length b - 7) b (bit ∷ []) (omega arith))) in
     let field : h / 8 ≡ number (drop m (padded c)) = ap (λ (x : ℕ). x / 8) last
     ∙ (number-drop 3 (drop (length c) (padded c)) ∙ ap number (drop-drop 3 (length c) (padded c))) in (
       (λ shown. omega (arith, run, least.0 (omega (arith, field, shown)))),

@@ -1,7 +1,7 @@
 -- Words, with a check and octets beside them, as a decoder.
-use Rattle.std.proofs.Common.{◌≡◌, ℕ, zero, suc, ◌+◌, ◌-◌, ◌*◌, ◌≤◌, ◌<◌, ◌^◌, ◌==◌, Bool, true, false, List, ◌++◌}
-use Rattle.std.proofs.Common.{length, ◌/◌, ◌%◌, Some, None, refl, ap, ◌∙◌, arith, append-nil, if◌then◌else◌}
-use Rattle.std.proofs.lemmas.Bool.{eqb-true}
+use Rattle.std.proofs.Common.{◌≡◌, ℕ, zero, suc, ◌+◌, ◌-◌, ◌*◌, ◌≤◌, ◌<◌, ◌^◌, ◌==◌, Bool, true, List, ◌++◌, length}
+use Rattle.std.proofs.Common.{◌/◌, ◌%◌, Some, refl, ap, ◌∙◌, arith, append-nil, inl, inr}
+use Rattle.std.proofs.lemmas.Bool.{cases_Bool, eqb-true}
 use Rattle.std.specs.Prelude.{nat_lt}
 use Rattle.bus_bits.proofs.CaptureLemmas.{lt_true}
 use Rattle.bus_fcs.specs.Check.{CheckView}
@@ -9,30 +9,28 @@ use Rattle.std.specs.Option.{option_map}
 use Rattle.bus_line.specs.Report.{Abort, moved}
 use Rattle.bus_line.specs.Due.{Mark, NoMark, FlagAt, AbortAt, piece_report}
 use Rattle.bus_line.specs.Internal.Tracks.{first_of}
-use Rattle.bus_line.specs.Words.{first_in, AreDecoderWords, state}
+use Rattle.bus_line.specs.Words.{first_in, state}
 use Rattle.bus_line.specs.declared.decoder_words.DecoderWords.{DecoderWords}
 use Rattle.bus_line.specs.After.{After}
 use Rattle.bus_line.specs.Internal.LineView.{settles_from}
 use Rattle.bus_line.specs.Internal.Flags.{EndsInFlag, flags, SkipsFlags}
 use Rattle.bus_line.specs.Internal.Settled.{HasNoStop, IsWord}
 use Rattle.bus_line.proofs.SettleLemmas.{Shifted, shifted-word}
-use Rattle.bus_line.proofs.FlagLemmas.{flags-after, mark-is}
+use Rattle.bus_line.proofs.FlagLemmas.{flags-after}
 
 -- the place after which bits settle, by the first place of the piece
 pub settles-told : (at : ℕ) → 8 ≤ at → at ≡ settles_from (first_in at)
-settles-told at past = shows (at == 2 ^ 62) refl
-  where
-    shows : (t : Bool) → (at == 2 ^ 62) ≡ t → at ≡ settles_from (if t then None else Some (at - 8))
-    shows true is = eqb-true at (2 ^ 62) is
-    shows false is = omega (arith, past)
+settles-told at past = elim (cases_Bool (at == 2 ^ 62)) [
+  | inl never ↦ rw never (eqb-true at (2 ^ 62) never)
+  | inr other ↦ rw other (omega (arith, past))
+]
 
 -- an open piece has a first place
 pub first-some : (at place : ℕ) → 8 ≤ at → at ≤ place + 8 → place ≤ 2 ^ 60 → first_in at ≡ Some (at - 8)
-first-some at place past settles fits = shows (at == 2 ^ 62) refl
-  where
-    shows : (t : Bool) → (at == 2 ^ 62) ≡ t → (if t then None else Some (at - 8)) ≡ Some (at - 8)
-    shows true is = absurd (omega (arith, eqb-true at (2 ^ 62) is, settles, fits))
-    shows false is = refl
+first-some at place past settles fits = elim (cases_Bool (at == 2 ^ 62)) [
+  | inl never ↦ absurd (omega (arith, eqb-true at (2 ^ 62) never, settles, fits))
+  | inr other ↦ rw other refl
+]
 
 pub first-at : (place : ℕ) → place ≤ 2 ^ 60 → first_in (place + 8) ≡ Some place
 first-at place fits = first-some (place + 8) place (omega arith) (omega arith) fits ∙ ap Some (omega arith)
@@ -51,14 +49,6 @@ aborts origin at past end place (FlagAt q) opened is-end within fits late some =
     let first : at - 8 ≡ origin + (q + 8) = omega (arith, told) in
     let begun : nat_lt (q + 8) end ≡ true = lt_true (q + 8) end (omega (arith, told, some, is-end)) in
     rw (begun, first, is-end) refl
-
--- a flag ended at the last bit
-pub shows-flag : {C : Type 0} (view : CheckView C) (w : DecoderWords) (check : C) (octets : List ℕ)
-    (b : List Bool) → AreDecoderWords w → After view (state w check octets) b → w.settles_at ≡ w.place + 8
-    → EndsInFlag b
-shows-flag view w check octets b within stands at =
-    mark-is view (state w check octets) w.settles_at b stands (settles-told w.settles_at within.settles_late)
-    within.place_fits at
 
 -- where flags lead
 pub flags-skipped : {C : Type 0} (view : CheckView C) (old new : DecoderWords) (check : C)

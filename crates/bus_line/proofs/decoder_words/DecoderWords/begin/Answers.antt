@@ -1,7 +1,8 @@
-use Rattle.std.proofs.Common.{sym, subst, refl}
+use Rattle.std.proofs.Common.{sym, subst, refl, arith}
 use Rattle.bus_line.specs.Words.{state}
 use Rattle.bus_line.specs.Internal.Settled.{HoldsOctets}
-use Rattle.bus_line.proofs.TracksAppendLemmas.{none-yet, keeps-held, keeps-none}
+use Rattle.bus_line.proofs.WholeLemmas.{octets-short}
+use Rattle.bus_line.proofs.TracksAppendLemmas.{keeps-held, keeps-none}
 use Rattle.bus_line.proofs.decoder_words.DecoderWords.begin.Goals as goal
 
 pub returns-then-self-ge8-clause-keeps : goal.returns-then-self-ge8-clause-keeps
@@ -11,6 +12,6 @@ returns-then-self-ge8-clause-keeps g c = λ bits holds.
 
 pub returns-clause-keeps : goal.returns-clause-keeps
 returns-clause-keeps g c = λ bits holds.
-    let d = state c.args.self.now c.args.check.now (g.F.FrameBuffer.octets c.args.frame.now) in
-    subst (HoldsOctets g.C.Check.check.folded _) (sym (none-yet _ d bits holds c.if-self-ge8.false))
+    subst (HoldsOctets g.C.Check.check.folded _)
+    (sym (octets-short bits (omega (arith, holds.count, c.if-self-ge8.false))))
     (keeps-none _ _ c.clear.ensures c.fresh.ensures)

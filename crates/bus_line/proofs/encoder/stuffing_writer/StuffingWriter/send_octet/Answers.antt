@@ -1,10 +1,9 @@
 use Rattle.std.proofs.Common.{◌≡◌, ◌+◌, ◌++◌, [], ◌∷◌, length, take, drop, get_or, false, arith, sym, ap, ◌∙◌, subst}
-use Rattle.std.proofs.lemmas.List.{length-take}
+use Rattle.std.proofs.lemmas.List.{length-take, take_more}
 use Rattle.bus_bits.specs.Octet.{bits_of}
 use Rattle.bus_bits.proofs.OctetLemmas.{length-bits}
 use Rattle.bus_line.specs.Internal.StuffingWriter.{Cut}
 use Rattle.bus_line.specs.Internal.Inserting.{raw_after, run_after}
-use Rattle.bus_line.proofs.WholeLemmas.{take_next}
 use Rattle.bus_line.proofs.InsertingLemmas.{on_err, next-of, raw-few, run-append, data-sent, data-cut-before}
 use Rattle.bus_line.proofs.InsertingLemmas.{data-cut-behind}
 use Rattle.bus_line.proofs.encoder.stuffing_writer.StuffingWriter.send_octet.Goals as goal
@@ -34,7 +33,7 @@ loop-bit-preserved g c =
     let i = c.loop-bit.bit-index in
     let bits = c.octet_bits-bits.result in
     let next : take (i + 1) bits ≡ take i bits ++ get_or bits i false ∷ [] =
-    take_next bits i false (omega (arith, ap length c.octet_bits-bits.ensures, length-bits 8 c.args.octet)) in
+    take_more bits i false (omega (arith, ap length c.octet_bits-bits.ensures, length-bits 8 c.args.octet)) in
     rw next (record {
       sent = data-sent c.args.self.now.run (take i bits) (get_or bits i false ∷ [])
           c.loop-bit.invariant.sent c.loop-bit.invariant.run c.in_ok-send_data.ensures.sent;
