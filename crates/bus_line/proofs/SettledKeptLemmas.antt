@@ -3,16 +3,16 @@ use Rattle.std.proofs.Common.{◌≡◌, ◌≢◌, ℕ, zero, suc, ◌+◌, ◌
 use Rattle.std.proofs.Common.{◌++◌, ◌⊎◌, refl, sym, ap, ◌∙◌, subst, arith, nat_eq, not, inl, inr}
 use Rattle.std.specs.Prelude.{bit_and, false, ◌↔◌}
 use mir.Val.{bool_byte}
-use Rattle.std.specs.Int.Bits.{and_self, and_zero_r}
+use Rattle.std.specs.Int.Bits.{and_self, and_zero_l, and_zero_r}
 use Rattle.std.specs.Int.{bit_at, w64, trailing_zeros}
-use Rattle.std.proofs.lemmas.Nat.{shr-shr, and_le_l, and_mask, and_shr, and_block, mod_below, mul-add-lt}
+use Rattle.std.proofs.lemmas.Nat.{shr-shr, and_le_l, and_mask, and_shr, and_block, div-mul-add, mod_below, mul-add-lt}
 use Rattle.std.proofs.lemmas.Nat.{pow-add, pow_below, pow_pos, one_shl, shr_below, shr_high, shr_split}
 use Rattle.std.proofs.lemmas.Grind.{and-not_self}
 use Rattle.std.proofs.lemmas.Nat.Bits.{bit_at-zero, bit_at_and, bit_at_not, bit_at_ones, bit_at_above, bit_at_cat_low}
 use Rattle.std.proofs.lemmas.Nat.Bits.{bit_at_cat_high, bit_at-pow_other, bit_at-lt, bit_at-trailing_zeros}
 use Rattle.std.proofs.lemmas.List.{append-nil}
 use Rattle.std.proofs.lemmas.Bool.{cases_lt, eq-eqb, ne_eqb}
-use Rattle.std.proofs.Math.Nat.{pow-suc, mul_assoc, add-zero, mod-eq_of_lt, mod_self}
+use Rattle.std.proofs.Math.Nat.{mul-le-mul_right, pow-suc, add-mul, mul_assoc, add-zero, mod-eq_of_lt, mod_self}
 use Rattle.bus_bits.specs.Octet.{bits_of}
 use Rattle.bus_line.proofs.WordLemmas.{field-more}
 use Rattle.bus_line.proofs.SettledDataLemmas.{MAX}
@@ -243,8 +243,8 @@ abbrev pub marks_left : ℕ → ℕ
 marks_left s = bit_and s (one_less s) / 2
 
 -- the lowest mark gone, and its bit with it
-bits-left : (x s a b l j : ℕ) → s < 2 ^ 64 → ByPlace x s a b l j → bits_left x s ≡ a * 2 ^ j + l
-bits-left x s a b l j word parted =
+bits-twice : (x s a b l j : ℕ) → s < 2 ^ 64 → ByPlace x s a b l j → x + bit_and x (one_less s) ≡ (a * 2 ^ j + l) * 2
+bits-twice x s a b l j word parted =
     let some = pow_pos j in
     let double = pow-suc 2 j in
     let wide : l < 2 ^ suc j = omega (arith, parted.small, double, some) in
@@ -257,8 +257,8 @@ bits-left x s a b l j word parted =
     let twice : a * 2 ^ suc j ≡ a * 2 ^ j * 2 = ap (λ (k : ℕ). a * k) double ∙ sym (mul_assoc a (2 ^ j) 2) in
     omega (arith, low, parted.bits, twice)
 
-marks-left : (x s a b l j : ℕ) → s < 2 ^ 64 → ByPlace x s a b l j → marks_left s ≡ b * 2 ^ j
-marks-left x s a b l j word parted =
+marks-twice : (x s a b l j : ℕ) → s < 2 ^ 64 → ByPlace x s a b l j → bit_and s (one_less s) ≡ b * 2 ^ j * 2
+marks-twice x s a b l j word parted =
     let some = pow_pos j in
     let double = pow-suc 2 j in
     let mark : 2 ^ j < 2 ^ suc j = omega (arith, double, some) in
@@ -291,8 +291,8 @@ out-are x s a b l j k word within one x-below s-below parted =
     let double = pow-suc 2 j in
     let wide : l < 2 ^ suc j = omega (arith, parted.small, double, some) in
     let mark : 2 ^ j < 2 ^ suc j = omega (arith, double, some) in
-    let bits = bits-left x s a b l j word parted in
-    let marks : marks_left s ≡ b * 2 ^ j + 0 = marks-left x s a b l j word parted ∙ sym (add-zero (b * 2 ^ j)) in
+    let bits : bits_left x s ≡ a * 2 ^ j + l = omega (arith, bits-twice x s a b l j word parted) in
+    let marks : marks_left s ≡ b * 2 ^ j + 0 = omega (arith, marks-twice x s a b l j word parted) in
     let none : (i : ℕ) → i < j → bit_at 0 i ≡ bit_at (2 ^ j) i =
     λ i below. bit_at-zero i ∙ sym (bit_at-pow_other j i (λ same. omega (arith, same, below))) in
     let kept-bits : Without j k (a * 2 ^ suc j + l) (a * 2 ^ j + l) =
@@ -307,9 +307,10 @@ out-are x s a b l j k word within one x-below s-below parted =
           (rw (marks, parted.marks) kept-marks);
     }
 
--- some bit is marked
+-- some bit is marked; what is halved then is even
 some-out : (x s n : ℕ) → 0 < s → n ≤ 56 → x < 2 ^ n → s < 2 ^ n → bit_and x s ≡ 0
     → AreMarked x s n (bits_left x s) (marks_left s) (n - 1)
+    × (x + bit_and x (one_less s) ≡ bits_left x s * 2) × (bit_and s (one_less s) ≡ marks_left s * 2)
 some-out x s zero some few x-below s-below clear = absurd (omega (arith, some, s-below))
 some-out x s (suc k) some few x-below s-below clear =
     let word : s < 2 ^ 64 = omega (arith, s-below, pow_below (suc k) 64 (omega (arith, few))) in
@@ -322,7 +323,11 @@ some-out x s (suc k) some few x-below s-below clear =
       | inr within ↦ within
     ] in
     let parted = by_place x s j lowest.1 lowest.2 clear in
-    rw left (out-are x s (x / 2 ^ suc j) (s / 2 ^ suc j) (x % 2 ^ j) j k word within lowest.1 x-below s-below parted)
+    rw left (
+      out-are x s (x / 2 ^ suc j) (s / 2 ^ suc j) (x % 2 ^ j) j k word within lowest.1 x-below s-below parted,
+      omega (arith, bits-twice x s (x / 2 ^ suc j) (s / 2 ^ suc j) (x % 2 ^ j) j word parted),
+      omega (arith, marks-twice x s (x / 2 ^ suc j) (s / 2 ^ suc j) (x % 2 ^ j) j word parted),
+    )
 
 -- none is marked
 none-out : (x n : ℕ) → n ≤ 56 → x < 2 ^ n → AreMarked x 0 n (bits_left x 0) (marks_left 0) n
@@ -345,7 +350,7 @@ lowest-out x s n m few x-below s-below clear out =
       | inl some ↦
           let not-zero : (s == 0) ≡ false = ne_eqb s 0 (λ is. omega (arith, some, is)) in
           let left : n - m ≡ n - 1 = ap (λ (i : ℕ). n - i) (out ∙ ap (λ c. bool_byte (not c)) not-zero) in
-          rw left (some-out x s n some few x-below s-below clear)
+          rw left (some-out x s n some few x-below s-below clear).0
       | inr none ↦
           let zero : 0 ≡ s = omega (arith, none) in
           let none-out-of : m ≡ 0 = out ∙ ap (λ (c : ℕ). bool_byte (not (nat_eq c 0))) (sym zero) in
@@ -353,6 +358,104 @@ lowest-out x s n m few x-below s-below clear out =
           subst (AreMarked x s n (bits_left x s) (marks_left s)) left
           (subst (λ (i : ℕ). AreMarked x i n (bits_left x i) (marks_left i) n) zero (none-out x n few x-below))
     ]
+
+-- ---- all marked bits taken out, and what stood below each higher by a place
+
+-- bits and marks of which so many places were taken out, and that stand so much higher than what is left
+pub record AreRaised (x s n a b out : ℕ) : Type 0 where
+  pub y : ℕ
+  pub t : ℕ
+  pub left : ℕ
+  pub all : left + out ≡ n
+  pub bits : a ≡ y * 2 ^ out
+  pub marks : b ≡ t * 2 ^ out
+  pub are : AreMarked x s n y t left
+
+pub raised-none : (x s n : ℕ) → x < 2 ^ n → s < 2 ^ n → bit_and x s ≡ 0 → AreRaised x s n x s 0
+raised-none x s n small marked zeros = record {
+  y = x;
+  t = s;
+  left = n;
+  all = omega arith;
+  bits = omega arith;
+  marks = omega arith;
+  are = record { small = small; marked = marked; zeros = zeros; same = refl };
+}
+
+pub raised-fits : {x s n a b out : ℕ} → n ≤ 56 → AreRaised x s n a b out → (a < 2 ^ 57) × (out ≤ 56)
+raised-fits {x} {s} {n} {a} {b} {out} few raised =
+    let high = mul-add-lt raised.y (2 ^ out) 0 (2 ^ raised.left) raised.are.small (pow_pos out) in
+    let size : 2 ^ out * 2 ^ raised.left ≡ 2 ^ (out + raised.left) = sym (pow-add 2 out raised.left) in (
+      omega (arith, raised.bits, high, size, pow_below (out + raised.left) 57 (omega (arith, raised.all, few))),
+      omega (arith, raised.all, few),
+    )
+
+-- no mark is left
+pub raised-all : {x s n a out : ℕ} → AreRaised x s n a 0 out → (a / 2 ^ out < 2 ^ (n - out))
+    × (bits_of (n - out) (a / 2 ^ out) ≡ kept x s n)
+raised-all {x} {s} {n} {a} {out} raised =
+    let are = raised.are in
+    let size : n - out ≡ raised.left = omega (arith, raised.all) in
+    let low : a / 2 ^ out ≡ raised.y =
+    ap (λ (k : ℕ). k / 2 ^ out) (raised.bits ∙ sym (add-zero (raised.y * 2 ^ out)))
+    ∙ div-mul-add raised.y (2 ^ out) 0 (pow_pos out) in
+    let none : raised.t ≡ 0 = elim (cases_lt 0 raised.t) [
+      | inl some ↦ absurd (omega (arith, raised.marks, mul-le-mul_right (2 ^ out) some, pow_pos out))
+      | inr none ↦ omega (arith, none)
+    ] in
+    rw (low, size) (are.small, sym (kept-all raised.y raised.left) ∙ rw none at are.same)
+
+raised-and : (x s r : ℕ) → 0 < s → s < 2 ^ 64 → bit_and (x * 2 ^ r) (s * 2 ^ r - 1) ≡ bit_and x (one_less s) * 2 ^ r
+raised-and x s r some word =
+    let next : s ≡ 1 + one_less s = omega (arith, some, word) in
+    let size : s * 2 ^ r ≡ 1 * 2 ^ r + one_less s * 2 ^ r =
+    ap (λ (k : ℕ). k * 2 ^ r) next ∙ add-mul 1 (one_less s) (2 ^ r) in
+    let less : s * 2 ^ r - 1 ≡ one_less s * 2 ^ r + (2 ^ r - 1) = omega (arith, size, pow_pos r) in
+    rw less (ap (λ (k : ℕ). bit_and k (one_less s * 2 ^ r + (2 ^ r - 1))) (sym (add-zero (x * 2 ^ r)))
+    ∙ and_block r x (one_less s) 0 (2 ^ r - 1) (pow_pos r) (omega (arith, pow_pos r))
+    ∙ omega (arith, and_zero_l (2 ^ r - 1)))
+
+-- the lowest mark is taken out
+pub raised-out : {x s n a b out : ℕ} → n ≤ 56 → 0 < b → AreRaised x s n a b out
+    → AreRaised x s n (a + bit_and a (b - 1)) (bit_and b (b - 1)) (out + 1)
+raised-out {x} {s} {n} {a} {b} {out} few some raised =
+    let y = raised.y in
+    let t = raised.t in
+    let m = raised.left in
+    let are = raised.are in
+    let marked : 0 < t = elim (cases_lt 0 t) [
+      | inl more ↦ more
+      | inr none ↦
+          let zero : t ≡ 0 = omega (arith, none) in
+          absurd (omega (arith, some, raised.marks, ap (λ (k : ℕ). k * 2 ^ out) zero))
+    ] in
+    let inside : 0 < m = elim (cases_lt 0 m) [
+      | inl more ↦ more
+      | inr none ↦
+          let zero : m ≡ 0 = omega (arith, none) in
+          absurd (omega (arith, marked, are.marked, ap (λ (k : ℕ). 2 ^ k) zero))
+    ] in
+    let word : t < 2 ^ 64 = omega (arith, are.marked, pow_below m 64 (omega (arith, few, raised.all))) in
+    let next = some-out y t m marked (omega (arith, few, raised.all)) are.small are.marked are.zeros in
+    let double : 2 * 2 ^ out ≡ 2 ^ (out + 1) =
+    sym (pow-add 2 1 out) ∙ ap (λ (k : ℕ). 2 ^ k) (omega arith) in
+    let higher : (k i : ℕ) → i ≡ k * 2 → i * 2 ^ out ≡ k * 2 ^ (out + 1) =
+    λ k i twice. rw twice (mul_assoc k 2 (2 ^ out) ∙ ap (λ (p : ℕ). k * p) double) in
+    record {
+      y = bits_left y t;
+      t = marks_left t;
+      left = m - 1;
+      all = omega (arith, raised.all, inside);
+      bits = rw (raised.bits, raised.marks, raised-and y t out marked word)
+          (sym (add-mul y (bit_and y (one_less t)) (2 ^ out)) ∙ higher _ _ next.1);
+      marks = rw (raised.marks, raised-and t t out marked word) (higher _ _ next.2);
+      are = record {
+        small = next.0.small;
+        marked = next.0.marked;
+        zeros = next.0.zeros;
+        same = next.0.same ∙ are.same;
+      };
+    }
 
 -- the sum of the step has a word's bits
 pub sum-fits : (x s n : ℕ) → n ≤ 56 → x < 2 ^ n → x + bit_and x (one_less s) < 2 ^ 64

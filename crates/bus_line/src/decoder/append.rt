@@ -3,7 +3,7 @@
 ghost use Rattle.std.specs.Prelude.{◌≡◌, ◌+◌, ◌-◌, ◌*◌, ◌/◌, ◌≤◌, ◌<◌, ◌^◌, List, Bool, ◌++◌, length, ℕ};
 ghost use Rattle.bus_bits.specs.Octet.{bits_of, octets};
 
-use crate::decoder::settled::Bits;
+use crate::decoder::marked::Bits;
 use crate::decoder_words::DecoderWords;
 use crate::frame_buffer::FrameBuffer;
 use bus_bits::Spent;

@@ -1,7 +1,17 @@
 //! Bits of which some are to be left out.
 
 ghost use Rattle.std.specs.Prelude.{◌≡◌, ◌≢◌, ◌≤◌, ◌<◌, ◌^◌, bit_and};
+ghost use Rattle.bus_bits.specs.Octet.{bits_of};
 ghost use Rattle.bus_line.specs.Internal.Settled.{kept};
+
+/// Data bits, at most 56, the first lowest.
+#[derive(Clone, Copy)]
+pub(crate) struct Bits {
+    pub(crate) bits: u64,
+    pub(crate) count: u64,
+    ghost few: { count ≤ 56 },
+    ghost small: { bits < 2 ^ count },
+}
 
 /// Bits, the first lowest, and marks on some of their 0s.
 #[derive(Clone, Copy)]
@@ -49,6 +59,34 @@ impl Marked {
             bits: (bits + (bits & less)) >> 1,
             marks: (marks & less) >> 1,
             count: count - u64::from(marks != 0),
+        }
+    }
+
+    /// The bits that are not marked.
+    #[inline(always)]
+    pub(crate) fn unmarked(self) -> Bits
+        ensures value { bits_of result.count result.bits ≡ kept self.bits self.marks self.count }
+        ensures few { result.count ≤ self.count }
+    {
+        let Marked {
+            mut bits,
+            mut marks,
+            count,
+        } = self;
+        if marks == 0 {
+            return Bits { bits, count };
+        }
+        let mut out = 0;
+        while marks != 0 {
+            let less = marks - 1;
+            // The bits below the lowest mark move up by one place, onto it.
+            bits += bits & less;
+            marks &= less;
+            out += 1;
+        }
+        Bits {
+            bits: bits >> out,
+            count: count - out,
         }
     }
 }

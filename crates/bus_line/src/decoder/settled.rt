@@ -4,16 +4,7 @@ ghost use Rattle.std.specs.Prelude.{◌≡◌, ◌≤◌, ◌<◌, ◌+◌, ◌/
 ghost use Rattle.bus_bits.specs.Octet.{bits_of};
 ghost use Rattle.bus_line.specs.Internal.Settled.{kept, data_in_word};
 
-use crate::decoder::marked::Marked;
-
-/// Data bits, at most 56, the first lowest.
-#[derive(Clone, Copy)]
-pub(crate) struct Bits {
-    pub(crate) bits: u64,
-    pub(crate) count: u64,
-    ghost few: { count ≤ 56 },
-    ghost small: { bits < 2 ^ count },
-}
+use crate::decoder::marked::{Bits, Marked};
 
 /// The data among the `count` bits after the eight lowest of the word: those that are no inserted
 /// 0 (ISO/IEC 13239, transparency).
@@ -24,7 +15,9 @@ pub(crate) fn data_in_word(word: u64, count: u64) -> Bits
     ensures few { result.count ≤ count }
 {
     let all = (1 << count) - 1;
-    unstuffed(word >> 8, inserted_zeros(word) & all, count)
+    Marked::of(word >> 8, inserted_zeros(word) & all, count)
+        .without_lowest()
+        .unmarked()
 }
 
 /// Which of the bits after the eight lowest of the word are inserted 0s: a 0 after five ones.
@@ -36,22 +29,4 @@ fn inserted_zeros(word: u64) -> u64
     let four = two & two >> 2;
     let five = four & word >> 4;
     five >> 3 & !(word >> 8)
-}
-
-/// So many bits without those marked as inserted, the first lowest.
-#[inline(always)]
-fn unstuffed(bits: u64, inserted: u64, count: u64) -> Bits
-    requires few { count ≤ 56 }
-    requires marked { inserted < 2 ^ count }
-    ensures value { bits_of result.count result.bits ≡ kept bits inserted count }
-    ensures few { result.count ≤ count }
-{
-    let mut left = Marked::of(bits, inserted, count).without_lowest();
-    while left.marks != 0 {
-        left = left.without_lowest();
-    }
-    Bits {
-        bits: left.bits,
-        count: left.count,
-    }
 }

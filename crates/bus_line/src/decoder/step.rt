@@ -6,7 +6,8 @@ ghost use Rattle.bus_bits.specs.Limits.{most_places};
 ghost use Rattle.bus_bits.specs.Octet.{bits_of};
 ghost use Rattle.bus_bits.specs.Word.{IsWordOf};
 
-use crate::decoder::settled::{Bits, data_in_word};
+use crate::decoder::marked::Bits;
+use crate::decoder::settled::data_in_word;
 use crate::decoder::stop::{Stopped, up_to_stop};
 use crate::decoder_words::{DecoderWords, PLACES};
 use crate::event::Event;

@@ -4,9 +4,9 @@ use Rattle.bus_line.proofs.decoder.settled.data_in_word.Goals as goal
 
 pub returns-clause-value : goal.returns-clause-value
 returns-clause-value c =
-    c.unstuffed.ensures.value
+    c.unmarked.ensures.value ∙ c.without_lowest.ensures.same ∙ c.of.ensures.same
     ∙ (settled-word c.args.word c.inserted_zeros.result c.args.count c.requires c.inserted_zeros.ensures).0
 
-pub unstuffed-requires-clause-marked : goal.unstuffed-requires-clause-marked
-unstuffed-requires-clause-marked c =
+pub of-requires-clause-marked : goal.of-requires-clause-marked
+of-requires-clause-marked c =
     (settled-word c.args.word c.inserted_zeros.result c.args.count c.requires c.inserted_zeros.ensures).1
