@@ -8,7 +8,8 @@ use Rattle.bus_bits.specs.Bits.{bits_from}
 use Rattle.bus_bits.proofs.BitLemmas.{bits-in, bits-more, length-from}
 use Rattle.bus_bits.proofs.PairWordsLemmas.{zip-append}
 use Rattle.bus_bits.specs.Capture.{CaptureOf}
-use Rattle.bus_bits.specs.Packed.{PairsAfter, arrival_head_fault, head_bits, headed, packed_arrival_capture, pair_body}
+use Rattle.bus_bits.specs.Packed.{ArrivalsAreHeaded, PairsAfter, arrival_head_fault, head_bits, packed_arrival_capture}
+use Rattle.bus_bits.specs.Packed.{pair_body}
 use Rattle.bus_tap.specs.Arrival.{Arrival}
 use Rattle.bus_tap.specs.Rested.{IsRestAfter, RestState, rested, fill}
 use Rattle.bus_calls.specs.Captures.{arrival_of}
@@ -43,22 +44,21 @@ rests-none r b none is stands =
     record { after = stands; rested = sym (append-nil front) ∙ ap (λ (ys : List Arrival). front ++ ys) (sym is) }
 
 -- octets of a packed capture were put behind those before them
-pub packed-rests : ((head xs : List ℕ) → length head ≡ 16 → packed_arrival_capture (head ++ xs)
-    ≡ headed (arrival_head_fault head) (pair_body (head_bits head) xs))
-    → (r q : RestState) (left later : ℕ) (xs ys : List ℕ) (front new : List Arrival)
+pub packed-rests : ArrivalsAreHeaded → {r : RestState} (q : RestState) {left : ℕ} (later : ℕ) {xs : List ℕ}
+    (ys : List ℕ) {front : List Arrival} (new : List Arrival)
     → ((n : ℕ) (zs : List ℕ) (front : List Arrival) → PairsAfter n zs left → RestsAfter r (pair_body n zs).bits front
     → PairsAfter n (zs ++ ys) later × RestsAfter q (pair_body n (zs ++ ys)).bits (front ++ new))
     → IsHeaded arrival_head_fault PairsAfter left xs → RestsAfter r (packed_arrival_capture xs).bits front
     → IsHeaded arrival_head_fault PairsAfter later (xs ++ ys)
     × RestsAfter q (packed_arrival_capture (xs ++ ys)).bits (front ++ new)
-packed-rests law r q left later xs ys front new puts parts stands =
+packed-rests law {r} q later ys {front} new puts parts stands =
     let bits = λ (c : CaptureOf (Bool × Bool)). c.bits in
-    let here = headed-here packed_arrival_capture pair_body arrival_head_fault PairsAfter law left xs parts in
-    let more = headed-more packed_arrival_capture pair_body arrival_head_fault PairsAfter law left xs ys parts in
     let put = puts (head_bits parts.head) parts.body front parts.after
-    (subst (λ (b : List (Bool × Bool)). RestsAfter r b front) (ap bits here) stands) in (
-      head-followed packed_arrival_capture pair_body arrival_head_fault PairsAfter law left later xs ys parts put.0,
-      subst (λ (b : List (Bool × Bool)). RestsAfter q b (front ++ new)) (sym (ap bits more)) put.1,
+    (subst (λ (b : List (Bool × Bool)). RestsAfter r b front)
+    (ap bits (headed-here packed_arrival_capture pair_body law parts)) stands) in (
+      head-followed packed_arrival_capture pair_body law later ys parts put.0,
+      subst (λ (b : List (Bool × Bool)). RestsAfter q b (front ++ new))
+          (sym (ap bits (headed-more packed_arrival_capture pair_body law ys parts))) put.1,
     )
 
 octet-next : (os : List ℕ) (i : ℕ) →

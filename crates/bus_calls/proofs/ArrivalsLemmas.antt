@@ -106,24 +106,24 @@ module _ {C : Type 0} (view : CheckView C) where
   }
 
   -- the rule of rest changes nothing of what was followed
-  pub watched-behind : (start now : Option (List ℕ)) (w v : CaptureRun (ClockAnalyser C)) (xs : List Arrival) →
+  pub watched-behind : {start now : Option (List ℕ)} {w v : CaptureRun (ClockAnalyser C)} {xs : List Arrival} →
       v.analyser.analyser ≡ w.analyser.analyser → v.reporter ≡ w.reporter →
       WatchAfter (arrivals_kind view) start now w xs → WatchAfter (arrivals_kind view) start now v xs
-  watched-behind start now w v xs analyser reporter followed =
+  watched-behind analyser reporter followed =
       rw (analyser, reporter)
       (record { is_after = followed.is_after; counts = followed.counts; page = followed.page })
 
   -- symbols were taken, or not
-  pub symbols-taken : (start now : Option (List ℕ)) (w : CaptureRun (ClockAnalyser C)) (b : List (Bool × Bool))
-      (ys : List Arrival) (r : Result (Unit {0}) ToolFault)
+  pub symbols-taken : (start now : Option (List ℕ)) (w : CaptureRun (ClockAnalyser C)) {b : List (Bool × Bool)}
+      {ys : List Arrival} (r : Result (Unit {0}) ToolFault)
       → RestsAfter w.analyser.rest b ys → MatchResult r (λ _. WatchAfter (arrivals_kind view) start now w ys)
       (λ f. WatchStopsWith (arrivals_kind view) start now w ys f)
       → MatchResult r (λ _. FeedAfter (arrivals_kind view) start now w b)
       (λ f. FeedStopsWith (arrivals_kind view) start now w b f)
-  symbols-taken start now w b ys (Ok u) stands taken =
+  symbols-taken start now w (Ok u) stands taken =
       record {
         rule = stands.after;
         bits = subst (WatchAfter (arrivals_kind view) start now w) (sym stands.rested) taken;
       }
-  symbols-taken start now w b ys (Err f) stands taken =
+  symbols-taken start now w (Err f) stands taken =
       subst (λ (zs : List Arrival). WatchStopsWith (arrivals_kind view) start now w zs f) (sym stands.rested) taken

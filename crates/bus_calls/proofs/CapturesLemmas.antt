@@ -1,13 +1,13 @@
 -- The symbols of a capture that have a place, and how the following of them stops.
-use Rattle.std.proofs.Common.{◌≡◌, ℕ, ◌+◌, ◌-◌, ◌<◌, ◌≤◌, ◌^◌, if◌then◌else◌, List, ◌++◌, length, take, drop, Option}
-use Rattle.std.proofs.Common.{Some, refl, sym, ap, ◌∙◌, subst, arith, inl, inr, append_assoc}
+use Rattle.std.proofs.Common.{◌≡◌, ℕ, ◌+◌, ◌-◌, ◌<◌, ◌≤◌, ◌^◌, if◌then◌else◌, Bool, true, false, List, ◌++◌, length}
+use Rattle.std.proofs.Common.{take, drop, Option, Some, refl, sym, ap, ◌∙◌, subst, arith, inl, inr, append_assoc}
 use Rattle.std.proofs.lemmas.Bool.{cases_lt}
 use Rattle.std.proofs.lemmas.List.{take-append-drop}
 use Rattle.bus_bits.specs.Capture.{CaptureOf, CaptureFault, place_limit, capped, GrowsTo}
 use Rattle.bus_calls.specs.Internal.Kinds.{KindView, FormLaws, KindLaws}
-use Rattle.bus_calls.specs.Internal.Watching.{IsSound, WatchAfter, WatchStopsWith, within}
-use Rattle.bus_calls.specs.Internal.Sessions.{Faulty, CaptureStopsWith}
-use Rattle.bus_calls.specs.Captures.{Form, IsSameFault, fed_by}
+use Rattle.bus_calls.specs.Internal.Watching.{IsSound, IsSame, WatchAfter, WatchStopsWith, within}
+use Rattle.bus_calls.specs.Internal.Sessions.{Faulty, CaptureStopsWith, SourceStopsWith, capture_so_far}
+use Rattle.bus_calls.specs.Captures.{Form, IsSameFault, capture, fed_by}
 use Rattle.bus_calls.specs.declared.run.CaptureRun.{CaptureRun}
 use Rattle.bus_text.specs.declared.fault.ToolFault.{ToolFault}
 use Rattle.bus_text.specs.declared.fault.ToolFault.TheVariants as fault
@@ -36,17 +36,11 @@ fed-grows f law rest c d grows =
     let on = law.fed rest c.bits grows.0 in
     (on.taken, ap (f.fed rest) grows.1 ∙ on.is, λ g found. ap (fed_by f rest) (grows.2 g found))
 
--- all octets give more than some of their first, places counted from an origin
-pub front-grown : {R X : Type 0} (f : Form R X) → FormLaws f → (read : List ℕ → CaptureOf R)
-    → ((xs ys : List ℕ) → GrowsTo (read xs) (read (xs ++ ys)))
-    → (rest origin : ℕ) (xs os : List ℕ) (k : ℕ) →
-    GrowsTo (capped origin (fed_by f rest (read (xs ++ take k os)))) (capped origin (fed_by f rest (read (xs ++ os))))
-front-grown f laws read law rest origin xs os k =
-    laws.places origin (fed_by f rest (read (xs ++ take k os))) (fed_by f rest (read (xs ++ os)))
-    (fed-grows f laws rest (read (xs ++ take k os)) (read (xs ++ os))
-    (subst (λ (ys : List ℕ). GrowsTo (read (xs ++ take k os)) (read ys))
-    (append_assoc xs (take k os) (drop k os) ∙ ap (λ (ys : List ℕ). xs ++ ys) (take-append-drop k os))
-    (law (xs ++ take k os) (drop k os))))
+-- so does what octets give
+pub grows-on : {R X : Type 0} (f : Form R X) → FormLaws f → (text : Bool) (rest origin : ℕ) (xs ys : List ℕ) →
+    GrowsTo (capture f text rest origin xs) (capture f text rest origin (xs ++ ys))
+grows-on f law true rest origin xs ys = law.places origin _ _ (fed-grows f law rest _ _ (law.text xs ys))
+grows-on f law false rest origin xs ys = law.places origin _ _ (fed-grows f law rest _ _ (law.packed xs ys))
 
 module _ {A R X B : Type 0} (t : KindView A R X B) where
   -- the symbols that were followed have a place
@@ -102,3 +96,21 @@ module _ {A R X B : Type 0} (t : KindView A R X B) where
   stops-more start now w c d f grows stopped =
       subst (λ (x : CaptureOf X). CaptureStopsWith t start now w x f)
       (sym (grows.2 stopped.cause stopped.found)) stopped
+
+-- what stopped the taking of the first of some octets stops that of all
+pub first-stop : {A R X B : Type 0} {t : KindView A R X B} → KindLaws t → (text : Bool) (start now : Option (List ℕ))
+    (w : CaptureRun A) {zs : List ℕ} (xs os : List ℕ) (k : ℕ) (f : ToolFault) → zs ≡ xs ++ take k os →
+    SourceStopsWith t text start now w zs f → SourceStopsWith t text start now w (xs ++ os) f
+first-stop {t = t} law text start now w xs os k f is stopped =
+    subst (λ (ys : List ℕ). SourceStopsWith t text start now w ys f)
+    (append_assoc xs (take k os) (drop k os) ∙ ap (λ (ys : List ℕ). xs ++ ys) (take-append-drop k os))
+    (stops-more t start now w _ (capture_so_far t text w ((xs ++ take k os) ++ drop k os)) f
+    (grows-on t.form law.form text (t.rest w.analyser) (t.watch.origin w.analyser) (xs ++ take k os) (drop k os))
+    (subst (λ (ys : List ℕ). SourceStopsWith t text start now w ys f) is stopped))
+
+-- the first place is low, and stays so
+pub low-origin : {A R X B : Type 0} {t : KindView A R X B} → KindLaws t → {start now : Option (List ℕ)}
+    {w v : CaptureRun A} {b : List X} → t.watch.place w.analyser ≤ 2 ^ 60 → IsSame t w v → WatchAfter t start now w b →
+    t.watch.origin v.analyser ≤ 2 ^ 60
+low-origin law {w = w} {b = b} places same followed =
+    omega (arith, same.origin, law.placed w.analyser b followed.is_after, places)

@@ -5,7 +5,7 @@ use Rattle.std.proofs.Common.{◌∙◌, arith, length-append}
 use Rattle.std.specs.Io.KnownBytes.{Appends, Consumes, Keeps, IsAtEnd}
 use Rattle.std.specs.Io.BufRead.{strip_last}
 use Rattle.std.specs.Path.{rsplit_once}
-use Rattle.std.proofs.lemmas.List.{append-nil, take-append-le}
+use Rattle.std.proofs.lemmas.List.{append-nil, take_all, take-append-le}
 use Rattle.std.proofs.lemmas.Grind.{common_steps}
 use Rattle.std.proofs.lemmas.Bool.Decides.{nat_tests}
 use Rattle.bus_line.specs.Line.{Call, gain}
@@ -36,12 +36,12 @@ none_takes start line number e empty first after = record {
 
 -- ---- one call
 
-pub put_encoded : (start before now : Option (List ℕ)) (e f : EncoderState) (written size : ℕ) (calls : List Call)
-    (call : Call) (bytes text : List ℕ) → HasEncoded start before e written calls
+pub put_encoded : {start before : Option (List ℕ)} (now : Option (List ℕ)) {e f : EncoderState} {written size : ℕ}
+    {calls : List Call} (call : Call) {bytes text : List ℕ} → HasEncoded start before e written calls
     → AfterCalls f (calls ++ call ∷ []) → bytes ≡ bits_text (gain calls call) → text ≡ bytes → size ≡ length bytes →
     Appends before now text
     → HasEncoded start now f (written + size) (calls ++ call ∷ [])
-put_encoded start before now e f written size calls call bytes text encoded after is same count out =
+put_encoded {start = start} {before = before} now {calls = calls} call encoded after is same count out =
     let more = text-push calls call in
     let here = rw (same, is) at out in
     record {
@@ -59,12 +59,12 @@ put_encoded start before now e f written size calls call bytes text encoded afte
           );
     }
 
-pub put_halts : (start before now : Option (List ℕ)) (e : EncoderState) (written sent : ℕ) (calls : List Call)
-    (call : Call) (bytes text : List ℕ) → HasEncoded start before e written calls
+pub put_halts : {start before : Option (List ℕ)} (now : Option (List ℕ)) {e : EncoderState} {written : ℕ} (sent : ℕ)
+    {calls : List Call} (call : Call) {bytes text : List ℕ} → HasEncoded start before e written calls
     → bytes ≡ bits_text (gain calls call) → text ≡ bytes → sent < length text → Appends before now (take sent text)
     → (written + sent ≤ length (encode_text (calls ++ call ∷ [])))
     × Appends start now (take (written + sent) (encode_text (calls ++ call ∷ [])))
-put_halts start before now e written sent calls call bytes text encoded is same few out =
+put_halts {start = start} {before = before} now {written = written} sent {calls = calls} call encoded is same few out =
     let more = text-push calls call in
     let here = rw (same, is) at out in
     let short : sent ≤ length (bits_text (gain calls call)) = omega (arith, few, ap length same, ap length is) in
@@ -82,63 +82,10 @@ put_halts start before now e written sent calls call bytes text encoded is same 
           encoded.count short here),
     )
 
--- ---- an octet that is not LF
-
-pub other_takes : (start now : Option (List ℕ)) (line new : List ℕ) (number x : ℕ) (e : EncoderState) (written : ℕ)
-    (xs : List ℕ) → (x == 10) ≡ false → new ≡ line ++ x ∷ []
-    → length (strip_last 13 new) ≤ 600 → EncodedAfter start now line number e written xs →
-    EncodedAfter start now new number e written (xs ++ x ∷ [])
-other_takes start now line new number x e written xs other is fits taken =
-    let ended = ended-by_other xs x other in
-    let here : new ≡ open_line (xs ++ x ∷ []) =
-    is ∙ (ap (λ (l : List ℕ). l ++ x ∷ []) taken.here ∙ sym (open-by_other xs x other)) in
-    let short : is_long (open_line (xs ++ x ∷ [])) ≡ false = ap is_long (sym here) ∙ short_is new fits in
-    record {
-      here = here;
-      lines = rw ended taken.lines;
-      clean = rw (so_far-short (xs ++ x ∷ []) short, ended) (ended_clean xs taken.clean);
-      done = rw ended taken.done;
-    }
-
-pub long_halts : (start now : Option (List ℕ)) (line : List ℕ) (number x : ℕ) (e : EncoderState) (written : ℕ)
-    (xs : List ℕ) (fault : ToolFault) → (x == 10) ≡ false → fault ≡ BadLine number
-    → 600 < length (strip_last 13 (line ++ x ∷ [])) → EncodedAfter start now line number e written xs →
-    EncodeHalts start now written (asked_so_far (xs ++ x ∷ [])) fault
-long_halts start now line number x e written xs fault other is-fault long taken =
-    let ended = asked_behind 0 (ended_lines xs) in
-    let here : line ++ x ∷ [] ≡ open_line (xs ++ x ∷ []) =
-    ap (λ (l : List ℕ). l ++ x ∷ []) taken.here ∙ sym (open-by_other xs x other) in
-    let is_so : is_long (open_line (xs ++ x ∷ [])) ≡ true = ap is_long (sym here) ∙ long_is (line ++ x ∷ []) long in
-    let is : asked_so_far (xs ++ x ∷ [])
-    ≡ record { calls = ended.calls ++ []; fault = Some (BadLine (text_line (length (ended_lines xs)))) } =
-    so_far-long (xs ++ x ∷ []) is_so
-    ∙ (ap (λ (ls : List (List ℕ)). and_then (asked_behind 0 ls) (bad (length ls))) (ended-by_other xs x other)
-    ∙ then-clean ended (bad (length (ended_lines xs))) (ended_clean xs taken.clean)) in
-    let text : ended.calls ++ [] ≡ ended.calls = append-nil ended.calls in
-    rw (is-fault, is) (rw taken.lines refl, rw text taken.done.out, rw text taken.done.count)
-
 pub not_lf : (x : ℕ) → x ≢ 10 → (x == 10) ≡ false
 not_lf x other = grind (arith, nat_tests)
 
-pub push_cases : (start now : Option (List ℕ)) (line new : List ℕ) (number same x : ℕ) (e : EncoderState) (written : ℕ)
-    (xs : List ℕ) (r : Result (Unit {0}) ToolFault) → (x == 10) ≡ false
-    → length (strip_last 13 new) ≤ 600 → EncodedAfter start now line number e written xs
-    → MatchResult r (λ _. (new ≡ line ++ x ∷ []) × (same ≡ number))
-    (λ fault. (fault ≡ BadLine number) × (600 < length (strip_last 13 (line ++ x ∷ []))))
-    → MatchResult r (λ _. EncodedAfter start now new same e written (xs ++ x ∷ []))
-    (λ fault. EncodeHalts start now written (asked_so_far (xs ++ x ∷ [])) fault)
-push_cases start now line new number same x e written xs (Ok u) other fits taken pushed =
-    rw pushed.1 (other_takes start now line new number x e written xs other pushed.0 fits taken)
-push_cases start now line new number same x e written xs (Err fault) other fits taken refused =
-    long_halts start now line number x e written xs fault other refused.0 refused.1 taken
-
 -- ---- LF
-
--- what the open line asks for
-pub one_is : (start now : Option (List ℕ)) (line : List ℕ) (number : ℕ) (e : EncoderState) (written : ℕ) (xs : List ℕ) →
-    EncodedAfter start now line number e written xs
-    → one_asked (line_call number (strip_last 13 line)) ≡ line_asked (length (ended_lines xs)) (open_line xs)
-one_is start now line number e written xs taken = rw (taken.lines, taken.here) refl
 
 abbrev pub behind : List Call → Asked → Asked
 behind calls one = record { calls = calls ++ one.calls; fault = one.fault }
@@ -155,32 +102,6 @@ push_is : (xs : List ℕ) (one : Asked) → (asked_so_far xs).fault ≡ None →
     → asked_behind 0 (ended_lines (xs ++ 10 ∷ [])) ≡ behind (asked_behind 0 (ended_lines xs)).calls one
 push_is xs one clean is =
     rw (ended-by_lf xs, asked-push (ended_lines xs) (open_line xs), ← lf-asked xs) (lf_is xs one clean is)
-
-pub lf_takes : (start before now : Option (List ℕ)) (line new : List ℕ) (number next : ℕ) (e f : EncoderState)
-    (written more : ℕ) (xs : List ℕ) → EncodedAfter start before line number e written xs
-    → Ends start now f more (asked_behind 0 (ended_lines xs)).calls (one_asked (line_call number (strip_last 13 line)))
-    (Ok tt) → new ≡ [] → next ≡ number + 1
-    → EncodedAfter start now new next f more (xs ++ 10 ∷ [])
-lf_takes start before now line new number next e f written more xs taken ends empty is =
-    let one = one_asked (line_call number (strip_last 13 line)) in
-    let same = one_is start before line number e written xs taken in
-    let count : length (ended_lines (xs ++ 10 ∷ [])) ≡ length (ended_lines xs) + 1 =
-    ap length (ended-by_lf xs) ∙ length-append (ended_lines xs) (open_line xs ∷ []) in
-    record {
-      here = empty ∙ sym (open-by_lf xs);
-      lines = omega (arith, is, taken.lines, count);
-      clean = rw (lf_is xs one taken.clean same) ends.0;
-      done = rw (push_is xs one taken.clean same) ends.1;
-    }
-
-pub lf_halts : (start before now : Option (List ℕ)) (line : List ℕ) (number : ℕ) (e f : EncoderState) (written more : ℕ)
-    (xs : List ℕ) (fault : ToolFault) → EncodedAfter start before line number e written xs
-    → Ends start now f more (asked_behind 0 (ended_lines xs)).calls (one_asked (line_call number (strip_last 13 line)))
-    (Err fault)
-    → EncodeHalts start now more (asked_so_far (xs ++ 10 ∷ [])) fault
-lf_halts start before now line number e f written more xs fault taken ends =
-    let one = one_asked (line_call number (strip_last 13 line)) in
-    rw (lf_is xs one taken.clean (one_is start before line number e written xs taken)) ends
 
 -- ---- more octets
 
@@ -217,10 +138,6 @@ middle_halts start now written x i xs ys e inside is halts =
     let more = so_far-grows front (drop (i + 1) ys) in
     rw (← whole, more.1) (halts-then start now written (asked_so_far front) more.0 e halts)
 
--- all of them
-pub all_octets : (i : ℕ) (ys : List ℕ) → length ys ≤ i → take i ys ≡ ys
-all_octets i ys all = grind (arith, common_steps)
-
 -- ---- the end of the reading
 
 pub halts_finishes : (reads : ℕ) (after start now : Option (List ℕ)) (written : ℕ) (xs : List ℕ) (a : Asked)
@@ -230,47 +147,108 @@ halts_finishes reads after start now written xs a Read asks halts = absurd halts
 halts_finishes reads after start now written xs a ReadsLimit asks halts = absurd halts
 halts_finishes reads after start now written xs a _ asks halts = (a, asks, halts)
 
-pub end_finishes : (reads : ℕ) (after start before now : Option (List ℕ)) (line : List ℕ) (number : ℕ)
-    (e f : EncoderState) (written more : ℕ) (xs : List ℕ) (r : Result (Unit {0}) ToolFault)
-    → IsAtEnd after → EncodedAfter start before line number e written xs
-    → Ends start now f more (asked_behind 0 (ended_lines xs)).calls (one_asked (line_call number (strip_last 13 line)))
-    r → EncodeFinishes reads after start now more xs r
-end_finishes reads after start before now line number e f written more xs r at taken ends = cases r ends
-  where
-    one : Asked
-    one = one_asked (line_call number (strip_last 13 line))
+-- ---- octets that were taken, and what comes after them
 
-    is : asked_in_all xs ≡ behind (asked_behind 0 (ended_lines xs)).calls
-        (one_asked (line_call number (strip_last 13 line)))
-    is =
-        in_all-is xs ∙ (sym (lf-asked xs)
-        ∙ lf_is xs one taken.clean (one_is start before line number e written xs taken))
+module _ {start now : Option (List ℕ)} {line : List ℕ} {number : ℕ} {e : EncoderState} {written : ℕ} {xs : List ℕ}
+    (taken : EncodedAfter start now line number e written xs) where
+  -- an octet that is not LF
+  other_takes : (new : List ℕ) (x : ℕ) → (x == 10) ≡ false → new ≡ line ++ x ∷ [] → length (strip_last 13 new) ≤ 600
+      → EncodedAfter start now new number e written (xs ++ x ∷ [])
+  other_takes new x other is fits =
+      let ended = ended-by_other xs x other in
+      let here : new ≡ open_line (xs ++ x ∷ []) =
+      is ∙ (ap (λ (l : List ℕ). l ++ x ∷ []) taken.here ∙ sym (open-by_other xs x other)) in
+      let short : is_long (open_line (xs ++ x ∷ [])) ≡ false = ap is_long (sym here) ∙ short_is new fits in
+      record {
+        here = here;
+        lines = rw ended taken.lines;
+        clean = rw (so_far-short (xs ++ x ∷ []) short, ended) (ended_clean xs taken.clean);
+        done = rw ended taken.done;
+      }
 
-    cases : (r : Result (Unit {0}) ToolFault) →
-        Ends start now f more (asked_behind 0 (ended_lines xs)).calls
-        (one_asked (line_call number (strip_last 13 line)))
-        r → EncodeFinishes reads after start now more xs r
-    cases (Ok u) ended = (at, rw is ended.0, rw is ended.1.out, rw is ended.1.count)
-    cases (Err fault) ended =
-        halts_finishes reads after start now more xs (asked_in_all xs) fault (inr (at, refl))
-        (rw is ended)
+  long_halts : (x : ℕ) (fault : ToolFault) → (x == 10) ≡ false → fault ≡ BadLine number
+      → 600 < length (strip_last 13 (line ++ x ∷ []))
+      → EncodeHalts start now written (asked_so_far (xs ++ x ∷ [])) fault
+  long_halts x fault other is-fault long =
+      let ended = asked_behind 0 (ended_lines xs) in
+      let here : line ++ x ∷ [] ≡ open_line (xs ++ x ∷ []) =
+      ap (λ (l : List ℕ). l ++ x ∷ []) taken.here ∙ sym (open-by_other xs x other) in
+      let is_so : is_long (open_line (xs ++ x ∷ [])) ≡ true = ap is_long (sym here) ∙ long_is (line ++ x ∷ []) long in
+      let is : asked_so_far (xs ++ x ∷ [])
+      ≡ record { calls = ended.calls ++ []; fault = Some (BadLine (text_line (length (ended_lines xs)))) } =
+      so_far-long (xs ++ x ∷ []) is_so
+      ∙ (ap (λ (ls : List (List ℕ)). and_then (asked_behind 0 ls) (bad (length ls))) (ended-by_other xs x other)
+      ∙ then-clean ended (bad (length (ended_lines xs))) (ended_clean xs taken.clean)) in
+      let text : ended.calls ++ [] ≡ ended.calls = append-nil ended.calls in
+      rw (is-fault, is) (rw taken.lines refl, rw text taken.done.out, rw text taken.done.count)
 
--- no fault in the octets so far
-pub clean_so_far : (start now : Option (List ℕ)) (line : List ℕ) (number : ℕ) (e : EncoderState) (written : ℕ)
-    (xs : List ℕ) → EncodedAfter start now line number e written xs
-    → ((asked_so_far xs).fault ≡ None) × Appends start now (encode_text (asked_so_far xs).calls)
-    × (written ≡ length (encode_text (asked_so_far xs).calls))
-clean_so_far start now line number e written xs taken =
-    let calls = ended_calls xs taken.clean in
-    (taken.clean, rw calls taken.done.out, rw calls taken.done.count)
+  pub push_cases : (new : List ℕ) (same x : ℕ) (r : Result (Unit {0}) ToolFault) → (x == 10) ≡ false
+      → length (strip_last 13 new) ≤ 600
+      → MatchResult r (λ _. (new ≡ line ++ x ∷ []) × (same ≡ number))
+      (λ fault. (fault ≡ BadLine number) × (600 < length (strip_last 13 (line ++ x ∷ []))))
+      → MatchResult r (λ _. EncodedAfter start now new same e written (xs ++ x ∷ []))
+      (λ fault. EncodeHalts start now written (asked_so_far (xs ++ x ∷ [])) fault)
+  push_cases new same x (Ok u) other fits pushed = rw pushed.1 (other_takes new x other pushed.0 fits)
+  push_cases new same x (Err fault) other fits refused = long_halts x fault other refused.0 refused.1
+
+  -- what the open line asks for
+  one_is : one_asked (line_call number (strip_last 13 line)) ≡ line_asked (length (ended_lines xs)) (open_line xs)
+  one_is = rw (taken.lines, taken.here) refl
+
+  -- LF
+  pub lf_takes : {later : Option (List ℕ)} {new : List ℕ} {next : ℕ} {f : EncoderState} {more : ℕ}
+      → Ends start later f more (asked_behind 0 (ended_lines xs)).calls
+      (one_asked (line_call number (strip_last 13 line))) (Ok tt) → new ≡ [] → next ≡ number + 1
+      → EncodedAfter start later new next f more (xs ++ 10 ∷ [])
+  lf_takes ends empty is =
+      let one = one_asked (line_call number (strip_last 13 line)) in
+      let count : length (ended_lines (xs ++ 10 ∷ [])) ≡ length (ended_lines xs) + 1 =
+      ap length (ended-by_lf xs) ∙ length-append (ended_lines xs) (open_line xs ∷ []) in
+      record {
+        here = empty ∙ sym (open-by_lf xs);
+        lines = omega (arith, is, taken.lines, count);
+        clean = rw (lf_is xs one taken.clean one_is) ends.0;
+        done = rw (push_is xs one taken.clean one_is) ends.1;
+      }
+
+  pub lf_halts : (later : Option (List ℕ)) (f : EncoderState) (more : ℕ) (fault : ToolFault)
+      → Ends start later f more (asked_behind 0 (ended_lines xs)).calls
+      (one_asked (line_call number (strip_last 13 line))) (Err fault)
+      → EncodeHalts start later more (asked_so_far (xs ++ 10 ∷ [])) fault
+  lf_halts later f more fault ends =
+      rw (lf_is xs (one_asked (line_call number (strip_last 13 line))) taken.clean one_is) ends
+
+  -- the end of the input
+  pub end_finishes : (reads : ℕ) (after later : Option (List ℕ)) (f : EncoderState) (more : ℕ)
+      (r : Result (Unit {0}) ToolFault) → IsAtEnd after
+      → Ends start later f more (asked_behind 0 (ended_lines xs)).calls
+      (one_asked (line_call number (strip_last 13 line))) r → EncodeFinishes reads after start later more xs r
+  end_finishes reads after later f more r at ends = cases r ends
+    where
+      one : Asked
+      one = one_asked (line_call number (strip_last 13 line))
+
+      is : asked_in_all xs ≡ behind (asked_behind 0 (ended_lines xs)).calls one
+      is = in_all-is xs ∙ (sym (lf-asked xs) ∙ lf_is xs one taken.clean one_is)
+
+      cases : (r : Result (Unit {0}) ToolFault) → Ends start later f more (asked_behind 0 (ended_lines xs)).calls one r
+          → EncodeFinishes reads after start later more xs r
+      cases (Ok u) ended = (at, rw is ended.0, rw is ended.1.out, rw is ended.1.count)
+      cases (Err fault) ended =
+          halts_finishes reads after start later more xs (asked_in_all xs) fault (inr (at, refl)) (rw is ended)
+
+  -- no fault in the octets so far
+  pub clean_so_far : ((asked_so_far xs).fault ≡ None) × Appends start now (encode_text (asked_so_far xs).calls)
+      × (written ≡ length (encode_text (asked_so_far xs).calls))
+  clean_so_far =
+      let calls = ended_calls xs taken.clean in (taken.clean, rw calls taken.done.out, rw calls taken.done.count)
 
 -- a flush that fails kept all of the text that went out
 fails : (reads : ℕ) (after start now then : Option (List ℕ)) (written : ℕ) (xs : List ℕ) (a : Asked) → Asks after xs a
     → written ≡ length (encode_text a.calls) → Appends start now (encode_text a.calls) → Keeps now then
     → Encodes reads after start then xs (Err (Write written))
 fails reads after start now then written xs a asks count out kept =
-    let all : take written (encode_text a.calls) ≡ encode_text a.calls =
-    all_octets written (encode_text a.calls) (omega (arith, count)) in
+    let all = take_all written (encode_text a.calls) (omega (arith, count)) in
     (a, asks, omega (arith, count), rw all (appends_kept start now then (encode_text a.calls) out kept))
 
 pub flush_fails : (reads : ℕ) (after start now then : Option (List ℕ)) (written : ℕ) (xs : List ℕ)

@@ -21,7 +21,7 @@ use Rattle.bus_text.specs.declared.options.Options.{Options}
 use Rattle.bus_text.specs.declared.summary.Summary.{Summary}
 use Rattle.bus_text.specs.declared.fault.ToolFault.{ToolFault}
 use Rattle.bus_text.specs.declared.fault.ToolFault.TheVariants as fault
-use Rattle.bus_calls.proofs.CapturesLemmas.{fed-grows, placed-bits}
+use Rattle.bus_calls.proofs.CapturesLemmas.{fed-grows, grows-on, placed-bits}
 use Rattle.bus_text.proofs.ListingLemmas.{listing-append}
 use Rattle.bus_text.proofs.PagesLemmas.{cuts-more}
 use Rattle.bus_bits.proofs.CaptureLemmas.{grows-trans}
@@ -29,11 +29,6 @@ use Rattle.bus_bits.proofs.CaptureLemmas.{grows-trans}
 -- as it grows
 grows-self : {X : Type 0} (c : CaptureOf X) → GrowsTo c c
 grows-self c = ([], sym (append-nil c.bits), λ f is. refl)
-
-unplaced-grows : {R X : Type 0} (f : Form R X) → FormLaws f → (text : Bool) (xs ys : List ℕ) →
-    GrowsTo (unplaced f text xs) (unplaced f text (xs ++ ys))
-unplaced-grows f law true xs ys = law.text xs ys
-unplaced-grows f law false xs ys = law.packed xs ys
 
 unplaced-ends : {R X : Type 0} (f : Form R X) → FormLaws f → (text : Bool) (xs : List ℕ) →
     GrowsTo (unplaced f text xs) (unplaced_whole f text xs)
@@ -46,8 +41,7 @@ all-grows : {R X : Type 0} (form : Form R X) → FormLaws form → (o : Options)
 all-grows form law o all xs ys parts =
     subst (λ (z : List ℕ). GrowsTo (so_far form o xs) (in_all form o z)) (sym parts)
     (grows-trans (so_far form o xs) (so_far form o (xs ++ ys)) (in_all form o (xs ++ ys))
-    (law.places o.origin _ _ (fed-grows form law o.rest (unplaced form o.text xs) (unplaced form o.text (xs ++ ys))
-    (unplaced-grows form law o.text xs ys)))
+    (grows-on form law o.text o.rest o.origin xs ys)
     (law.places o.origin _ _ (fed-grows form law o.rest (unplaced form o.text (xs ++ ys))
     (unplaced_whole form o.text (xs ++ ys)) (unplaced-ends form law o.text (xs ++ ys)))))
 

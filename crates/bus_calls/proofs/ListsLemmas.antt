@@ -65,10 +65,10 @@ pub record IsListed {A R X B : Type 0} (kind : KindView A R X B) (o : Options) (
   pub origin : kind.watch.origin w.analyser ≡ o.origin
   pub rest : (b : List R) → kind.form.fed (kind.rest w.analyser) b ≡ kind.form.fed o.rest b
 
-pub listed : {A R X B : Type 0} (kind : KindView A R X B) (o : Options) (d : List FrameType) (w v : CaptureRun A) →
+pub listed : {A R X B : Type 0} {kind : KindView A R X B} (o : Options) {d : List FrameType} {w v : CaptureRun A} →
     w.reporter.printer ≡ Some (printer_of o) → IsMade kind.watch d o.depth o.origin w.analyser →
     IsRuled kind o.rest w.analyser → IsSame kind w v → IsListed kind o d v
-listed kind o d w v printer made ruled same =
+listed {kind = kind} o printer made ruled same =
     record {
       printer = same.printer ∙ printer;
       dictionary = same.dictionary ∙ made.dictionary;

@@ -2,7 +2,6 @@
 use Rattle.std.proofs.Common.{◌≡◌, ℕ, ◌/◌, ◌%◌, ◌≤◌, ◌<◌, ◌==◌, nat_lt, nat_le, Bool, true, false, List, [], ◌∷◌, ◌++◌}
 use Rattle.std.proofs.Common.{length, take, drop, codes, Option, Some, None, Result, Ok, Err, refl, ap, ◌∙◌}
 use Rattle.std.proofs.Common.{arith, length-take}
-use Rattle.std.proofs.lemmas.Grind.{common_steps}
 use Rattle.std.proofs.lemmas.Bool.Decides.{nat_tests}
 use Rattle.std.specs.List.{AllPass, last_or}
 use Rattle.hex.specs.Hex.{decode_of, is_hex_digit}
@@ -160,6 +159,3 @@ never_fails call old new before after r Ended is going fits empty none sized cal
 never_fails call old new before after r LengthRange is going fits empty none sized calls = sized (calls.range.0 is).1
 never_fails call old new before after r (Sink written) is going fits empty none sized calls =
     never_refused call written old new before after going fits empty none (calls.refused written is)
-
-pub all_bits : (i : ℕ) (bits : List Bool) → length bits ≤ i → take i bits ≡ bits
-all_bits i bits all = grind (arith, common_steps)

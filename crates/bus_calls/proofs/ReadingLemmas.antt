@@ -16,12 +16,9 @@ use Rattle.bus_text.specs.Summary.{summary_of}
 use Rattle.bus_text.specs.Pages.{Pages}
 use Rattle.bus_text.specs.Put.{TextStopsAt}
 use Rattle.bus_calls.specs.Internal.Watching.{IsSame, IsSound, WatchAfter, FeedAfter, IsCutOff, fed, lines, printed}
-use Rattle.bus_calls.specs.Internal.Sessions.{IsReadAs, IsReadBy, is_text}
-use Rattle.bus_calls.specs.Internal.Sessions.{SourceAfter, TextAfter, PackedSourceAfter, SourceStopsWith}
+use Rattle.bus_calls.specs.Internal.Sessions.{IsReadAs, IsReadBy, is_text, SourceAfter, SourceStopsWith}
 use Rattle.bus_calls.specs.Internal.Reading.{IsClean, IsFaulty, ReadStopsWith}
 use Rattle.bus_calls.specs.declared.run.CaptureRun.{CaptureRun}
-use Rattle.bus_calls.specs.declared.text.TextCapture.{TextCapture}
-use Rattle.bus_calls.specs.declared.packed.PackedCapture.{PackedCapture}
 use Rattle.bus_calls.specs.declared.reader.Source.{Source}
 use Rattle.bus_calls.specs.declared.reader.Source.TheVariants as source
 use Rattle.bus_text.specs.declared.fault.ToolFault.{ToolFault}
@@ -56,17 +53,7 @@ watched-none kind law start w is_after counts page =
           (sym (ap (printed w.reporter.printer d) none ∙ printed-nothing w.reporter.printer d)) page;
     }
 
--- what is known of a text, of a packed capture
-pub follows-text : {A R X B : Type 0} (kind : KindView A R X B) (start now : Option (List ℕ)) (s : Source B)
-    (text : TextCapture) (w : CaptureRun A) (xs : List ℕ)
-    → s ≡ source.Text text → SourceAfter kind start now s w xs → TextAfter kind start now text w xs
-follows-text kind start now s text w xs is followed = subst (λ x. SourceAfter kind start now x w xs) is followed
-
-pub follows-packed : {A R X B : Type 0} (kind : KindView A R X B) (start now : Option (List ℕ)) (s : Source B)
-    (p : PackedCapture B) (w : CaptureRun A) (xs : List ℕ)
-    → s ≡ source.Packed p → SourceAfter kind start now s w xs → PackedSourceAfter kind start now p w xs
-follows-packed kind start now s p w xs is followed = subst (λ x. SourceAfter kind start now x w xs) is followed
-
+-- how its octets were read
 pub read-by : {A R X B : Type 0} (kind : KindView A R X B) (start now : Option (List ℕ)) (s : Source B)
     (w : CaptureRun A)
     (xs : List ℕ) → SourceAfter kind start now s w xs → IsReadBy kind s xs
@@ -103,7 +90,7 @@ turned {A} {R} {X} {B} kind start now later s w page xs turn = by-kind s
         record { at = followed.at; clean = followed.clean; bits = fed-on _ followed.bits }
     by-kind (source.Packed p) followed = record { read = followed.read; bits = fed-on _ followed.bits }
 
-module _ {A R X B : Type 0} (kind : KindView A R X B) (w : CaptureRun A) (page : Page) where
+module _ {A R X B : Type 0} {kind : KindView A R X B} {w : CaptureRun A} (page : Page) where
   -- all is sound, and the same, still when the page has been written
   pub sound-written : array_vec_len page.text ≡ 0
       → page.written ≡ w.reporter.page.written + array_vec_len w.reporter.page.text → IsSound kind w
@@ -114,9 +101,9 @@ module _ {A R X B : Type 0} (kind : KindView A R X B) (w : CaptureRun A) (page :
     octets = omega (arith, sound.octets, sum, empty);
   }
 
-  pub same-written : (u : CaptureRun A) → IsSame kind u w
+  pub same-written : {u : CaptureRun A} → IsSame kind u w
       → IsSame kind u (record w { reporter = record w.reporter { page = page } })
-  same-written u same = record {
+  same-written same = record {
     printer = same.printer;
     dictionary = same.dictionary;
     depth = same.depth;
@@ -158,6 +145,14 @@ is-clean {A} {R} {X} kind law text start now w xs sound followed =
       bits = subst (λ (c : CaptureOf X). WatchAfter kind start now w c.bits) (sym is) followed.bits;
     }
 
+-- so is what a source's octets are
+pub source-clean : {A R X B : Type 0} {kind : KindView A R X B} → KindLaws kind → (s : Source B) {text : Bool}
+    {start now : Option (List ℕ)} {w : CaptureRun A} {xs : List ℕ} → is_text s ≡ text → IsSound kind w →
+    SourceAfter kind start now s w xs → IsClean kind text start now w xs
+source-clean {kind = kind} law s {start = start} {now = now} {w = w} {xs = xs} is sound followed =
+    subst (λ (b : Bool). IsClean kind b start now w xs) is
+    (is-clean kind law (is_text s) start now w xs sound (follows-unplaced kind start now s w xs law followed))
+
 -- a writer was cut off in the lines of all of these
 pub is-cut : {A R X B : Type 0} (kind : KindView A R X B) (start now : Option (List ℕ)) (w : CaptureRun A) (b : List X)
     (sent : ℕ) → TextStopsAt start now (lines kind w b) sent → sent < length (lines kind w b)
@@ -176,13 +171,18 @@ faulty-finishes kind text reads after start now w xs (fault.Write sent) faulty =
 faulty-finishes kind text reads after start now w xs f faulty = faulty
 
 -- what stopped the taking of octets ends the reading
-pub stops-finishes : {A R X B : Type 0} (kind : KindView A R X B) (text : Bool) (reads : ℕ)
-    (after start now : Option (List ℕ)) (w : CaptureRun A) (xs : List ℕ) (f : ToolFault)
-    → SourceStopsWith kind text start now w xs f → ReadStopsWith kind text reads after start now w xs (Err f)
-stops-finishes kind text reads after start now w xs (fault.Write sent) stopped = stopped
-stops-finishes kind text reads after start now w xs f stopped =
-    faulty-finishes kind text reads after start now w xs f
-    (record { cause = stopped.cause; answered = stopped.answered; found = inl stopped.found; bits = stopped.bits })
+pub stops-finishes : {A R X B : Type 0} (kind : KindView A R X B) (reads : ℕ) (after start now : Option (List ℕ))
+    (w : CaptureRun A) (xs : List ℕ) (f : ToolFault) {source text : Bool} → source ≡ text
+    → SourceStopsWith kind source start now w xs f → ReadStopsWith kind text reads after start now w xs (Err f)
+stops-finishes kind reads after start now w xs f {text = text} is stopped =
+    by-fault f (subst (λ (b : Bool). SourceStopsWith kind b start now w xs f) is stopped)
+  where
+    by-fault : (f : ToolFault) → SourceStopsWith kind text start now w xs f
+        → ReadStopsWith kind text reads after start now w xs (Err f)
+    by-fault (fault.Write sent) stopped = stopped
+    by-fault f stopped =
+        faulty-finishes kind text reads after start now w xs f
+        (record { cause = stopped.cause; answered = stopped.answered; found = inl stopped.found; bits = stopped.bits })
 
 -- the end of the input ends it
 pub end-finishes : {A R X B : Type 0} (kind : KindView A R X B) → KindLaws kind →

@@ -7,12 +7,22 @@ use Rattle.std.proofs.lemmas.List.{take_more, take-append-drop}
 use Rattle.std.proofs.lemmas.Option.{slice_get_within, slice_get_cases, get_or_from_slice_get}
 use Rattle.arrayvec.specs.ArrayVec.{ArrayVec}
 use Rattle.bus_line.specs.Due.{places}
-use Rattle.bus_pairing.specs.History.{KeptFrame}
+use Rattle.bus_pairing.specs.History.{KeptFrame, history, tally}
 use Rattle.bus_pairing.specs.declared.counts.Counts.{Counts}
 use Rattle.bus_text.specs.CheckText.{tally_text, tallies_text, kept_text, history_text}
 use Rattle.bus_text.specs.Put.{TextStopsAt}
 use Rattle.bus_text.specs.Pages.{Pages}
 use Rattle.bus_text.proofs.PagesLemmas.{cuts-more}
+use Rattle.bus_calls.specs.Internal.Kinds.{KindView}
+use Rattle.bus_calls.specs.Internal.Watching.{reports_by}
+
+-- the counts, and the frames that are kept, where an analyser stands after these symbols
+module _ {A R X B : Type 0} (kind : KindView A R X B) (a : A) (b : List X) where
+  abbrev pub tallied : ℕ → Counts
+  tallied = tally (kind.watch.dictionary a) (reports_by kind.watch a b)
+
+  abbrev pub kept : List KeptFrame
+  kept = history (kind.watch.depth a) (reports_by kind.watch a b)
 
 pub tallies-none : (t : ℕ → Counts) → tallies_text t 0 ≡ []
 unfolding tallies_text
@@ -46,20 +56,19 @@ tallies-next text t k c same =
     append_assoc text (tallies_text t k) (tally_text k c)
     ∙ ap (λ l. text ++ l) (ap (λ (c : Counts). tallies_text t k ++ tally_text k c) same ∙ sym (tallies-more t k))
 
-pub pages-tally : (start now : Option (List ℕ)) (page : ArrayVec ℕ) (written : ℕ) (text : List ℕ) (t : ℕ → Counts)
-    (k : ℕ)
-    (c : Counts) → c ≡ t k
+pub pages-tally : {start now : Option (List ℕ)} {page : ArrayVec ℕ} {written : ℕ} (text : List ℕ) (t : ℕ → Counts)
+    (k : ℕ) {c : Counts} → c ≡ t k
     → Pages start now page written ((text ++ tallies_text t k) ++ tally_text k c) →
     Pages start now page written (text ++ tallies_text t (k + 1))
-pages-tally start now page written text t k c same pages =
+pages-tally {start} {now} {page} {written} text t k {c} same pages =
     subst (Pages start now page written) (tallies-next text t k c same) pages
 
 -- what is cut short at a station is a front of all lines
-pub cuts-tally : (start now : Option (List ℕ)) (text : List ℕ) (t : ℕ → Counts) (k n : ℕ) (c : Counts) (sent : ℕ) →
+pub cuts-tally : {start now : Option (List ℕ)} (text : List ℕ) (t : ℕ → Counts) (k n : ℕ) {c : Counts} {sent : ℕ} →
     c ≡ t k → k + 1 ≤ n
     → TextStopsAt start now ((text ++ tallies_text t k) ++ tally_text k c) sent →
     TextStopsAt start now (text ++ tallies_text t n) sent
-cuts-tally start now text t k n c sent same le cut =
+cuts-tally {start} {now} text t k n {c} {sent} same le cut =
     let front = tallies-front t (k + 1) (n - (k + 1)) in
     let all : (k + 1) + (n - (k + 1)) ≡ n = omega (arith, le) in
     let whole : (text ++ tallies_text t (k + 1)) ++ front.0 ≡ text ++ tallies_text t n =
@@ -80,18 +89,18 @@ history-next two text h i f here =
     ∙ ap (λ l. history_text two (take i h) ++ l) (append-nil (kept_text two f)) in
     append_assoc text (history_text two (take i h)) (kept_text two f) ∙ ap (λ l. text ++ l) (sym more)
 
-pub pages-kept : (two : Bool) (start now : Option (List ℕ)) (page : ArrayVec ℕ) (written : ℕ) (text : List ℕ)
-    (h : List KeptFrame) (i : ℕ) (f : KeptFrame) → slice_get h i ≡ Some f
+pub pages-kept : (two : Bool) {start now : Option (List ℕ)} {page : ArrayVec ℕ} {written : ℕ} (text : List ℕ)
+    (h : List KeptFrame) (i : ℕ) {f : KeptFrame} → slice_get h i ≡ Some f
     → Pages start now page written ((text ++ history_text two (take i h)) ++ kept_text two f) →
     Pages start now page written (text ++ history_text two (take (i + 1) h))
-pages-kept two start now page written text h i f here pages =
+pages-kept two {start} {now} {page} {written} text h i {f} here pages =
     subst (Pages start now page written) (history-next two text h i f here) pages
 
-pub cuts-kept : (two : Bool) (start now : Option (List ℕ)) (text : List ℕ) (h : List KeptFrame) (i : ℕ) (f : KeptFrame)
-    (sent : ℕ) → slice_get h i ≡ Some f
+pub cuts-kept : (two : Bool) {start now : Option (List ℕ)} (text : List ℕ) (h : List KeptFrame) (i : ℕ) {f : KeptFrame}
+    {sent : ℕ} → slice_get h i ≡ Some f
     → TextStopsAt start now ((text ++ history_text two (take i h)) ++ kept_text two f) sent →
     TextStopsAt start now (text ++ history_text two h) sent
-cuts-kept two start now text h i f sent here cut =
+cuts-kept two {start} {now} text h i {f} {sent} here cut =
     let rest = history_text two (drop (i + 1) h) in
     let whole : (text ++ history_text two (take (i + 1) h)) ++ rest ≡ text ++ history_text two h =
     append_assoc text (history_text two (take (i + 1) h)) rest

@@ -5,19 +5,19 @@ use Rattle.std.specs.Result.{IsErrAnd}
 use Rattle.std.proofs.lemmas.Grind.{common_steps}
 use Rattle.bus_bits.specs.Capture.{CaptureOf}
 use Rattle.bus_calls.specs.Captures.{fed_by}
-use Rattle.bus_calls.specs.Internal.Kinds.{KindView}
-use Rattle.bus_calls.specs.Internal.Watching.{FeedAfter, FeedStopsWith}
+use Rattle.bus_calls.specs.Internal.Kinds.{KindView, KindLaws}
+use Rattle.bus_calls.specs.Internal.Watching.{IsSame, WatchAfter, FeedAfter, FeedStopsWith}
 use Rattle.bus_calls.specs.Internal.Sessions.{BodyAfter, Faulty, CaptureStopsWith, SourceStopsWith}
 use Rattle.bus_calls.specs.declared.run.CaptureRun.{CaptureRun}
 use Rattle.bus_text.specs.declared.fault.ToolFault.{ToolFault}
 use Rattle.bus_text.specs.declared.fault.ToolFault.TheVariants as fault
-use Rattle.bus_calls.proofs.CapturesLemmas.{halts-stops}
+use Rattle.bus_calls.proofs.CapturesLemmas.{halts-stops, low-origin}
 
 -- no octets were read
-pub none-read : {A R X B : Type 0} (t : KindView A R X B) (start now : Option (List ℕ)) (run : CaptureRun A) (body : B)
+pub none-read : {A R X B : Type 0} {t : KindView A R X B} {start now : Option (List ℕ)} {run : CaptureRun A} {body : B}
     (xs os : List ℕ) (n : ℕ) → n ≡ 0 → BodyAfter t start now body run (xs ++ take n os) →
     BodyAfter t start now body run xs
-none-read t start now run body xs os n none followed =
+none-read {t = t} {start = start} {now = now} {run = run} {body = body} xs os n none followed =
     subst (BodyAfter t start now body run) (ap (λ (k : ℕ). xs ++ take k os) none ∙ append-nil xs) followed
 
 -- a head is filled from the front of some octets
@@ -63,14 +63,17 @@ module _ {A R X B : Type 0} (t : KindView A R X B) where
   faulty-stops start now w c (fault.Write sent) faulty = absurd faulty.answered
   faulty-stops start now w c f faulty = faulty
 
+module _ {A R X B : Type 0} {t : KindView A R X B} (law : KindLaws t) where
   -- the symbols of octets were taken, or not
-  pub octets-taken : (start now : Option (List ℕ)) (w : CaptureRun A) (xs : List ℕ) (body : B) (b : List R)
-      (r : Result (Unit {0}) ToolFault)
-      → t.watch.origin w.analyser ≤ 2 ^ 60 → t.is_body body xs → (t.form.packed xs).bits ≡ b
-      → MatchResult r (λ _. FeedAfter t start now w b) (λ f. FeedStopsWith t start now w b f)
-      → MatchResult r (λ _. BodyAfter t start now body w xs) (λ f. SourceStopsWith t false start now w xs f)
-  octets-taken start now w xs body b (Ok u) low read is taken =
-      record { read = read; bits = subst (FeedAfter t start now w) (sym is) taken }
-  octets-taken start now w xs body b (Err f) low read is taken =
-      halts-stops t start now w (fed_by t.form (t.rest w.analyser) (t.form.packed xs)) f low
-      (subst (λ (x : List R). FeedStopsWith t start now w x f) (sym is) taken)
+  pub octets-taken : {start before : Option (List ℕ)} {w v : CaptureRun A} {old : List X} {b : List R}
+      (now : Option (List ℕ)) (xs : List ℕ) (body : B) (r : Result (Unit {0}) ToolFault)
+      → t.watch.place w.analyser ≤ 2 ^ 60 → IsSame t w v → WatchAfter t start before w old
+      → t.is_body body xs × ((t.form.packed xs).bits ≡ b)
+      → MatchResult r (λ _. FeedAfter t start now v b) (λ f. FeedStopsWith t start now v b f)
+      → MatchResult r (λ _. BodyAfter t start now body v xs) (λ f. SourceStopsWith t false start now v xs f)
+  octets-taken {start} {before} {w} {v} now xs body (Ok u) places same followed given taken =
+      record { read = given.0; bits = subst (FeedAfter t start now v) (sym given.1) taken }
+  octets-taken {start} {before} {w} {v} now xs body (Err f) places same followed given taken =
+      halts-stops t start now v (fed_by t.form (t.rest v.analyser) (t.form.packed xs)) f
+      (low-origin law places same followed)
+      (subst (λ (x : List R). FeedStopsWith t start now v x f) (sym given.1) taken)

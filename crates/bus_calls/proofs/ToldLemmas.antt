@@ -15,7 +15,7 @@ use Rattle.bus_calls.specs.declared.run.CaptureRun.{CaptureRun}
 use Rattle.bus_calls.specs.Internal.ReportingLaws.{few-within}
 use Rattle.bus_calls.proofs.WatchingLemmas.{halted, halts-more, lines-more, watched, within-all}
 
-module _ {A R X B : Type 0} (t : KindView A R X B) (w v : CaptureRun A) (xs : List X) (before after : Option (List ℕ))
+module _ {A R X B : Type 0} (t : KindView A R X B) {w v : CaptureRun A} {xs : List X} {before after : Option (List ℕ)}
     (all : AdvancesWatchShown t.watch w.analyser xs v.analyser
     (λ ss. ReportsSeen (t.watch.dictionary w.analyser) (record w.reporter { cut = None }) before ss v.reporter after))
   where

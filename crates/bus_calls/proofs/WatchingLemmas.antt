@@ -135,16 +135,6 @@ module _ {A R X B : Type 0} (t : KindView A R X B) where
       subst (λ (x : List X). WatchStopsWith t start now w x f) (sym on.is)
       (halts-more start now w (t.form.fed (t.rest w.analyser) b) on.taken f stopped)
 
-  -- what stays the same twice, stays the same
-  pub same-both : (u v w : CaptureRun A) → IsSame t u v → IsSame t v w → IsSame t u w
-  same-both u v w first second = record {
-    printer = second.printer ∙ first.printer;
-    dictionary = second.dictionary ∙ first.dictionary;
-    depth = second.depth ∙ first.depth;
-    origin = second.origin ∙ first.origin;
-    rest = second.rest ∙ first.rest;
-  }
-
   pub same-self : (w : CaptureRun A) → IsSame t w w
   same-self w = record { printer = refl; dictionary = refl; depth = refl; origin = refl; rest = refl }
 
@@ -176,3 +166,14 @@ module _ {A R X B : Type 0} (t : KindView A R X B) where
       subst (λ (x : Page). Pages start now x.text x.written (lines t w b ++ last_lines t w b)) (sym same)
       (subst (λ (n : ℕ). Pages start now put.text n (lines t w b ++ last_lines t w b)) (sym written)
       (pages-more start now page.text put.text page.written (lines t w b) (last_lines t w b) last before))
+
+-- what stays the same twice, stays the same
+pub same-both : {A R X B : Type 0} {t : KindView A R X B} {u v w : CaptureRun A} → IsSame t u v → IsSame t v w →
+    IsSame t u w
+same-both first second = record {
+  printer = second.printer ∙ first.printer;
+  dictionary = second.dictionary ∙ first.dictionary;
+  depth = second.depth ∙ first.depth;
+  origin = second.origin ∙ first.origin;
+  rest = second.rest ∙ first.rest;
+}

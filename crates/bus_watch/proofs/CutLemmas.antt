@@ -15,8 +15,8 @@ use Rattle.bus_pairing.specs.declared.verdict.Verdict.{Verdict}
 use Rattle.bus_pairing.proofs.SeenLemmas.{seen-more}
 use Rattle.bus_pairing.proofs.TalkLemmas.{pending-idle, pending-talk, decided-idle, decided-talk}
 
-both-cons : {A : Type 0} (x y : A) (xs ys : List A) → x ≡ y → xs ≡ ys → x ∷ xs ≡ y ∷ ys
-both-cons x y xs ys heads tails = rw (heads, tails) refl
+both-cons : {A : Type 0} {x y : A} {xs ys : List A} → x ≡ y → xs ≡ ys → x ∷ xs ≡ y ∷ ys
+both-cons heads tails = rw (heads, tails) refl
 
 -- what is seen of reports after others
 abbrev behind : List FrameType → List LineReport → List LineReport → List SeenReport
@@ -65,7 +65,7 @@ behind-alike : (d : List FrameType) (a c hs : List LineReport) → pending d a �
     hs
 behind-alike d a c [] same_pending = refl
 behind-alike d a c (h ∷ hs) same_pending =
-    both-cons _ _ _ _ (ap (with_verdict d h) (decided-alike d a c h same_pending))
+    both-cons (ap (with_verdict d h) (decided-alike d a c h same_pending))
     (behind-alike d (a ++ h ∷ []) (c ++ h ∷ []) hs (pending-alike d a c h same_pending))
 
 pub loses-nothing : CutLosesNothing
@@ -95,8 +95,7 @@ behind-idles : (d : List FrameType) (a c hs : List LineReport) → talk hs ≡ [
 behind-idles d a c [] all_idle = refl
 behind-idles d a c (h ∷ hs) all_idle =
     let parts = idle-first h hs all_idle in
-    both-cons _ _ _ _
-    (ap (with_verdict d h) (decided-idle d a h parts.0 ∙ sym (decided-idle d c h parts.0)))
+    both-cons (ap (with_verdict d h) (decided-idle d a h parts.0 ∙ sym (decided-idle d c h parts.0)))
     (behind-idles d (a ++ h ∷ []) (c ++ h ∷ []) hs parts.1)
 
 pending-idles : (d : List FrameType) (before hs : List LineReport) → talk hs ≡ [] →
@@ -135,7 +134,7 @@ moved-twice m n [] = refl
 moved-twice m n (r ∷ rs) =
     let first : m + (n + r.first) ≡ m + n + r.first = omega arith in
     let past : m + (n + r.past) ≡ m + n + r.past = omega arith in
-    both-cons _ _ _ _ (rw (first, past) refl) (moved-twice m n rs)
+    both-cons (rw (first, past) refl) (moved-twice m n rs)
 
 placed-cut : CutAtFlag → (longest origin : ℕ) (u t : List Bool) →
     of_line (placed origin longest ((u ++ flag) ++ t))

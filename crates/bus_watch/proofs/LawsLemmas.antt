@@ -22,7 +22,7 @@ use Rattle.bus_pairing.proofs.TalkLemmas.{verdicts-more}
 use Rattle.bus_pairing.specs.declared.verdict.Verdict.{Verdict}
 use Rattle.bus_pairing.proofs.LedgerLemmas.{DueBelow}
 use Rattle.bus_pairing.proofs.SeenLemmas.{seen-more}
-use Rattle.bus_line.proofs.DueMoreLemmas.{map-option}
+use Rattle.bus_watch.proofs.MergedLemmas.{bit-adds}
 
 -- what holds of no reports, and stays with one more, holds of all
 from-front : (P : List LineReport → Type 0) → ((rs : List LineReport) (r : LineReport) → P rs → P (rs ++ r ∷ [])) →
@@ -129,11 +129,7 @@ grows-by d longest origin b longer it below (Some r) due_is grown =
 
 pub seen-grows : OneMore → DueIsIt → DueBelow → SeenGrows
 seen-grows more it below = λ d longest origin b bit.
-    let o = due_at longest (b ++ bit ∷ []) (length b) in
-    grows-by d longest origin b (b ++ bit ∷ []) it below o refl
-    (ap (map (moved origin)) (more longest b bit)
-    ∙ (map-append (moved origin) (reports longest b) (option_to_list o)
-    ∙ ap (λ rs. placed origin longest b ++ rs) (map-option (moved origin) o)))
+    grows-by d longest origin b (b ++ bit ∷ []) it below _ refl (bit-adds more origin longest b bit)
 
 same-told : (o p : Option SeenReport) → option_to_list o ≡ option_to_list p → o ≡ p
 same-told None None same = refl

@@ -3,7 +3,7 @@ use Rattle.std.proofs.Common.{◌≡◌, ℕ, zero, suc, ◌+◌, ◌<◌, Bool,
 use Rattle.std.proofs.Common.{None, refl, sym, ap, ◌∙◌, arith, append-nil, append_assoc, length-append}
 use Rattle.std.specs.List.{filter_map, cons_option, flat_map}
 use Rattle.std.specs.Option.{option_map, option_to_list}
-use Rattle.std.proofs.lemmas.List.{map-append, length-map, append_cancel_left}
+use Rattle.std.proofs.lemmas.List.{map-append, length-map, append_cancel_left, nil_from_length}
 use Rattle.std.proofs.lemmas.List.Elements.{filter-append}
 use Rattle.std.proofs.lemmas.Grind.{flat_map-append}
 use Rattle.bus_line.specs.Report.{Report, moved}
@@ -77,10 +77,6 @@ placed-grows grow origin longest b c =
       ap (map (moved origin)) grown.1 ∙ map-append (moved origin) (reports longest b) grown.0,
     )
 
-no-items : {X : Type 0} (xs : List X) → length xs ≡ 0 → xs ≡ []
-no-items [] none = refl
-no-items (x ∷ xs) none = absurd (omega (arith, none))
-
 -- where bits decide nothing, no front of them does
 quiet-front : ReportsGrow → (origin longest : ℕ) (b c d : List Bool) →
     placed origin longest (b ++ (c ++ d)) ≡ placed origin longest b →
@@ -97,10 +93,11 @@ quiet-front grow origin longest b c d quiet =
       ap length quiet,
       ap (λ (x : List Bool). length (placed origin longest x)) (append_assoc b c d),
     ) in
-    first.1 ∙ (ap (λ rs. placed origin longest b ++ rs) (no-items first.0 none) ∙ append-nil (placed origin longest b))
+    first.1 ∙ (ap (λ rs. placed origin longest b ++ rs) (nil_from_length first.0 none)
+    ∙ append-nil (placed origin longest b))
 
 -- what one bit more adds to the reports of a line
-bit-adds : OneMore → (origin longest : ℕ) (b : List Bool) (x : Bool) → placed origin longest (b ++ x ∷ [])
+pub bit-adds : OneMore → (origin longest : ℕ) (b : List Bool) (x : Bool) → placed origin longest (b ++ x ∷ [])
     ≡ placed origin longest b
     ++ option_to_list (option_map (moved origin) (due_at longest (b ++ x ∷ []) (length b)))
 bit-adds more origin longest b x =

@@ -24,8 +24,8 @@ returns-clause-taken g c = λ start b followed.
     let told = told-behind view old new.analyser (take n xs) _ c.scan-taken.ensures.told in
     subst (λ (ys : List Arrival). MatchResult c.scanned.result (λ _. WatchAfter kind start now new (b ++ ys))
     (λ f. WatchStopsWith kind start now new (b ++ ys) f)) (take-append-drop n xs)
-    (told-scanned kind c.args.run.now new (take n xs) (g.W.Write.contents c.args.w.now) now told c.laws.ensures
-    (drop n xs) n (length xs) c.scanned.result c.scanned.ensures.cut c.scanned.ensures.placed
+    (told-scanned kind {v = new} {after = now} told c.laws.ensures (drop n xs) n (length xs) c.scanned.result
+    c.scanned.ensures.cut c.scanned.ensures.placed
     (λ full. drop_all n xs full)
     (λ fewer. (
       omega (arith, fewer, length-drop n xs),
@@ -40,7 +40,6 @@ returns-clause-sound g c =
     let xs = c.args.arrivals.now in
     let old = c.args.run.now.analyser in
     let taken : n ≡ min (length xs) (2 ^ 60 - bits_taken old.analyser) = c.scan-taken.ensures.taken in
-    told-sound (arrivals_kind view) c.args.run.now _ (take n xs) (g.W.Write.contents c.args.w.now)
-    (g.W.Write.contents c.scan-taken.new.out)
+    told-sound (arrivals_kind view)
     (told-behind view old (record old { analyser = c.scan-taken.new.self }) (take n xs) _ c.scan-taken.ensures.told)
     (omega (arith, length-take n xs, taken, c.requires.places)) c.requires

@@ -27,8 +27,7 @@ returns g c =
     let made = c.in_ok-reader.ensures.made in
     let given = c.in_ok-reader.ensures.given in
     let read = c.in_ok-read_to_end.ensures.read in
-    let asked = checked g.T.CaptureKind.kind o made.0 c.in_ok-reader.reader.run w given.1 made.2 made.3
-    c.read_to_end.ensures.same in
+    let asked = checked o given.1 made.2 made.3 c.read_to_end.ensures.same in
     let checks = ends-checks g.T.CaptureKind.kind o made.0 (is_text c.in_ok-reader.reader.source)
     (g.R.Read.remaining c.read_to_end.new.r) start _ _ w read.0 c.report.result c.laws.ensures made.1 asked given.0
     read.2
@@ -53,8 +52,7 @@ returns-in_err-read_to_end g c =
     let made = c.in_ok-reader.ensures.made in
     let given = c.in_ok-reader.ensures.given in
     let read = c.in_err-read_to_end.ensures.read in
-    let asked = checked g.T.CaptureKind.kind o made.0 c.in_ok-reader.reader.run w given.1 made.2 made.3
-    c.read_to_end.ensures.same in
+    let asked = checked o given.1 made.2 made.3 c.read_to_end.ensures.same in
     let checks = stops-checks g.T.CaptureKind.kind o made.0 (is_text c.in_ok-reader.reader.source)
     (g.R.Read.remaining c.read_to_end.new.r) start _ w read.0 c.in_err-read_to_end.field-0.0 made.1 asked given.0
     read.2 in

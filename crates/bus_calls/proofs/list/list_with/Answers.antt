@@ -1,7 +1,6 @@
-use Rattle.std.proofs.Common.{◌≡◌, [], Some, Err, ap, ◌∙◌}
+use Rattle.std.proofs.Common.{[], Some, Err, ap, ◌∙◌}
 use Rattle.std.proofs.lemmas.Result.{err_from_is_err_and}
 use Rattle.bus_calls.specs.Captures.{whole_capture}
-use Rattle.bus_text.specs.Given.{printer_of}
 use Rattle.bus_calls.specs.Internal.Sessions.{is_text}
 use Rattle.bus_text.proofs.KnownBytesLemmas.{consumes_nothing, appends_nothing}
 use Rattle.bus_calls.proofs.ListsLemmas.{listed, does-nothing, ends-lists, stops-lists}
@@ -28,9 +27,7 @@ returns-in-Ok g c =
     let made = c.in_ok-reader.ensures.made in
     let given = c.in_ok-reader.ensures.given in
     let read = c.in-Ok.ensures.read in
-    let printer : c.in_ok-reader.reader.run.reporter.printer ≡ Some (printer_of o) = given.1 ∙ ap Some c.of.ensures in
-    let asked = listed g.T.CaptureKind.kind o made.0 c.in_ok-reader.reader.run w printer made.2 made.3
-    c.read_to_end.ensures.same in
+    let asked = listed o (given.1 ∙ ap Some c.of.ensures) made.2 made.3 c.read_to_end.ensures.same in
     let lists = ends-lists g.T.CaptureKind.kind o made.0 (is_text c.in_ok-reader.reader.source)
     (g.R.Read.remaining c.read_to_end.new.r) start _ _ w read.0 c.end.result c.laws.ensures made.1 asked given.0 read.2
     (c.end.ensures start
@@ -52,9 +49,7 @@ returns-in-Err g c =
     let made = c.in_ok-reader.ensures.made in
     let given = c.in_ok-reader.ensures.given in
     let read = c.in-Err.ensures.read in
-    let printer : c.in_ok-reader.reader.run.reporter.printer ≡ Some (printer_of o) = given.1 ∙ ap Some c.of.ensures in
-    let asked = listed g.T.CaptureKind.kind o made.0 c.in_ok-reader.reader.run w printer made.2 made.3
-    c.read_to_end.ensures.same in
+    let asked = listed o (given.1 ∙ ap Some c.of.ensures) made.2 made.3 c.read_to_end.ensures.same in
     let lists = stops-lists g.T.CaptureKind.kind o made.0 (is_text c.in_ok-reader.reader.source)
     (g.R.Read.remaining c.read_to_end.new.r) start _ _ w read.0 c.in-Err.fault c.close_behind.result
     c.laws.ensures made.1 asked given.0 read.2 c.close_behind.ensures.cut c.close_behind.ensures.closed in

@@ -27,8 +27,8 @@ returns-clause-taken g c = λ start b followed.
     (sym (ap (bits_from os 0) all ∙ (bits-more os 0 n (c.args.end - n)
     ∙ ap (λ (k : ℕ). bits_from os 0 n ++ bits_from os k (c.args.end - n)) here)))
     (as-given kind start now new (b ++ (bits_from os 0 n ++ left)) c.scanned.result tt refl
-    (told-scanned kind c.args.run.now new (bits_from os 0 n) (g.W.Write.contents c.args.w.now) now told c.laws.ensures
-    left n c.args.end c.scanned.result c.scanned.ensures.cut c.scanned.ensures.placed
+    (told-scanned kind {v = new} {after = now} told c.laws.ensures left n c.args.end c.scanned.result
+    c.scanned.ensures.cut c.scanned.ensures.placed
     (λ full. let none : c.args.end - n ≡ 0 = omega (arith, full) in ap (bits_from os n) none)
     (λ fewer. (
       omega (arith, fewer, length-from os n (c.args.end - n)),
@@ -41,6 +41,5 @@ pub returns-clause-sound : goal.returns-clause-sound
 returns-clause-sound g c =
     let n = c.scan-taken.result in
     let os = c.args.octets.now in
-    told-sound (one_line_kind g.C.Check.check) c.args.run.now _ (bits_from os 0 n) (g.W.Write.contents c.args.w.now)
-    (g.W.Write.contents c.scan-taken.new.out) c.scan-taken.ensures.told
+    told-sound (one_line_kind g.C.Check.check) c.scan-taken.ensures.told
     (omega (arith, length-from os 0 n, c.scan-taken.ensures.taken, c.requires.sound.places)) c.requires.sound

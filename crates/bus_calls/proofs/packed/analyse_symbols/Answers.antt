@@ -25,9 +25,7 @@ returns-in_err-analyse_symbol-clause-taken g c =
 pub loop-symbol-preserved : goal.loop-symbol-preserved
 loop-symbol-preserved g c = record {
   sound = c.analyse_symbol.ensures.sound;
-  same = same-both g.T.CaptureKind.kind c.args.run.now c.loop-symbol.run c.analyse_symbol.new.run
-      c.loop-symbol.invariant.same
-      c.analyse_symbol.ensures.same;
+  same = same-both c.loop-symbol.invariant.same c.analyse_symbol.ensures.same;
   followed = λ start b followed.
       let all = c.args.symbols.now in
       let i = c.loop-symbol.symbol-index in

@@ -1,7 +1,6 @@
 use Rattle.std.proofs.Common.{ℕ, ◌+◌, ◌*◌, ◌≤◌, List, ◌++◌, take, Option}
 use Rattle.arrayvec.specs.ArrayVec.{array_vec_len}
-use Rattle.bus_calls.specs.Internal.Watching.{reports_by}
-use Rattle.bus_pairing.specs.History.{history}
+use Rattle.bus_calls.proofs.ReportLemmas.{kept}
 use Rattle.bus_text.specs.CheckText.{history_text}
 use Rattle.bus_text.specs.Pages.{Pages}
 use Rattle.bus_calls.proofs.report.put_history.Given as goal
@@ -15,7 +14,5 @@ invariant-loop-i g l = record {
       g.T.CaptureKind.kind.watch.is_after l.analyser b →
       Pages start (g.W.Write.contents l.fn.w) l.fn.page.text l.fn.page.written text
       → Pages start (g.W.Write.contents l.w) l.page.text l.page.written
-      (text ++ history_text g.T.CaptureKind.kind.form.is_two
-      (take l.i (history (g.T.CaptureKind.kind.watch.depth l.analyser)
-      (reports_by g.T.CaptureKind.kind.watch l.analyser b))));
+      (text ++ history_text g.T.CaptureKind.kind.form.is_two (take l.i (kept g.T.CaptureKind.kind l.analyser b)));
 }

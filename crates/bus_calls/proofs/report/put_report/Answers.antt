@@ -1,12 +1,10 @@
 use Rattle.std.proofs.Common.{ℕ, List, ◌++◌, MatchResult, subst}
 use Rattle.std.proofs.lemmas.Result.{err_from_is_err_and}
-use Rattle.bus_calls.specs.Internal.Watching.{reports_by}
-use Rattle.bus_pairing.specs.History.{history, tally}
 use Rattle.bus_text.specs.CheckText.{summary_text, tallies_text, history_text}
 use Rattle.bus_text.specs.Put.{TextStopsAt}
 use Rattle.bus_text.specs.Pages.{Pages}
 use Rattle.bus_text.proofs.PagesLemmas.{cuts-more}
-use Rattle.bus_calls.proofs.ReportLemmas.{report-parts}
+use Rattle.bus_calls.proofs.ReportLemmas.{kept, report-parts, tallied}
 use Rattle.bus_calls.proofs.report.put_report.Goals as goal
 
 pub returns-in_err-put_summary-clause-put : goal.returns-in_err-put_summary-clause-put
@@ -15,10 +13,8 @@ returns-in_err-put_summary-clause-put g c =
     rw (failed.1, failed.2) (λ start text b is_after p.
     let a = c.args.analyser.now in
     let s = summary_text c.args.summary.now in
-    let t = tallies_text (tally (g.T.CaptureKind.kind.watch.dictionary a) (reports_by g.T.CaptureKind.kind.watch a b))
-    256 in
-    let h = history_text g.T.CaptureKind.kind.form.is_two
-    (history (g.T.CaptureKind.kind.watch.depth a) (reports_by g.T.CaptureKind.kind.watch a b)) in
+    let t = tallies_text (tallied g.T.CaptureKind.kind a b) 256 in
+    let h = history_text g.T.CaptureKind.kind.form.is_two (kept g.T.CaptureKind.kind a b) in
     let cut = c.in_err-put_summary.ensures.put start text p in
     let sent = c.in_err-put_summary.field-0.0.sent in
     let now = g.W.Write.contents c.put_summary.new.w in
@@ -32,10 +28,8 @@ returns-in_err-put_tallies-clause-put g c =
     rw (failed.1, failed.2) (λ start text b is_after p.
     let a = c.args.analyser.now in
     let s = summary_text c.args.summary.now in
-    let t = tallies_text (tally (g.T.CaptureKind.kind.watch.dictionary a) (reports_by g.T.CaptureKind.kind.watch a b))
-    256 in
-    let h = history_text g.T.CaptureKind.kind.form.is_two
-    (history (g.T.CaptureKind.kind.watch.depth a) (reports_by g.T.CaptureKind.kind.watch a b)) in
+    let t = tallies_text (tallied g.T.CaptureKind.kind a b) 256 in
+    let h = history_text g.T.CaptureKind.kind.form.is_two (kept g.T.CaptureKind.kind a b) in
     let first = c.in_ok-put_summary.ensures.put start text p in
     let sent = c.in_err-put_tallies.field-0.0.sent in
     let now = g.W.Write.contents c.put_tallies.new.w in
@@ -47,10 +41,8 @@ pub returns-clause-put : goal.returns-clause-put
 returns-clause-put g c = λ start text b is_after p.
     let a = c.args.analyser.now in
     let s = summary_text c.args.summary.now in
-    let t = tallies_text (tally (g.T.CaptureKind.kind.watch.dictionary a) (reports_by g.T.CaptureKind.kind.watch a b))
-    256 in
-    let h = history_text g.T.CaptureKind.kind.form.is_two
-    (history (g.T.CaptureKind.kind.watch.depth a) (reports_by g.T.CaptureKind.kind.watch a b)) in
+    let t = tallies_text (tallied g.T.CaptureKind.kind a b) 256 in
+    let h = history_text g.T.CaptureKind.kind.form.is_two (kept g.T.CaptureKind.kind a b) in
     let now = g.W.Write.contents c.put_history.new.w in
     let first = c.in_ok-put_summary.ensures.put start text p in
     let second = c.in_ok-put_tallies.ensures.put start (text ++ s) b is_after first in

@@ -1,18 +1,15 @@
 use Rattle.std.proofs.Common.{rules, ◌≡◌, ◌+◌, ◌++◌, sym, ap, ◌∙◌, subst, arith, append-nil}
 use Rattle.std.proofs.lemmas.Result.{err_from_is_err_and}
-use Rattle.bus_calls.specs.Internal.Watching.{reports_by}
-use Rattle.bus_pairing.specs.History.{tally}
 use Rattle.bus_text.specs.CheckText.{tallies_text}
 use Rattle.bus_text.specs.Pages.{Pages}
-use Rattle.bus_calls.proofs.ReportLemmas.{tallies-none, pages-tally, cuts-tally}
+use Rattle.bus_calls.proofs.ReportLemmas.{tallied, tallies-none, pages-tally, cuts-tally}
 use Rattle.bus_calls.proofs.report.put_tallies.Goals as goal
 
 pub loop-station-init : goal.loop-station-init
 loop-station-init g c = record {
   few = omega arith;
   put = λ start text b is_after p.
-      let t = tally (g.T.CaptureKind.kind.watch.dictionary c.args.analyser.now)
-      (reports_by g.T.CaptureKind.kind.watch c.args.analyser.now b) in
+      let t = tallied g.T.CaptureKind.kind c.args.analyser.now b in
       subst (Pages start (g.W.Write.contents c.args.w.now) c.args.page.now.text c.args.page.now.written)
       (sym (ap (λ l. text ++ l) (tallies-none t) ∙ append-nil text)) p;
 }
@@ -21,11 +18,9 @@ pub returns-in_err-put_tally-clause-put : goal.returns-in_err-put_tally-clause-p
 returns-in_err-put_tally-clause-put g c =
     let failed = err_from_is_err_and c.from_residual.result c.from_residual.ensures.1 in
     rw (failed.1, failed.2) (λ start text b is_after p.
-    let t = tally (g.T.CaptureKind.kind.watch.dictionary c.args.analyser.now)
-    (reports_by g.T.CaptureKind.kind.watch c.args.analyser.now b) in
+    let t = tallied g.T.CaptureKind.kind c.args.analyser.now b in
     let k = c.loop-station.station in
-    cuts-tally start (g.W.Write.contents c.put_tally.new.w) text t k 256 c.tally.result
-    c.in_err-put_tally.field-0.0.sent (c.tally.ensures b is_after) (omega (arith, c.loop-station-test.true))
+    cuts-tally text t k 256 (c.tally.ensures b is_after) (omega (arith, c.loop-station-test.true))
     (c.in_err-put_tally.ensures.put start (text ++ tallies_text t k)
     (c.loop-station.invariant.put start text b is_after p)))
 
@@ -33,11 +28,9 @@ pub loop-station-preserved : goal.loop-station-preserved
 loop-station-preserved g c = record {
   few = omega (arith, c.loop-station.invariant.few, c.in_ok-put_tally.ensures.few);
   put = λ start text b is_after p.
-      let t = tally (g.T.CaptureKind.kind.watch.dictionary c.args.analyser.now)
-      (reports_by g.T.CaptureKind.kind.watch c.args.analyser.now b) in
+      let t = tallied g.T.CaptureKind.kind c.args.analyser.now b in
       let k = c.loop-station.station in
-      pages-tally start (g.W.Write.contents c.put_tally.new.w) c.put_tally.new.page.text c.put_tally.new.page.written
-      text t k c.tally.result (c.tally.ensures b is_after)
+      pages-tally text t k (c.tally.ensures b is_after)
       (c.in_ok-put_tally.ensures.put start (text ++ tallies_text t k)
       (c.loop-station.invariant.put start text b is_after p));
 }
@@ -48,14 +41,12 @@ returns-clause-put g c =
 
 pub returns-in_ok-put_tally-clause-put : goal.returns-in_ok-put_tally-clause-put
 returns-in_ok-put_tally-clause-put g c = λ start text b is_after p.
-    let t = tally (g.T.CaptureKind.kind.watch.dictionary c.args.analyser.now)
-    (reports_by g.T.CaptureKind.kind.watch c.args.analyser.now b) in
+    let t = tallied g.T.CaptureKind.kind c.args.analyser.now b in
     let k = c.loop-station.station in
     let last : k ≡ 255 = search rules in
     let all : k + 1 ≡ 256 = omega (arith, last) in
     subst (λ n. Pages start (g.W.Write.contents c.put_tally.new.w) c.put_tally.new.page.text
     c.put_tally.new.page.written (text ++ tallies_text t n)) all
-    (pages-tally start (g.W.Write.contents c.put_tally.new.w) c.put_tally.new.page.text c.put_tally.new.page.written
-    text t k c.tally.result (c.tally.ensures b is_after)
+    (pages-tally text t k (c.tally.ensures b is_after)
     (c.in_ok-put_tally.ensures.put start (text ++ tallies_text t k)
     (c.loop-station.invariant.put start text b is_after p)))

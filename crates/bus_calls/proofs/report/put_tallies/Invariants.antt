@@ -1,7 +1,6 @@
 use Rattle.std.proofs.Common.{ℕ, ◌+◌, ◌*◌, ◌≤◌, List, ◌++◌, Option}
 use Rattle.arrayvec.specs.ArrayVec.{array_vec_len}
-use Rattle.bus_calls.specs.Internal.Watching.{reports_by}
-use Rattle.bus_pairing.specs.History.{tally}
+use Rattle.bus_calls.proofs.ReportLemmas.{tallied}
 use Rattle.bus_text.specs.CheckText.{tallies_text}
 use Rattle.bus_text.specs.Pages.{Pages}
 use Rattle.bus_calls.proofs.report.put_tallies.Given as goal
@@ -14,7 +13,5 @@ invariant-loop-station g l = record {
       g.T.CaptureKind.kind.watch.is_after l.analyser b →
       Pages start (g.W.Write.contents l.fn.w) l.fn.page.text l.fn.page.written text
       → Pages start (g.W.Write.contents l.w) l.page.text l.page.written
-      (text ++ tallies_text
-      (tally (g.T.CaptureKind.kind.watch.dictionary l.analyser) (reports_by g.T.CaptureKind.kind.watch l.analyser b))
-      l.station);
+      (text ++ tallies_text (tallied g.T.CaptureKind.kind l.analyser b) l.station);
 }

@@ -1,45 +1,28 @@
-use Rattle.std.proofs.Common.{◌≡◌, ◌≤◌, ◌^◌, [], ◌∷◌, ◌++◌, length, Option, None, sym, ap, ◌∙◌, subst, arith}
-use Rattle.std.proofs.Common.{append-nil}
-use Rattle.std.specs.Option.{option_to_list}
+use Rattle.std.proofs.Common.{[], ◌∷◌, ◌++◌, length, sym, ap, ◌∙◌, subst, append-nil}
 use Rattle.bus_bits.specs.Capture.{bad_mark}
 use Rattle.bus_calls.specs.Captures.{fed_by}
 use Rattle.bus_calls.specs.Internal.Watching.{FeedAfter}
 use Rattle.bus_text.specs.declared.fault.ToolFault.TheVariants as fault
-use Rattle.bus_calls.proofs.CapturesLemmas.{followed-fits, fault-in}
+use Rattle.bus_calls.proofs.CapturesLemmas.{fault-in}
 use Rattle.bus_calls.proofs.SessionsTextLemmas.{mark-taken}
 use Rattle.bus_calls.proofs.text.analyse_octet.Goals as goal
 
 pub returns-in-Ok-Some-clause-taken : goal.returns-in-Ok-Some-clause-taken
 returns-in-Ok-Some-clause-taken g c =
     λ start xs at f.
-    let kind = g.T.CaptureKind.kind in
-    let more = xs ++ c.args.octet ∷ [] in
-    let b = (kind.form.text xs).bits in
-    let given =
-    subst (λ (o : Option g.row.T-Symbol.Denot). ((kind.form.text more).fault ≡ None)
-    × ((kind.form.text more).bits ≡ b ++ option_to_list o)) c.in-Ok-Some.field-0-is
-    (c.in-Ok-Some.ensures xs f.clean) in
-    let fits = followed-fits kind c.laws.ensures start _ c.args.run.now _ c.requires f.bits.bits in
-    let low : kind.watch.origin c.analyse_symbol.new.run.analyser ≤ 2 ^ 60 =
-    omega (arith, fits, c.analyse_symbol.ensures.same.origin) in
-    mark-taken kind start _ c.analyse_symbol.new.run more (b ++ c.in-Ok-Some.symbol ∷ []) c.analyse_symbol.result low
-    given.0
-    given.1 (c.analyse_symbol.ensures.taken start b f.bits)
+    mark-taken c.laws.ensures _ (xs ++ c.args.octet ∷ []) c.analyse_symbol.result c.requires.places
+    c.analyse_symbol.ensures.same f.bits.bits (rw c.in-Ok-Some.field-0-is at (c.in-Ok-Some.ensures xs f.clean))
+    (c.analyse_symbol.ensures.taken start _ f.bits)
 
 pub returns-in-Ok-None-clause-taken : goal.returns-in-Ok-None-clause-taken
 returns-in-Ok-None-clause-taken g c =
     λ start xs at f.
     let kind = g.T.CaptureKind.kind in
-    let more = xs ++ c.args.octet ∷ [] in
-    let b = (kind.form.text xs).bits in
-    let given =
-    subst (λ (o : Option g.row.T-Symbol.Denot). ((kind.form.text more).fault ≡ None)
-    × ((kind.form.text more).bits ≡ b ++ option_to_list o)) c.in-Ok-None.field-0-is
-    (c.in-Ok-None.ensures xs f.clean) in
+    let given = rw c.in-Ok-None.field-0-is at (c.in-Ok-None.ensures xs f.clean) in
     record {
       clean = given.0;
       bits = subst (FeedAfter kind start (g.W.Write.contents c.args.w.now) c.args.run.now)
-          (sym (given.1 ∙ append-nil b)) f.bits;
+          (sym (given.1 ∙ append-nil (kind.form.text xs).bits)) f.bits;
     }
 
 pub returns-in-Err-clause-taken : goal.returns-in-Err-clause-taken

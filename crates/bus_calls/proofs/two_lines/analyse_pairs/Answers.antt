@@ -27,9 +27,8 @@ returns-clause-taken g c = λ start b followed.
     (λ f. FeedStopsWith kind start now new (b ++ z) f))
     (sym (ap (λ (k : ℕ). zip (bits_from os 0 k) (bits_from ys 0 k)) all ∙ zip-met os ys n (c.args.count - n)))
     (as-given kind start now new (b ++ (zip (bits_from os 0 n) (bits_from ys 0 n) ++ left)) c.scanned.result tt refl
-    (told-scanned kind c.args.run.now new (zip (bits_from os 0 n) (bits_from ys 0 n))
-    (g.W.Write.contents c.args.w.now) now told c.laws.ensures
-    left n c.args.count c.scanned.result c.scanned.ensures.cut c.scanned.ensures.placed
+    (told-scanned kind {v = new} {after = now} told c.laws.ensures left n c.args.count c.scanned.result
+    c.scanned.ensures.cut c.scanned.ensures.placed
     (λ full. let none : c.args.count - n ≡ 0 = omega (arith, full) in
     ap (λ (k : ℕ). zip (bits_from os n k) (bits_from ys n k)) none)
     (λ fewer. (
@@ -44,6 +43,5 @@ returns-clause-sound g c =
     let n = c.scan-taken.result in
     let os = c.args.first.now in
     let ys = c.args.second.now in
-    told-sound (two_line_kind g.C.Check.check) c.args.run.now _ (zip (bits_from os 0 n) (bits_from ys 0 n))
-    (g.W.Write.contents c.args.w.now) (g.W.Write.contents c.scan-taken.new.out) c.scan-taken.ensures.told
+    told-sound (two_line_kind g.C.Check.check) c.scan-taken.ensures.told
     (omega (arith, length-zipped os ys 0 n, c.scan-taken.ensures.taken, c.requires.sound.places)) c.requires.sound

@@ -1,11 +1,7 @@
-use Rattle.std.proofs.Common.{◌≤◌, ◌^◌, ◌++◌, Err, Ok, map, refl, take, arith}
+use Rattle.std.proofs.Common.{◌++◌, Err, Ok, refl, take}
 use Rattle.std.proofs.lemmas.Result.{err_from_is_err_and}
-use Rattle.bus_tap.specs.Rested.{rested}
-use Rattle.bus_calls.specs.Captures.{arrival_of}
-use Rattle.bus_calls.specs.Internal.Arrivals.{arrivals_kind}
 use Rattle.bus_calls.proofs.ArrivalBlockLemmas.{packed-rests}
 use Rattle.bus_calls.proofs.ArrivalsLemmas.{symbols-taken, watched-behind}
-use Rattle.bus_calls.proofs.CapturesLemmas.{followed-fits}
 use Rattle.bus_calls.proofs.SessionsPackedLemmas.{octets-taken}
 use Rattle.bus_calls.proofs.arrivals.ClockAnalyserCaptureKind.analyse_packed.Goals as goal
 
@@ -13,45 +9,28 @@ pub returns-in_err-analyse_arrivals-clause-taken : goal.returns-in_err-analyse_a
 returns-in_err-analyse_arrivals-clause-taken g c =
     let failed = err_from_is_err_and c.from_residual.result c.from_residual.ensures.1 in
     rw (failed.1, failed.2) (λ start xs followed.
-    let view = g.C.Check.check in
-    let kind = arrivals_kind view in
-    let rest = c.args.run.now.analyser.rest in
-    let ys = take c.put_packed-taken.result c.args.octets.now in
-    let front = rested rest.most (map arrival_of (kind.form.packed xs).bits) in
-    let new = c.analyse_arrivals.new.run in
-    let fits = followed-fits kind c.laws.ensures start _ c.args.run.now front c.requires followed.bits.bits in
-    let low : kind.watch.origin new.analyser ≤ 2 ^ 60 = omega (arith, fits, c.analyse_arrivals.ensures.same.origin) in
-    let put = packed-rests (λ head zs wide. (c.arrivals_are_head_and_body.ensures.headed head zs wide).0) rest
-    c.put_packed-taken.new.rest c.args.body.now c.put_packed-taken.new.body xs ys front
-    c.put_packed-taken.new.self c.put_packed-taken.ensures.rests followed.read
-    (record { after = followed.bits.rule; rested = refl }) in (
-      c.put_packed-taken.result,
-      octets-taken kind start _ new (xs ++ ys) c.put_packed-taken.new.body (kind.form.packed (xs ++ ys)).bits
-          (Err c.in_err-analyse_arrivals.field-0.0) low put.0 refl
-          (symbols-taken view start _ new (kind.form.packed (xs ++ ys)).bits (front ++ c.as_slice.result.now)
-          (Err c.in_err-analyse_arrivals.field-0.0)
-          (rw (c.analyse_arrivals.ensures.rule, c.as_slice.ensures) put.1)
-          (c.in_err-analyse_arrivals.ensures.taken start front
-          (watched-behind view start _ c.args.run.now _ front refl refl followed.bits.bits))),
+    let behind = watched-behind g.C.Check.check refl refl followed.bits.bits in
+    let packed = c.put_packed-taken in
+    let ys = take packed.result c.args.octets.now in
+    let put = packed-rests c.arrivals_are_head_and_body.ensures.headed packed.new.rest packed.new.body ys
+    packed.new.self packed.ensures.rests followed.read (record { after = followed.bits.rule; rested = refl }) in (
+      packed.result,
+      octets-taken c.laws.ensures _ (xs ++ ys) packed.new.body (Err c.in_err-analyse_arrivals.field-0.0)
+          c.requires.places c.analyse_arrivals.ensures.same behind (put.0, refl)
+          (symbols-taken g.C.Check.check start _ c.analyse_arrivals.new.run (Err c.in_err-analyse_arrivals.field-0.0)
+          (rw (← c.analyse_arrivals.ensures.rule, ← c.as_slice.ensures) at put.1)
+          (c.in_err-analyse_arrivals.ensures.taken start _ behind)),
     ))
 
 pub returns-clause-taken : goal.returns-clause-taken
 returns-clause-taken g c = λ start xs followed.
-    let view = g.C.Check.check in
-    let kind = arrivals_kind view in
-    let rest = c.args.run.now.analyser.rest in
-    let ys = take c.put_packed-taken.result c.args.octets.now in
-    let front = rested rest.most (map arrival_of (kind.form.packed xs).bits) in
-    let new = c.analyse_arrivals.new.run in
-    let fits = followed-fits kind c.laws.ensures start _ c.args.run.now front c.requires followed.bits.bits in
-    let low : kind.watch.origin new.analyser ≤ 2 ^ 60 = omega (arith, fits, c.analyse_arrivals.ensures.same.origin) in
-    let put = packed-rests (λ head zs wide. (c.arrivals_are_head_and_body.ensures.headed head zs wide).0) rest
-    c.put_packed-taken.new.rest c.args.body.now c.put_packed-taken.new.body xs ys front
-    c.put_packed-taken.new.self c.put_packed-taken.ensures.rests followed.read
-    (record { after = followed.bits.rule; rested = refl }) in
-    octets-taken kind start _ new (xs ++ ys) c.put_packed-taken.new.body (kind.form.packed (xs ++ ys)).bits (Ok tt) low
-    put.0 refl
-    (symbols-taken view start _ new (kind.form.packed (xs ++ ys)).bits (front ++ c.as_slice.result.now) (Ok tt)
-    (rw (c.analyse_arrivals.ensures.rule, c.as_slice.ensures) put.1)
-    (c.in_ok-analyse_arrivals.ensures.taken start front
-    (watched-behind view start _ c.args.run.now _ front refl refl followed.bits.bits)))
+    let behind = watched-behind g.C.Check.check refl refl followed.bits.bits in
+    let packed = c.put_packed-taken in
+    let ys = take packed.result c.args.octets.now in
+    let put = packed-rests c.arrivals_are_head_and_body.ensures.headed packed.new.rest packed.new.body ys
+    packed.new.self packed.ensures.rests followed.read (record { after = followed.bits.rule; rested = refl }) in
+    octets-taken c.laws.ensures _ (xs ++ ys) packed.new.body (Ok tt) c.requires.places
+    c.analyse_arrivals.ensures.same behind (put.0, refl)
+    (symbols-taken g.C.Check.check start _ c.analyse_arrivals.new.run (Ok tt)
+    (rw (← c.analyse_arrivals.ensures.rule, ← c.as_slice.ensures) at put.1)
+    (c.in_ok-analyse_arrivals.ensures.taken start _ behind))

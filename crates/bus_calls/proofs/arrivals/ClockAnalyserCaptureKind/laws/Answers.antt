@@ -1,5 +1,5 @@
 use Rattle.std.proofs.Common.{refl}
-use Rattle.bus_bits.specs.Packed.{PairsAfter, packed_arrival_capture, pair_body, arrival_head_fault}
+use Rattle.bus_bits.specs.Packed.{packed_arrival_capture, pair_body}
 use Rattle.bus_bits.proofs.CaptureLemmas.{capped-grows}
 use Rattle.bus_calls.specs.Captures.{form_of_arrivals}
 use Rattle.bus_calls.proofs.HeadedLemmas.{head-clean}
@@ -30,6 +30,5 @@ returns g c =
       };
       reports = refl;
       placed = numbered-arrivals g.C.Check.check;
-      clean = head-clean packed_arrival_capture pair_body arrival_head_fault PairsAfter
-          (λ head zs long. (c.arrivals_are_head_and_body.ensures.headed head zs long).0) (λ n xs left h. h.clean);
+      clean = head-clean packed_arrival_capture pair_body head.headed (λ n xs left h. h.clean);
     }

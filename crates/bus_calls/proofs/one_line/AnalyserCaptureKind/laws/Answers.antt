@@ -1,5 +1,5 @@
 use Rattle.std.proofs.Common.{[], ◌∷◌, ◌++◌, ◌+◌, length, refl}
-use Rattle.bus_bits.specs.Packed.{PackedAfter, packed_capture, packed_body, head_fault}
+use Rattle.bus_bits.specs.Packed.{packed_capture, packed_body}
 use Rattle.std.specs.Option.{option_to_list}
 use Rattle.bus_line.specs.Due.{placed}
 use Rattle.bus_pairing.specs.LineReport.{of_line}
@@ -32,6 +32,5 @@ returns g c =
       };
       reports = refl;
       placed = λ a b h. h.decoder.has_taken.place;
-      clean = head-clean packed_capture packed_body head_fault PackedAfter
-          (λ head zs long. (c.packed_is_head_and_body.ensures.headed head zs long).0) (λ n xs left h. h.clean);
+      clean = head-clean packed_capture packed_body head.headed (λ n xs left h. h.clean);
     }

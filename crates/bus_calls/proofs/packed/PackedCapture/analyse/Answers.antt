@@ -1,12 +1,12 @@
 use Rattle.std.proofs.Common.{ℕ, ◌+◌, List, ◌++◌, take, get_or, false, refl, sym, ap, ◌∙◌, subst, arith}
 use Rattle.std.proofs.lemmas.Result.{err_from_is_err_and}
 use Rattle.std.proofs.lemmas.List.{take_all}
-use Rattle.bus_bits.specs.Capture.{CaptureOf, capped}
+use Rattle.bus_bits.specs.Capture.{CaptureOf}
 use Rattle.bus_calls.specs.Captures.{fed_by}
-use Rattle.bus_calls.specs.Internal.Sessions.{BodyAfter, IsReadAs, SourceStopsWith}
+use Rattle.bus_calls.specs.Internal.Sessions.{BodyAfter, IsReadAs}
 use Rattle.bus_calls.specs.Internal.Watching.{FeedAfter}
 use Rattle.bus_calls.proofs.WatchingLemmas.{same-both, same-self, item-next}
-use Rattle.bus_calls.proofs.CapturesLemmas.{fault-in, stops-more, front-grown}
+use Rattle.bus_calls.proofs.CapturesLemmas.{fault-in, first-stop}
 use Rattle.bus_calls.proofs.SessionsPackedLemmas.{faulty-stops, none-read}
 use Rattle.bus_bits.proofs.GatherLemmas.{octets-next}
 use Rattle.bus_calls.proofs.packed.PackedCapture.analyse.Goals as goal
@@ -15,32 +15,20 @@ pub returns-in_err-many-clause-taken : goal.returns-in_err-many-clause-taken
 returns-in_err-many-clause-taken g c =
     let failed = err_from_is_err_and c.from_residual-in_err-many.result c.from_residual-in_err-many.ensures.1 in
     rw (failed.1, failed.2) (λ start xs followed.
-    let kind = g.T.CaptureKind.kind in
     let os = c.args.octets.now in
     let i = c.loop-taken.taken in
     let stops = c.in_err-many.ensures.taken start (xs ++ take i os) (c.loop-taken.invariant.front start xs followed) in
-    let n = stops.0 in
-    let origin = kind.watch.origin c.analyse_packed.new.run.analyser in
-    let rest = kind.rest c.analyse_packed.new.run.analyser in
-    stops-more kind start _ c.analyse_packed.new.run (capped origin (fed_by kind.form rest (kind.form.packed
-    (xs ++ take (i + n) os))))
-    (capped origin (fed_by kind.form rest (kind.form.packed (xs ++ os)))) c.in_err-many.field-0.0
-    (front-grown kind.form c.laws.ensures.form kind.form.packed c.laws.ensures.form.packed rest origin xs os (i + n))
-    (subst (λ (ys : List ℕ). SourceStopsWith kind false start (g.W.Write.contents c.analyse_packed.new.w)
-    c.analyse_packed.new.run ys c.in_err-many.field-0.0) (octets-next xs os i n) stops.1))
+    first-stop c.laws.ensures false start _ c.analyse_packed.new.run xs os (i + stops.0) c.in_err-many.field-0.0
+    (octets-next xs os i stops.0) stops.1)
 
 pub returns-in_err-many-clause-same : goal.returns-in_err-many-clause-same
-returns-in_err-many-clause-same g c =
-    same-both g.T.CaptureKind.kind c.args.run.now c.loop-taken.run c.analyse_packed.new.run c.loop-taken.invariant.same
-    c.analyse_packed.ensures.same
+returns-in_err-many-clause-same g c = same-both c.loop-taken.invariant.same c.analyse_packed.ensures.same
 
 pub loop-taken-preserved-then-many-gt0 : goal.loop-taken-preserved-then-many-gt0
 loop-taken-preserved-then-many-gt0 g c = record {
   within = omega (arith, c.in_ok-many.ensures.enough);
   sound = c.analyse_packed.ensures.sound;
-  same = same-both g.T.CaptureKind.kind c.args.run.now c.loop-taken.run c.analyse_packed.new.run
-      c.loop-taken.invariant.same
-      c.analyse_packed.ensures.same;
+  same = same-both c.loop-taken.invariant.same c.analyse_packed.ensures.same;
   front = λ start xs followed.
       let os = c.args.octets.now in
       let i = c.loop-taken.taken in
@@ -55,47 +43,34 @@ returns-in_err-decode_octet-clause-taken g c =
     let failed = err_from_is_err_and c.from_residual-in_err-decode_octet.result
     c.from_residual-in_err-decode_octet.ensures.1 in
     rw (failed.1, failed.2) (λ start xs followed.
-    let kind = g.T.CaptureKind.kind in
     let os = c.args.octets.now in
     let i = c.loop-taken.taken in
     let front = xs ++ take i os in
-    let here = none-read kind start _ _ _ front _ c.in_ok-many.many (omega (arith, c.if-many-gt0.false))
-    (c.in_ok-many.ensures.taken start front (c.loop-taken.invariant.front start xs followed)) in
-    let origin = kind.watch.origin c.decode_octet.new.run.analyser in
-    let rest = kind.rest c.decode_octet.new.run.analyser in
-    stops-more kind start _ c.decode_octet.new.run (capped origin (fed_by kind.form rest (kind.form.packed
-    (xs ++ take (i + 1) os))))
-    (capped origin (fed_by kind.form rest (kind.form.packed (xs ++ os)))) c.in_err-decode_octet.field-0.0
-    (front-grown kind.form c.laws.ensures.form kind.form.packed c.laws.ensures.form.packed rest origin xs os (i + 1))
-    (subst (λ (ys : List ℕ). SourceStopsWith kind false start (g.W.Write.contents c.decode_octet.new.w)
-    c.decode_octet.new.run ys
-    c.in_err-decode_octet.field-0.0) (item-next xs os i (get_or os i 0) 0 c.loop-taken-test.true refl)
-    (c.in_err-decode_octet.ensures.taken start front here)))
+    first-stop c.laws.ensures false start _ c.decode_octet.new.run xs os (i + 1) c.in_err-decode_octet.field-0.0
+    (item-next xs os i (get_or os i 0) 0 c.loop-taken-test.true refl)
+    (c.in_err-decode_octet.ensures.taken start front
+    (none-read front _ c.in_ok-many.many (omega (arith, c.if-many-gt0.false))
+    (c.in_ok-many.ensures.taken start front (c.loop-taken.invariant.front start xs followed)))))
 
 pub returns-in_err-decode_octet-clause-same : goal.returns-in_err-decode_octet-clause-same
 returns-in_err-decode_octet-clause-same g c =
-    same-both g.T.CaptureKind.kind c.args.run.now c.analyse_packed.new.run c.decode_octet.new.run
-    (same-both g.T.CaptureKind.kind c.args.run.now c.loop-taken.run c.analyse_packed.new.run c.loop-taken.invariant.same
-    c.analyse_packed.ensures.same) c.decode_octet.ensures.same
+    same-both (same-both c.loop-taken.invariant.same c.analyse_packed.ensures.same) c.decode_octet.ensures.same
 
 pub loop-taken-preserved : goal.loop-taken-preserved
 loop-taken-preserved g c = record {
   within = omega (arith, c.loop-taken-test.true);
   sound = c.decode_octet.ensures.sound;
-  same = same-both g.T.CaptureKind.kind c.args.run.now c.analyse_packed.new.run c.decode_octet.new.run
-      (same-both g.T.CaptureKind.kind c.args.run.now c.loop-taken.run c.analyse_packed.new.run
-      c.loop-taken.invariant.same c.analyse_packed.ensures.same) c.decode_octet.ensures.same;
+  same = same-both (same-both c.loop-taken.invariant.same c.analyse_packed.ensures.same) c.decode_octet.ensures.same;
   front = λ start xs followed.
-      let kind = g.T.CaptureKind.kind in
       let os = c.args.octets.now in
       let i = c.loop-taken.taken in
       let front = xs ++ take i os in
-      let here = none-read kind start _ _ _ front _ c.in_ok-many.many (omega (arith, c.if-many-gt0.false))
-      (c.in_ok-many.ensures.taken start front (c.loop-taken.invariant.front start xs followed)) in
-      subst (BodyAfter kind start (g.W.Write.contents c.decode_octet.new.w) c.decode_octet.new.body
+      subst (BodyAfter g.T.CaptureKind.kind start (g.W.Write.contents c.decode_octet.new.w) c.decode_octet.new.body
       c.decode_octet.new.run)
       (item-next xs os i (get_or os i 0) 0 c.loop-taken-test.true refl)
-      (c.in_ok-decode_octet.ensures.taken start front here);
+      (c.in_ok-decode_octet.ensures.taken start front
+      (none-read front _ c.in_ok-many.many (omega (arith, c.if-many-gt0.false))
+      (c.in_ok-many.ensures.taken start front (c.loop-taken.invariant.front start xs followed))));
 }
 
 pub returns-in_err-taken-clause-taken : goal.returns-in_err-taken-clause-taken

@@ -1,12 +1,10 @@
-use Rattle.std.proofs.Common.{◌+◌, ◌≡◌, ℕ, List, ◌++◌, length, take, get_or, refl, sym, true, subst, arith, append-nil}
+use Rattle.std.proofs.Common.{◌+◌, ℕ, List, ◌++◌, take, get_or, refl, sym, true, subst, arith, append-nil}
 use Rattle.std.proofs.Common.{length-append}
 use Rattle.std.proofs.lemmas.Result.{err_from_is_err_and}
 use Rattle.std.proofs.lemmas.List.{take_all}
-use Rattle.bus_bits.specs.Capture.{capped}
-use Rattle.bus_calls.specs.Captures.{fed_by}
-use Rattle.bus_calls.specs.Internal.Sessions.{OctetsAfter, SourceStopsWith}
+use Rattle.bus_calls.specs.Internal.Sessions.{OctetsAfter}
 use Rattle.bus_calls.proofs.WatchingLemmas.{same-self, same-both, item-next}
-use Rattle.bus_calls.proofs.CapturesLemmas.{stops-more, front-grown}
+use Rattle.bus_calls.proofs.CapturesLemmas.{first-stop}
 use Rattle.bus_bits.proofs.GatherLemmas.{octets-next}
 use Rattle.bus_calls.proofs.SessionsTextLemmas.{octets-before, none-taken}
 use Rattle.bus_calls.proofs.text.TextCapture.analyse.Goals as goal
@@ -24,32 +22,19 @@ pub returns-in_err-many-clause-taken : goal.returns-in_err-many-clause-taken
 returns-in_err-many-clause-taken g c =
     let failed = err_from_is_err_and c.from_residual.result c.from_residual.ensures.1 in
     rw (failed.1, failed.2) (λ start xs followed.
-    let kind = g.T.CaptureKind.kind in
     let os = c.args.octets.now in
     let i = c.loop-taken.taken in
     let stops = c.in_err-many.ensures.taken start (xs ++ take i os) (c.loop-taken.invariant.front start xs followed) in
-    let n = stops.0 in
-    let origin = kind.watch.origin c.analyse_text.new.run.analyser in
-    let rest = kind.rest c.analyse_text.new.run.analyser in
-    stops-more kind start _ c.analyse_text.new.run (capped origin (fed_by kind.form rest (kind.form.text (xs ++ take
-    (i + n) os))))
-    (capped origin (fed_by kind.form rest (kind.form.text (xs ++ os)))) c.in_err-many.field-0.0
-    (front-grown kind.form c.laws.ensures.form kind.form.text c.laws.ensures.form.text rest origin xs os (i + n))
-    (subst (λ (ys : List ℕ). SourceStopsWith kind true start (g.W.Write.contents c.analyse_text.new.w)
-    c.analyse_text.new.run ys
-    c.in_err-many.field-0.0) (octets-next xs os i n) stops.2))
+    first-stop c.laws.ensures true start _ c.analyse_text.new.run xs os (i + stops.0) c.in_err-many.field-0.0
+    (octets-next xs os i stops.0) stops.2)
 
 pub returns-in_err-many-clause-same : goal.returns-in_err-many-clause-same
-returns-in_err-many-clause-same g c =
-    same-both g.T.CaptureKind.kind c.args.run.now c.loop-taken.run c.analyse_text.new.run c.loop-taken.invariant.same
-    c.analyse_text.ensures.same
+returns-in_err-many-clause-same g c = same-both c.loop-taken.invariant.same c.analyse_text.ensures.same
 
 pub loop-taken-preserved-then-many-gt0 : goal.loop-taken-preserved-then-many-gt0
 loop-taken-preserved-then-many-gt0 g c = record {
   sound = c.analyse_text.ensures.sound;
-  same = same-both g.T.CaptureKind.kind c.args.run.now c.loop-taken.run c.analyse_text.new.run
-      c.loop-taken.invariant.same
-      c.analyse_text.ensures.same;
+  same = same-both c.loop-taken.invariant.same c.analyse_text.ensures.same;
   front = λ start xs followed.
       let os = c.args.octets.now in
       let i = c.loop-taken.taken in
@@ -63,50 +48,34 @@ returns-in_err-analyse_octet-clause-taken g c =
     let failed = err_from_is_err_and c.from_residual-in_err-analyse_octet.result
     c.from_residual-in_err-analyse_octet.ensures.1 in
     rw (failed.1, failed.2) (λ start xs followed.
-    let kind = g.T.CaptureKind.kind in
     let os = c.args.octets.now in
     let i = c.loop-taken.taken in
-    let x = get_or os i 0 in
     let front = xs ++ take i os in
-    let at : c.args.self.now.at + i ≡ length front =
-    omega (arith, followed.at, octets-before xs os i c.loop-taken-test.true) in
-    let here = none-taken kind start _ _ front _ c.in_ok-many.many (omega (arith, c.if-many-gt0.false))
-    (c.in_ok-many.ensures.taken start front (c.loop-taken.invariant.front start xs followed)) in
-    let stops = c.in_err-analyse_octet.ensures.taken start front at here in
-    let origin = kind.watch.origin c.analyse_octet.new.run.analyser in
-    let rest = kind.rest c.analyse_octet.new.run.analyser in
-    stops-more kind start _ c.analyse_octet.new.run (capped origin (fed_by kind.form rest (kind.form.text
-    (xs ++ take (i + 1) os))))
-    (capped origin (fed_by kind.form rest (kind.form.text (xs ++ os)))) c.in_err-analyse_octet.field-0.0
-    (front-grown kind.form c.laws.ensures.form kind.form.text c.laws.ensures.form.text rest origin xs os (i + 1))
-    (subst (λ (ys : List ℕ). SourceStopsWith kind true start (g.W.Write.contents c.analyse_octet.new.w)
-    c.analyse_octet.new.run ys
-    c.in_err-analyse_octet.field-0.0) (item-next xs os i x 0 c.loop-taken-test.true refl) stops))
+    first-stop c.laws.ensures true start _ c.analyse_octet.new.run xs os (i + 1) c.in_err-analyse_octet.field-0.0
+    (item-next xs os i (get_or os i 0) 0 c.loop-taken-test.true refl)
+    (c.in_err-analyse_octet.ensures.taken start front
+    (omega (arith, followed.at, octets-before xs os i c.loop-taken-test.true))
+    (none-taken front _ c.in_ok-many.many (omega (arith, c.if-many-gt0.false))
+    (c.in_ok-many.ensures.taken start front (c.loop-taken.invariant.front start xs followed)))))
 
 pub returns-in_err-analyse_octet-clause-same : goal.returns-in_err-analyse_octet-clause-same
 returns-in_err-analyse_octet-clause-same g c =
-    same-both g.T.CaptureKind.kind c.args.run.now c.analyse_text.new.run c.analyse_octet.new.run
-    (same-both g.T.CaptureKind.kind c.args.run.now c.loop-taken.run c.analyse_text.new.run c.loop-taken.invariant.same
-    c.analyse_text.ensures.same) c.analyse_octet.ensures.same
+    same-both (same-both c.loop-taken.invariant.same c.analyse_text.ensures.same) c.analyse_octet.ensures.same
 
 pub loop-taken-preserved : goal.loop-taken-preserved
 loop-taken-preserved g c = record {
   sound = c.analyse_octet.ensures.sound;
-  same = same-both g.T.CaptureKind.kind c.args.run.now c.analyse_text.new.run c.analyse_octet.new.run
-      (same-both g.T.CaptureKind.kind c.args.run.now c.loop-taken.run c.analyse_text.new.run c.loop-taken.invariant.same
-      c.analyse_text.ensures.same) c.analyse_octet.ensures.same;
+  same = same-both (same-both c.loop-taken.invariant.same c.analyse_text.ensures.same) c.analyse_octet.ensures.same;
   front = λ start xs followed.
-      let kind = g.T.CaptureKind.kind in
       let os = c.args.octets.now in
       let i = c.loop-taken.taken in
       let front = xs ++ take i os in
-      let at : c.args.self.now.at + i ≡ length front =
-      omega (arith, followed.at, octets-before xs os i c.loop-taken-test.true) in
-      let here = none-taken kind start _ _ front _ c.in_ok-many.many (omega (arith, c.if-many-gt0.false))
-      (c.in_ok-many.ensures.taken start front (c.loop-taken.invariant.front start xs followed)) in
-      subst (OctetsAfter kind start (g.W.Write.contents c.analyse_octet.new.w) c.analyse_octet.new.run)
+      subst (OctetsAfter g.T.CaptureKind.kind start (g.W.Write.contents c.analyse_octet.new.w) c.analyse_octet.new.run)
       (item-next xs os i (get_or os i 0) 0 c.loop-taken-test.true refl)
-      (c.in_ok-analyse_octet.ensures.taken start front at here);
+      (c.in_ok-analyse_octet.ensures.taken start front
+      (omega (arith, followed.at, octets-before xs os i c.loop-taken-test.true))
+      (none-taken front _ c.in_ok-many.many (omega (arith, c.if-many-gt0.false))
+      (c.in_ok-many.ensures.taken start front (c.loop-taken.invariant.front start xs followed))));
 }
 
 pub returns-clause-taken : goal.returns-clause-taken

@@ -1,5 +1,5 @@
 use Rattle.std.proofs.Common.{[], ◌∷◌, ◌++◌, ◌+◌, length, refl}
-use Rattle.bus_bits.specs.Packed.{PairsAfter, packed_pair_capture, pair_body, pair_head_fault}
+use Rattle.bus_bits.specs.Packed.{packed_pair_capture, pair_body}
 use Rattle.bus_pairing.specs.LineReport.{merged}
 use Rattle.bus_pairing.specs.Seen.{all_seen_at}
 use Rattle.bus_calls.specs.Captures.{form_of_two}
@@ -30,6 +30,5 @@ returns g c =
       };
       reports = refl;
       placed = λ a b h. placed-pairs a.first.place a.first.origin b h.first.has_taken.place;
-      clean = head-clean packed_pair_capture pair_body pair_head_fault PairsAfter
-          (λ head zs long. (c.pairs_are_head_and_body.ensures.headed head zs long).0) (λ n xs left h. h.clean);
+      clean = head-clean packed_pair_capture pair_body head.headed (λ n xs left h. h.clean);
     }

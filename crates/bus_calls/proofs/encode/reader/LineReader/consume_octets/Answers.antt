@@ -1,6 +1,7 @@
 use Rattle.std.proofs.Common.{◌++◌, take, rules}
 use Rattle.std.proofs.lemmas.Result.{err_from_is_err_and}
-use Rattle.bus_calls.proofs.EncodeStateLemmas.{middle_halts, all_octets}
+use Rattle.std.proofs.lemmas.List.{take_all}
+use Rattle.bus_calls.proofs.EncodeStateLemmas.{middle_halts}
 use Rattle.bus_calls.proofs.encode.reader.LineReader.consume_octets.Goals as goal
 
 pub returns-in_err-consume_octet-clause-taken : goal.returns-in_err-consume_octet-clause-taken
@@ -15,5 +16,5 @@ returns-in_err-consume_octet-clause-taken g c =
 
 pub returns-clause-taken : goal.returns-clause-taken
 returns-clause-taken g c = λ start xs taken.
-    rw (all_octets c.loop-octet.octet-index c.args.octets.now c.loop-octet-test.false) at
+    rw (take_all c.loop-octet.octet-index c.args.octets.now c.loop-octet-test.false) at
     (c.loop-octet.invariant.taken start xs taken)

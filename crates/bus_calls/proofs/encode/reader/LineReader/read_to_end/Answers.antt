@@ -16,22 +16,19 @@ loop-turn-init g c = record {
 pub returns-in-Ok-eq0 : goal.returns-in-Ok-eq0
 returns-in-Ok-eq0 g c =
     let before = c.loop-turn.invariant.taken in
-    let start = g.W.Write.contents c.args.w.now in
-    let self = c.loop-turn.self in (
+    let start = g.W.Write.contents c.args.w.now in (
       before.0,
       consumes_end _ _ (g.R.Read.remaining c.read.new.self) before.0 _ (search rules) before.1
           c.in-Ok-eq0.ensures.bytes.0,
-      end_finishes c.args.reads (g.R.Read.remaining c.read.new.self) start (g.W.Write.contents c.loop-turn.w)
-          (g.W.Write.contents c.end_line.new.w) self.line.octets.items self.line.number self.encoder
-          c.end_line.new.self.encoder self.written
-          c.end_line.new.self.written before.0 c.end_line.result (search rules) before.2
+      end_finishes before.2 c.args.reads (g.R.Read.remaining c.read.new.self) _ c.end_line.new.self.encoder
+          c.end_line.new.self.written c.end_line.result (search rules)
           (c.end_line.ensures.ended start (asked_behind 0 (ended_lines before.0)).calls before.2.done),
     )
 
 pub returns-in-Err : goal.returns-in-Err
 returns-in-Err g c =
     let before = c.loop-turn.invariant.taken in
-    (before.0, consumes_kept _ _ _ _ before.1 c.in-Err.ensures.bytes, clean_so_far _ _ _ _ _ _ before.0 before.2)
+    (before.0, consumes_kept _ _ _ _ before.1 c.in-Err.ensures.bytes, clean_so_far before.2)
 
 pub returns-in_err-consume_octets : goal.returns-in_err-consume_octets
 returns-in_err-consume_octets g c =
@@ -63,5 +60,5 @@ loop-turn-preserved g c =
 pub returns : goal.returns
 returns g c =
     let before = c.loop-turn.invariant.taken in
-    let clean = clean_so_far _ _ _ _ _ _ before.0 before.2 in
+    let clean = clean_so_far before.2 in
     (before.0, before.1, (search rules, clean.0, clean.1, clean.2))

@@ -1,5 +1,5 @@
 use Rattle.std.proofs.Common.{◌-◌, ℕ, sym, ap, ◌∙◌, subst, arith}
-use Rattle.std.proofs.lemmas.Nat.{and_le_l, and_le_r}
+use Rattle.std.proofs.lemmas.Nat.{and_le_l}
 use Rattle.bus_line.specs.Internal.Settled.{kept}
 use Rattle.bus_line.proofs.SettledKeptLemmas.{AreRaised, kept-all, raised-none, raised-fits, raised-all, raised-out}
 use Rattle.bus_line.proofs.decoder.marked.Marked.unmarked.Goals as goal
