@@ -1,6 +1,6 @@
 //! Bits of which some are to be left out.
 
-ghost use Rattle.std.specs.Prelude.{◌≡◌, ◌≢◌, ◌≤◌, ◌<◌, ◌^◌, bit_and};
+ghost use Rattle.std.specs.Prelude.{◌≡◌, ◌≤◌, ◌<◌, ◌^◌, bit_and};
 ghost use Rattle.bus_bits.specs.Octet.{bits_of};
 ghost use Rattle.bus_line.specs.Internal.Settled.{kept};
 
@@ -49,7 +49,6 @@ impl Marked {
     pub(crate) fn without_lowest(self) -> Marked
         ensures same { kept result.bits result.marks result.count ≡ kept self.bits self.marks self.count }
         ensures few { result.count ≤ self.count }
-        ensures fewer { self.marks ≢ 0 → result.count < self.count }
     {
         let Marked { bits, marks, count } = self;
         // 1 at the places below the lowest mark, and at other marks; everywhere, where there is no mark
