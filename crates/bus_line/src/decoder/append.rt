@@ -31,6 +31,7 @@ impl DecoderWords {
             (bits_of more.count more.bits) (state self.new check.new (F.octets frame.new)) }
         ensures sound { IsDecoder self.new (F.octets frame.new) }
     {
+        // No bit of a piece is settled yet, as `shift` found: one test serves both.
         if self.place <= self.settles_at {
             return;
         }

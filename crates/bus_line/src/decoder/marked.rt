@@ -72,6 +72,7 @@ impl Marked {
             mut marks,
             count,
         } = self;
+        // Mostly no mark is left, and then nothing moves.
         if marks == 0 {
             return Bits { bits, count };
         }
