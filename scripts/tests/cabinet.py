@@ -80,31 +80,30 @@ def damaged(bits: str, generator: random.Random) -> str:
 OTHER = body_of([3, 0x83, 129, *range(20)])
 
 
-class Stretch(NamedTuple):
-    """Bits that are sent one after the other, the first taken at a time in seconds, with a rate.
+# A bit before which a clock stands still, and for how long.
+Pause = Tuple[int, float]
 
-    From some bit on another station may send, whose clock goes on a little later.
-    """
+
+class Stretch(NamedTuple):
+    """Bits that are sent one after the other, the first taken at a time, with a rate and pauses, in seconds."""
 
     begin: float
     bits: str
     rate: float
-    handed_over: int = 0
-    later: float = 0
+    pauses: Sequence[Pause] = ()
 
     def rises(self) -> "np.ndarray":
         """When the clock rises."""
         places = np.arange(len(self.bits))
-        return self.begin + places / self.rate + np.where(places >= self.handed_over, self.later, 0)
+        return self.begin + places / self.rate + sum(np.where(places >= bit, pause, 0) for bit, pause in self.pauses)
 
 
 class Answer(NamedTuple):
-    """What stations send from a time on, in bits of the controller, and with which bit another station goes on."""
+    """What stations send from a time on, in bits of the controller, with pauses in its bits, too."""
 
     begin: float
     bits: str
-    handed_over: int = 0
-    later: float = 0  # in bits
+    pauses: Sequence[Pause] = ()
 
 
 @dataclass(frozen=True)
@@ -139,7 +138,8 @@ class Bus:
         self.first: List[str] = ["1" * 40]
         self.count = 40
         self.answers: List[Answer] = []
-        self.wait = 40.0
+        self.pauses: List[Pause] = []  # of the controller's clock
+        self.fates: List[Tuple[str, int, int]] = []  # of the commands, with station and type
 
     def send(self, bits: str) -> None:
         self.first.append(bits)
@@ -150,15 +150,21 @@ class Bus:
         whole = self.generator.choice([FLAG, "1"])
         self.send((whole * count)[: count // 8 * 8] + "1" * 16)
 
+    def fate(self) -> str:
+        """What comes of a command: an answer, in time or late, no answer, or damage of either."""
+        fates = ["answered", "late", "missing", "command", "answer", "notice"]
+        return self.generator.choices(fates, [8, 1, 1, 1, 1, 1])[0]
+
     def poll(self) -> None:
-        """A command and what comes of it: an answer, in time or late, no answer, or damage of either."""
+        """A command and what comes of it."""
         generator = self.generator
         kind = generator.choice([0, 1])
         station = generator.randrange(1, 20)
         command, answer = LENGTHS[kind]
         data = [generator.randrange(256) for _ in range(command)]
         body = body_of([station, 0x83, kind, *data])
-        fate = generator.choices(["answered", "late", "missing", "command", "answer", "notice"], [8, 1, 1, 1, 1, 1])[0]
+        fate = self.fate()
+        self.fates.append((fate, station, kind))
         self.send(FLAG + (damaged(body, generator) if fate == "command" else body) + FLAG)
         if fate == "notice":
             self.send(body_of([255, 0x83, 9, 1, 2, 3, 4]) + FLAG)
@@ -172,20 +178,29 @@ class Bus:
         """An answer, and sometimes another frame at once after it, from the same station or from another."""
         first = FLAG + body + FLAG
         behind, later = self.generator.choice([("", 0), ("", 0), (OTHER + FLAG, 0), (FLAG + OTHER + FLAG, 0.8)])
-        self.answers.append(Answer(self.count + delay, first + behind, len(first), later * self.generator.random()))
+        self.answers.append(Answer(self.count + delay, first + behind, [(len(first), later * self.generator.random())]))
+
+    def time_of(self, bit: float) -> float:
+        """When the controller sends a bit, in seconds."""
+        return bit / RATE + sum(pause for before, pause in self.pauses if before <= bit)
 
     def stretches(self) -> Iterator[Stretch]:
         """The answers as their clocks take them."""
         rate = RATE * (1 + self.cabinet.ppm / 1e6)
         if self.cabinet.gated:
             for answer in self.answers:
-                yield Stretch(answer.begin / RATE, answer.bits, rate, answer.handed_over, answer.later / RATE)
+                pauses = [(bit, pause / RATE) for bit, pause in answer.pauses]
+                yield Stretch(self.time_of(answer.begin), answer.bits, rate, pauses)
             return
         bits = ""
         for answer in self.answers:
-            bits += "1" * (round(answer.begin / RATE * rate) - len(bits)) + answer.bits
-        bits += "1" * (round(self.count / RATE * rate) - len(bits))
+            bits += self.filled(round(self.time_of(answer.begin) * rate) - len(bits)) + answer.bits
+        bits += self.filled(round(self.time_of(self.count) * rate) - len(bits))
         yield Stretch(self.phase, bits, rate)
+
+    def filled(self, count: int) -> str:
+        """The time fill of stations whose clock runs all the time, of so many bits."""
+        return "1" * count
 
 
 @dataclass
@@ -271,7 +286,7 @@ def recorded_from(cabinet: Cabinet, bus: Bus) -> Recorded:
     wires = [Wire() for _ in range(4)]
     rest = bus.generator.choice([0, 1])
     bits = "".join(bus.first)
-    edges = analyser.record(wires[TXC], wires[TXD], Stretch(0.5 / RATE, bits, RATE), 0)
+    edges = analyser.record(wires[TXC], wires[TXD], Stretch(0.5 / RATE, bits, RATE, bus.pauses), 0)
     second = [
         (analyser.record(wires[RXC], wires[RXD], stretch, rest), stretch.bits) for stretch in bus.stretches()
     ]
