@@ -3,7 +3,7 @@ use Rattle.std.proofs.Common.{◌≡◌, ℕ, zero, suc, ◌+◌, ◌-◌, ◌<�
 use Rattle.std.proofs.Common.{List, [], ◌∷◌, ◌++◌, length, map, refl, sym, ap, ◌∙◌, arith, append-nil, append_assoc}
 use Rattle.std.proofs.Common.{length-append, w64, inl, inr}
 use Rattle.std.specs.List.{flat_map}
-use Rattle.std.specs.Prelude.{slice_index, Some, None}
+use Rattle.std.specs.Prelude.{bit_or, slice_index, Some, None, ◌||◌}
 use Rattle.std.specs.Bool.{beq}
 use Rattle.std.specs.Int.{trailing_zeros, leading_zeros}
 use Rattle.std.specs.Int.Count.{ones}
@@ -25,7 +25,7 @@ use Rattle.bus_tap.specs.declared.facts.LineFacts.{LineFacts}
 use Rattle.bus_tap.specs.declared.facts.Occurrences.{Occurrences}
 use Rattle.bus_tap.proofs.EachLemmas.{places-same, places-more}
 use Rattle.bus_tap.proofs.FactsLemmas.{last-more}
-use Rattle.bus_tap.proofs.OnesLemmas.{lowest-first, no-bit, ones-count, ones-last, where-none}
+use Rattle.bus_tap.proofs.OnesLemmas.{bit-or, lowest-first, no-bit, ones-count, ones-last, where-alone, where-none}
 use Rattle.bus_tap.proofs.SampledLemmas.{bit-if, counted-front, edge-front}
 
 -- what so many places more bring
@@ -271,3 +271,20 @@ module _ (hold : ℕ) (ss more : List ℕ) (long : length more ≡ 64) where
         first i inside,
         second i inside,
       ) refl)
+
+-- what arrives in a block comes where a clock rises
+pub arrivals-ones : (e : EdgeBlock) → block_arrivals e
+    ≡ flat_map (λ i. bits_of_edges (edges_in e i)) (ones_in (bit_or e.first.rises e.second.rises))
+unfolding block_arrivals ones_in
+arrivals-ones e =
+    where-alone (λ i. bits_of_edges (edges_in e i)) (has_bit (bit_or e.first.rises e.second.rises)) 64
+    (λ i none. quiet i (has_bit e.first.rises i) (has_bit e.second.rises i) refl refl
+    (sym (bit-or e.first.rises e.second.rises i) ∙ none))
+  where
+    quiet : (i : ℕ) (a b : Bool) → has_bit e.first.rises i ≡ a → has_bit e.second.rises i ≡ b → (a || b) ≡ false →
+        bits_of_edges (edges_in e i) ≡ []
+    quiet i true b one two none = absurd (cc)
+    quiet i false true one two none = absurd (cc)
+    quiet i false false one two none =
+        ap (λ c. bit_on First (if c then Some (has_bit e.first.bits i) else None) ++ bit_on Second (bit_in e.second i))
+        one ∙ ap (λ c. bit_on Second (if c then Some (has_bit e.second.bits i) else None)) two

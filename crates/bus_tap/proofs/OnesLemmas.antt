@@ -4,9 +4,11 @@ use Rattle.std.proofs.Common.{if◌then◌else◌, List, [], ◌∷◌, ◌++◌
 use Rattle.std.proofs.Common.{append-nil}
 use Rattle.std.specs.Prelude.{bit_and, bit_or, bit_xor, min, max}
 use Rattle.std.specs.Bool.{beq}
+use Rattle.std.specs.List.{flat_map}
+use Rattle.std.proofs.lemmas.Grind.{flat_map-append}
 use Rattle.std.specs.Int.{bit_at, bit_not, trailing_zeros, leading_zeros}
-use Rattle.std.proofs.lemmas.Nat.Bits.{bit_at_xor, bit_at_not}
-use Rattle.std.proofs.Common.{not, ◌&&◌}
+use Rattle.std.proofs.lemmas.Nat.Bits.{bit_at_or, bit_at_xor, bit_at_not}
+use Rattle.std.proofs.Common.{not, ◌&&◌, ◌||◌}
 use Rattle.std.specs.Int.Count.{ones}
 use Rattle.std.proofs.lemmas.Nat.{leading_top, ones_cat, mod-pow-add}
 use Rattle.std.proofs.Common.{length-append}
@@ -70,6 +72,18 @@ bit-and v w i = as-bool (bit_at (bit_and v w) i) _
     ∙ (ap (λ m. min m (bit_at w i)) (bit-is v i)
     ∙ (ap (λ m. min (cond (has_bit v i) 1 0) m) (bit-is w i) ∙ and-bool (has_bit v i) (has_bit w i))))
 
+or-bool : (x y : Bool) → max (cond x 1 0) (cond y 1 0) ≡ cond (x || y) 1 0
+or-bool true true = refl
+or-bool true false = refl
+or-bool false true = refl
+or-bool false false = refl
+
+pub bit-or : (v w i : ℕ) → has_bit (bit_or v w) i ≡ (has_bit v i || has_bit w i)
+bit-or v w i = as-bool (bit_at (bit_or v w) i) _
+    (bit_at_or v w i
+    ∙ (ap (λ m. max m (bit_at w i)) (bit-is v i)
+    ∙ (ap (λ m. max (cond (has_bit v i) 1 0) m) (bit-is w i) ∙ or-bool (has_bit v i) (has_bit w i))))
+
 pub bit-not : (w i : ℕ) → w < 2 ^ 64 → i < 64 → has_bit (bit_not w64 w) i ≡ not (has_bit w i)
 bit-not w i fits inside = as-bool (bit_at (bit_not w64 w) i) _
     (bit_at_not w64 w i fits inside ∙ (ap (λ m. 1 - m) (bit-is w i) ∙ not-bool (has_bit w i)))
@@ -108,6 +122,39 @@ where-same is was n same =
 where-more : (is : ℕ → Bool) (n : ℕ) → places_where is (suc n) ≡ places_where is n ++ (if is n then n ∷ [] else [])
 where-more is n =
     places-more (λ i. if is i then i ∷ [] else []) (λ i. if is i then i ∷ [] else []) n (λ i inside. refl)
+
+where-few : (is : ℕ → Bool) (n : ℕ) → length (places_where is n) ≤ n
+where-few is zero = omega arith
+where-few is (suc n) =
+    omega (
+      arith,
+      ap length (where-more is n),
+      length-append (places_where is n) (if is n then n ∷ [] else []),
+      where-few is n,
+      one (is n),
+    )
+  where
+    one : (b : Bool) → length (if b then n ∷ [] else []) ≤ 1
+    one true = omega arith
+    one false = omega arith
+
+pub ones-few : (word : ℕ) → length (ones_in word) ≤ 64
+unfolding ones_in
+ones-few word = where-few (has_bit word) 64
+
+-- what these places bring alone
+pub where-alone : {Y : Type 0} (f : ℕ → List Y) (is : ℕ → Bool) (n : ℕ) → ((i : ℕ) → is i ≡ false → f i ≡ []) →
+    flat_map f (places n) ≡ flat_map f (places_where is n)
+where-alone f is zero none = refl
+where-alone f is (suc n) none =
+    places-more f f n (λ i inside. refl)
+    ∙ (ap (λ l. l ++ f n) (where-alone f is n none)
+    ∙ (ap (λ l. flat_map f (places_where is n) ++ l) (elim (cases_Bool (is n)) [
+      | inl one ↦ sym (ap (λ b. flat_map f (if b then n ∷ [] else [])) one ∙ append-nil (f n))
+      | inr other ↦ none n other ∙ sym (ap (λ b. flat_map f (if b then n ∷ [] else [])) other)
+    ])
+    ∙ (sym (flat_map-append f (places_where is n) (if is n then n ∷ [] else []))
+    ∙ ap (flat_map f) (sym (where-more is n)))))
 
 -- the first place, and the others
 module _ (is was : ℕ → Bool) (t : ℕ) (below : (i : ℕ) → i < t → is i ≡ false) (at : is t ≡ true)
