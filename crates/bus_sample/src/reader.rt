@@ -262,6 +262,20 @@ impl SampleRun {
         ensures sound { IsSoundRun self.new }
     {
         self.octets += 64;
+        self.put_block(octets, w)
+    }
+
+    /// Takes 64 samples of an octet each, and puts the bits that arrive.
+    #[inline(always)]
+    fn put_block<W: Write>(&mut self, octets: &[u8; 64], w: &mut W) -> Result<(), SampleFault>
+        requires sound { IsSoundRun self.old }
+        requires takes { TakesBlocks self.old.tap }
+        ensures taken { (start : Option (List ℕ)) (ss : List ℕ) → RunAfter start (W.contents w.old) self.old ss →
+            MatchResult result (λ _. RunAfter start (W.contents w.new) self.new (ss ++ octets.now))
+            (λ fault. StopsWith start (W.contents w.new) self.new (ss ++ octets.now) fault) }
+        ensures same { IsSameRecord self.old self.new }
+        ensures sound { IsSoundRun self.new }
+    {
         let block = self.options.wires.block(octets);
         let edges = self.tap.consume_block(&block);
         match self.marks.put_block(&edges, w) {

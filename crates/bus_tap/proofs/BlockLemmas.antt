@@ -82,7 +82,7 @@ marked-ones from word = refl
 -- ---- occurrences
 
 -- none more
-none-in : ones_in 0 ≡ []
+pub none-in : ones_in 0 ≡ []
 unfolding ones_in
 none-in = where-none (has_bit 0) 64 (λ i inside. no-bit 0 i (bit_at-zero i))
 
