@@ -27,13 +27,14 @@ pub(crate) struct Marks {
     column: u8,
 }
 
-/// The mark of a bit.
+/// The mark of a bit. No branch depends on the bit, which can't be foreseen.
+#[inline(always)]
 fn mark(line: Line, bit: bool) -> u8
     ensures { result ≡ mark (line, bit) }
 {
     match line {
-        Line::First => { if bit { b'1' } else { b'0' } }
-        Line::Second => { if bit { b'i' } else { b'o' } }
+        Line::First => b'0' + u8::from(bit),
+        Line::Second => b'o' - 6 * u8::from(bit),
     }
 }
 

@@ -212,16 +212,23 @@ impl SampleRun {
         ensures options { self.new.options ≡ self.old.options }
         ensures sound { IsSoundRun self.new }
     {
+        let wires = self.options.wires;
         let mut at = 0;
         while at < octets.len() {
-            at += self.consume_front(&octets[at..], w)?;
+            at += self.consume_front(&octets[at..], &wires, w)?;
         }
         Ok(())
     }
 
     /// Takes 64 samples of an octet each, or the first ones if they are the same. Returns how many.
     #[inline(always)]
-    fn consume_front<W: Write>(&mut self, octets: &[u8], w: &mut W) -> Result<usize, SampleFault>
+    fn consume_front<W: Write>(
+        &mut self,
+        octets: &[u8],
+        wires: &Wires,
+        w: &mut W,
+    ) -> Result<usize, SampleFault>
+        requires wires { wires.now ≡ self.old.options.wires }
         requires form { self.old.options.form ≡ Samples 1 }
         requires sound { IsSoundRun self.old }
         requires some { 1 ≤ length octets.now }
@@ -237,7 +244,7 @@ impl SampleRun {
     {
         if self.tap.takes_blocks() {
             if let Some(block) = octets.first_chunk::<64>() {
-                self.consume_block(block, w)?;
+                self.consume_block(block, wires, w)?;
                 return Ok(64);
             }
         }
@@ -248,7 +255,13 @@ impl SampleRun {
 
     /// Takes 64 samples of an octet each.
     #[inline(always)]
-    fn consume_block<W: Write>(&mut self, octets: &[u8; 64], w: &mut W) -> Result<(), SampleFault>
+    fn consume_block<W: Write>(
+        &mut self,
+        octets: &[u8; 64],
+        wires: &Wires,
+        w: &mut W,
+    ) -> Result<(), SampleFault>
+        requires wires { wires.now ≡ self.old.options.wires }
         requires form { self.old.options.form ≡ Samples 1 }
         requires sound { IsSoundRun self.old }
         requires takes { TakesBlocks self.old.tap }
@@ -262,12 +275,18 @@ impl SampleRun {
         ensures sound { IsSoundRun self.new }
     {
         self.octets += 64;
-        self.put_block(octets, w)
+        self.put_block(octets, wires, w)
     }
 
     /// Takes 64 samples of an octet each, and puts the bits that arrive.
     #[inline(always)]
-    fn put_block<W: Write>(&mut self, octets: &[u8; 64], w: &mut W) -> Result<(), SampleFault>
+    fn put_block<W: Write>(
+        &mut self,
+        octets: &[u8; 64],
+        wires: &Wires,
+        w: &mut W,
+    ) -> Result<(), SampleFault>
+        requires wires { wires.now ≡ self.old.options.wires }
         requires sound { IsSoundRun self.old }
         requires takes { TakesBlocks self.old.tap }
         ensures taken { (start : Option (List ℕ)) (ss : List ℕ) → RunAfter start (W.contents w.old) self.old ss →
@@ -276,7 +295,7 @@ impl SampleRun {
         ensures same { IsSameRecord self.old self.new }
         ensures sound { IsSoundRun self.new }
     {
-        let block = self.options.wires.block(octets);
+        let block = wires.block(octets);
         let edges = self.tap.consume_block(&block);
         match self.marks.put_block(&edges, w) {
             Ok(()) => Ok(()),

@@ -1,8 +1,11 @@
-use Rattle.std.proofs.Common.{◌≡◌, ◌++◌, ◌∙◌, ap, subst, rules, arith}
+use Rattle.std.proofs.Common.{◌≡◌, ◌++◌, ◌∙◌, ap, subst, sym, rules, arith}
 use Rattle.std.proofs.lemmas.Result.{err_from_is_err_and}
 use Rattle.bus_sample.specs.Internal.Runs.{HasRead}
 use Rattle.bus_sample.proofs.ReadLemmas.{all-octets, behind-next, halts-behind}
 use Rattle.bus_sample.proofs.reader.SampleRun.consume_samples.Goals as goal
+
+pub consume_front-requires-clause-wires : goal.consume_front-requires-clause-wires
+consume_front-requires-clause-wires g c = sym (ap (λ o. o.wires) c.loop-at.invariant.options)
 
 pub returns-in_err-at-clause-read : goal.returns-in_err-at-clause-read
 returns-in_err-at-clause-read g c =

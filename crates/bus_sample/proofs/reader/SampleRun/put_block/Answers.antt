@@ -8,7 +8,8 @@ pub returns-in-Ok-clause-taken : goal.returns-in-Ok-clause-taken
 returns-in-Ok-clause-taken g c = λ start ss taken.
     let self = c.args.self.now in
     let more = c.args.octets.now in
-    let advances = c.consume_block-edges.ensures.taken (levels self.options more) c.block-block.ensures in
+    let advances = c.consume_block-edges.ensures.taken (levels self.options more)
+    (rw (c.requires.wires) at c.block-block.ensures) in
     taken-with start (g.W.Write.contents c.args.w.now) (g.W.Write.contents c.put_block.new.w) self _ ss more
     (block_arrivals c.consume_block-edges.result) c.requires.sound.given.0 advances taken refl
     (c.in-Ok.ensures.put start _ taken.marks)
@@ -17,7 +18,8 @@ pub returns-in-Ok-clause-sound : goal.returns-in-Ok-clause-sound
 returns-in-Ok-clause-sound g c =
     let self = c.args.self.now in
     let sound = c.requires.sound in
-    let advances = c.consume_block-edges.ensures.taken (levels self.options c.args.octets.now) c.block-block.ensures in
+    let advances = c.consume_block-edges.ensures.taken (levels self.options c.args.octets.now)
+    (rw (c.requires.wires) at c.block-block.ensures) in
     let count = c.consume_block-edges.ensures.samples in record {
       given = (advances.hold ∙ sound.given.0, advances.jump ∙ sound.given.1);
       size = sound.size;
@@ -31,7 +33,8 @@ pub returns-in-Err-clause-taken : goal.returns-in-Err-clause-taken
 returns-in-Err-clause-taken g c = λ start ss taken.
     let self = c.args.self.now in
     let more = c.args.octets.now in
-    let advances = c.consume_block-edges.ensures.taken (levels self.options more) c.block-block.ensures in (
+    let advances = c.consume_block-edges.ensures.taken (levels self.options more)
+    (rw (c.requires.wires) at c.block-block.ensures) in (
       ss ++ more,
       ([], sym (append-nil (ss ++ more))),
       rw (arrivals-with self.options self.tap c.consume_block-edges.new.self ss more
@@ -43,7 +46,8 @@ pub returns-in-Err-clause-sound : goal.returns-in-Err-clause-sound
 returns-in-Err-clause-sound g c =
     let self = c.args.self.now in
     let sound = c.requires.sound in
-    let advances = c.consume_block-edges.ensures.taken (levels self.options c.args.octets.now) c.block-block.ensures in
+    let advances = c.consume_block-edges.ensures.taken (levels self.options c.args.octets.now)
+    (rw (c.requires.wires) at c.block-block.ensures) in
     let count = c.consume_block-edges.ensures.samples in record {
       given = (advances.hold ∙ sound.given.0, advances.jump ∙ sound.given.1);
       size = sound.size;
