@@ -1,9 +1,8 @@
 -- A recording, with octets more.
-use Rattle.std.proofs.Common.{replicate, ◌≡◌, ℕ, ◌+◌, ◌-◌, ◌<◌, ◌≤◌, List, [], ◌∷◌, ◌++◌, length, take, drop, refl, sym}
+use Rattle.std.proofs.Common.{◌≡◌, ℕ, ◌+◌, ◌-◌, ◌<◌, ◌≤◌, List, [], ◌∷◌, ◌++◌, length, take, drop, refl, sym}
 use Rattle.std.proofs.Common.{ap, ◌∙◌, arith, subst, append_assoc, length-append, Option, Result, Ok, Err, get_or}
-use Rattle.std.specs.Prelude.{MatchResult, slice_index}
+use Rattle.std.specs.Prelude.{MatchResult}
 use Rattle.bus_text.proofs.KnownBytesLemmas.{take_both}
-use Rattle.std.proofs.lemmas.List.{get_or-drop}
 use Rattle.std.proofs.lemmas.Grind.{common_steps}
 use Rattle.std.specs.Io.KnownBytes.{IsAtEnd}
 use Rattle.arrayvec.specs.ArrayVec.{array_vec_len}

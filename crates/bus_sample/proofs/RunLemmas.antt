@@ -5,7 +5,6 @@ use Rattle.std.proofs.lemmas.List.{map-append, length-replicate, length-map, rep
 use Rattle.bus_tap.specs.Arrival.{Arrival}
 use Rattle.bus_tap.specs.Sampled.{sampled}
 use Rattle.bus_tap.specs.Tapped.{TapState, AdvancesTap, IsTapAfter, channels}
-use Rattle.bus_tap.specs.declared.sampler.Edges.{Edges}
 use Rattle.bus_sample.specs.Recording.{levels, arrivals}
 use Rattle.bus_sample.specs.Samples.{IsFrontOf}
 use Rattle.bus_sample.specs.Internal.Runs.{RunAfter, HasMarked}

@@ -19,6 +19,9 @@ use std::io::Write;
 /// Marks in a line of text.
 const WIDTH: u8 = 64;
 
+/// The marks of 0 and 1 on the second line.
+const SECOND: [u8; 2] = [b'o', b'i'];
+
 /// Writes arrivals as text.
 #[derive(Drop)]
 pub(crate) struct Marks {
@@ -27,14 +30,14 @@ pub(crate) struct Marks {
     column: u8,
 }
 
-/// The mark of a bit. No branch depends on the bit, which can't be foreseen.
+/// The mark of a bit. No branch depends on the bit, which cannot be foreseen.
 #[inline(always)]
 fn mark(line: Line, bit: bool) -> u8
     ensures { result ≡ mark (line, bit) }
 {
     match line {
         Line::First => b'0' + u8::from(bit),
-        Line::Second => b'o' - 6 * u8::from(bit),
+        Line::Second => SECOND[usize::from(bit)],
     }
 }
 
@@ -68,7 +71,11 @@ impl Marks {
 
     /// Puts the bits of 64 samples.
     #[inline(always)]
-    pub(crate) fn put_block<W: Write>(&mut self, edges: &EdgeBlock, w: &mut W) -> Result<(), ShortWrite>
+    pub(crate) fn put_block<W: Write>(
+        &mut self,
+        edges: &EdgeBlock,
+        w: &mut W,
+    ) -> Result<(), ShortWrite>
         requires { length_of self.old < 2 ^ 90 }
         ensures put { (start : Option (List ℕ)) (xs : List Arrival) →
             HasMarked start (W.contents w.old) self.old xs → MatchResult result

@@ -1,6 +1,6 @@
 -- The levels that count in 64 samples are carries of a sum.
 use Rattle.std.proofs.Common.{◌≡◌, ℕ, zero, suc, ◌+◌, ◌-◌, ◌*◌, ◌/◌, ◌%◌, ◌^◌, ◌<◌, ◌≤◌, ◌==◌, ◌&&◌, not, Bool, true, false}
-use Rattle.std.proofs.Common.{if◌then◌else◌, List, [], ◌∷◌, ◌++◌, length, refl, sym, ap, ◌∙◌, arith, inl, inr, cond}
+use Rattle.std.proofs.Common.{if◌then◌else◌, List, ◌++◌, length, refl, sym, ap, ◌∙◌, arith, inl, inr, cond}
 use Rattle.std.proofs.Common.{length-append, get_or}
 use mir.Val.{bool_byte}
 use Rattle.std.specs.Bool.{beq}
@@ -11,7 +11,7 @@ use Rattle.std.proofs.lemmas.Bool.{cases_lt, cases_Bool}
 use Rattle.std.proofs.lemmas.Nat.Bits.{bit_at_and, bit_at_or}
 use Rattle.bus_tap.specs.Blocks.{has_bit, HasLevels}
 use Rattle.bus_tap.specs.Internal.Counts.{HasCounted, HadCounted}
-use Rattle.bus_tap.specs.Sampled.{Channel, HeldState, IsHeldAfter, level, stood, counted_level}
+use Rattle.bus_tap.specs.Sampled.{Channel, HeldState, IsHeldAfter, level, counted_level}
 use Rattle.bus_tap.proofs.CarryLemmas.{carry, carry-bit, next-bit, earlier-first, earlier-next}
 use Rattle.bus_tap.proofs.OnesLemmas.{as-bool, bit-is, same-bit}
 use Rattle.bus_tap.proofs.SampledLemmas.{counted-at, counted-front, level-front, same-bool, other-bool, not-not}

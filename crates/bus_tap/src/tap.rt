@@ -247,8 +247,7 @@ impl Tap {
         let from = self.samples;
         self.still = None;
         self.first.note_block(from, counted.first, self.jump);
-        self.second
-            .note_block(from, counted.second, self.jump);
+        self.second.note_block(from, counted.second, self.jump);
         self.samples += 64;
         EdgeBlock {
             first: counted.first.edges(),

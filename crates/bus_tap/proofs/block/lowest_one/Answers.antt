@@ -1,5 +1,3 @@
-use Rattle.std.proofs.Common.{arith, ◌∙◌, ap, IsTrue, refl, subst, sym}
-use Rattle.std.proofs.lemmas.Nat.{and_le_r}
 use Rattle.bus_tap.proofs.OnesLemmas.{lowest, lowest-first, one-bit, rest-none}
 use Rattle.bus_tap.proofs.block.lowest_one.Goals as goal
 

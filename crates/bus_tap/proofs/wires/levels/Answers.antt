@@ -1,4 +1,4 @@
-use Rattle.std.proofs.Common.{◌≡◌, not, Bool, true, false, refl, sym, ap, ◌∙◌}
+use Rattle.std.proofs.Common.{◌≡◌, not, Bool, true, false, refl, ap, ◌∙◌}
 use Rattle.std.specs.Bool.{beq}
 use Rattle.bus_tap.proofs.OnesLemmas.{bit-not}
 use Rattle.bus_tap.proofs.wires.levels.Goals as goal

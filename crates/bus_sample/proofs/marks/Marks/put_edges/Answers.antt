@@ -1,7 +1,7 @@
-use Rattle.std.proofs.Common.{◌+◌, ◌≤◌, ◌++◌, ◌∙◌, append_assoc, arith, subst}
+use Rattle.std.proofs.Common.{◌++◌, ◌∙◌, append_assoc, arith, subst}
 use Rattle.bus_tap.specs.Sampled.{bits_of_edges}
 use Rattle.bus_sample.specs.Internal.Runs.{HasMarked}
-use Rattle.bus_sample.proofs.MarksLemmas.{put-all, put-few, put-first, put-next, put-room}
+use Rattle.bus_sample.proofs.MarksLemmas.{put-all, put-few, put-next, put-room}
 use Rattle.bus_sample.proofs.marks.Marks.put_edges.Goals as goal
 
 pub put_bit-requires : goal.put_bit-requires

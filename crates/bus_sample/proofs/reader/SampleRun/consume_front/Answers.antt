@@ -1,4 +1,3 @@
-use Rattle.std.proofs.Common.{◌≡◌, ◌++◌, take, sym, ap, ◌∙◌, replicate}
 use Rattle.std.proofs.lemmas.Result.{err_from_is_err_and}
 use Rattle.bus_sample.proofs.ReadLemmas.{halts-front}
 use Rattle.bus_sample.proofs.reader.SampleRun.consume_front.Goals as goal

@@ -1,4 +1,4 @@
-use Rattle.std.proofs.Common.{◌≡◌, ◌++◌, ◌∙◌, [], refl, sym, append-nil, arith}
+use Rattle.std.proofs.Common.{◌++◌, ◌∙◌, [], refl, sym, append-nil, arith}
 use Rattle.bus_tap.specs.Blocks.{block_arrivals}
 use Rattle.bus_sample.specs.Recording.{levels}
 use Rattle.bus_sample.proofs.RunLemmas.{arrivals-with, taken-with}

@@ -1,4 +1,4 @@
-use Rattle.std.proofs.Common.{◌+◌, ◌-◌, ◌∷◌, [], ◌++◌, length, arith, sym, ap, ◌∙◌}
+use Rattle.std.proofs.Common.{◌+◌, ◌∷◌, [], ◌++◌, arith, sym, ap, ◌∙◌}
 use Rattle.bus_tap.specs.Facts.{spacing}
 use Rattle.bus_tap.proofs.BlockLemmas.{noted-all, noted-first, noted-more, noted-upto}
 use Rattle.bus_tap.proofs.FactsLemmas.{length-less}

@@ -1,9 +1,7 @@
-use Rattle.std.proofs.Common.{◌≡◌, ◌<◌, ◌^◌, ◌++◌, ℕ, ap, sym, subst, ◌∙◌, not}
+use Rattle.std.proofs.Common.{ap, ◌∙◌}
 use Rattle.std.specs.Prelude.{◌&&◌, bit_and, bit_xor}
-use Rattle.std.specs.Bool.{beq}
 use Rattle.bus_tap.specs.Blocks.{has_bit}
-use Rattle.bus_tap.specs.Facts.{IsTallied}
-use Rattle.bus_tap.specs.Internal.Counts.{AreBitFacts, clock_changed, clock_rose, data_changed, data_changed_high}
+use Rattle.bus_tap.specs.Internal.Counts.{clock_changed, clock_rose, data_changed, data_changed_high}
 use Rattle.bus_tap.proofs.BlockLemmas.{marked-same}
 use Rattle.bus_tap.proofs.OnesLemmas.{bit-and, bit-rose, bit-xor}
 use Rattle.bus_tap.proofs.facts.LineFacts.note_block.Goals as goal

@@ -1,4 +1,4 @@
-use Rattle.std.proofs.Common.{◌≡◌, ◌+◌, ◌<◌, ◌++◌, ◌∙◌, append-nil, ap, arith, refl, w64}
+use Rattle.std.proofs.Common.{◌≡◌, ◌+◌, ◌<◌, ◌∙◌, append-nil, ap, arith, w64}
 use Rattle.std.specs.Int.{trailing_zeros}
 use Rattle.bus_tap.proofs.BlockLemmas.{none-marked, tallied-block}
 use Rattle.bus_tap.proofs.facts.Occurrences.note_block.Goals as goal

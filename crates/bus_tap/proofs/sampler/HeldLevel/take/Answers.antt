@@ -1,5 +1,4 @@
-use Rattle.std.proofs.Common.{◌≡◌, ℕ, ◌-◌, ◌==◌, not, Bool, refl, sym, ap, ◌∙◌, arith, cond}
-use Rattle.std.specs.Bool.{beq}
+use Rattle.std.proofs.Common.{refl, ◌∙◌, arith}
 use Rattle.bus_tap.specs.Internal.Held.{held_state}
 use Rattle.bus_tap.proofs.CountedBlockLemmas.{IsCompared, at-once, shifted, had-counted, has-counted, held-block}
 use Rattle.bus_tap.proofs.CountedBlockLemmas.{at-once-counts, as-byte, as-none, byte-small}
