@@ -14,9 +14,10 @@ use Rattle.bus_pairing.specs.declared.line.Line.{Line}
 use Rattle.bus_pairing.specs.declared.line.Line.TheVariants.{First, Second}
 use Rattle.bus_tap.specs.Blocks.{has_bit, ones_in, bit_in, edges_in, block_arrivals}
 use Rattle.bus_tap.specs.Facts.{AreFacts, AreFactsOf, IsTallied, bit_samples, changes, changes_high, places_where}
-use Rattle.bus_tap.specs.Internal.Counts.{AreBitFacts, CountsLine, AreCounted, bit_between, clock_changed, clock_rose, data_changed}
-use Rattle.bus_tap.specs.Internal.Counts.{data_changed_high, marked}
-use Rattle.bus_tap.specs.Sampled.{Channel, bit_on, bits_of_edges, clock_of, counted_level, data_of, edge, rises, sampled}
+use Rattle.bus_tap.specs.Internal.Counts.{AreBitFacts, CountsLine, AreCounted, bit_between, clock_changed, clock_rose}
+use Rattle.bus_tap.specs.Internal.Counts.{data_changed, data_changed_high, marked}
+use Rattle.bus_tap.specs.Sampled.{Channel, bit_on, bits_of_edges, clock_of, counted_level, data_of, edge, rises}
+use Rattle.bus_tap.specs.Sampled.{sampled}
 use Rattle.bus_tap.specs.declared.block.CountedBlock.{CountedBlock}
 use Rattle.bus_tap.specs.declared.block.CountedLine.{CountedLine}
 use Rattle.bus_tap.specs.declared.block.EdgeBlock.{EdgeBlock}

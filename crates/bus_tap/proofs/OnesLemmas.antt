@@ -1,6 +1,7 @@
 -- The ones of a word, by their places.
 use Rattle.std.proofs.Common.{◌≡◌, ℕ, zero, suc, ◌+◌, ◌-◌, ◌*◌, ◌/◌, ◌%◌, ◌^◌, ◌<◌, ◌≤◌, ◌==◌, Bool, true, false}
-use Rattle.std.proofs.Common.{if◌then◌else◌, List, [], ◌∷◌, ◌++◌, length, refl, sym, ap, ◌∙◌, arith, inl, inr, cond, w64}
+use Rattle.std.proofs.Common.{if◌then◌else◌, List, [], ◌∷◌, ◌++◌, length, refl, sym, ap, ◌∙◌, arith, inl, inr, cond}
+use Rattle.std.proofs.Common.{w64}
 use Rattle.std.proofs.Common.{append-nil}
 use Rattle.std.specs.Prelude.{bit_and, bit_or, bit_xor, min, max}
 use Rattle.std.specs.Bool.{beq}
@@ -298,7 +299,8 @@ ones-last word some fits =
     let none : j - j ≡ 0 = omega arith in
     let one : bit_at word j ≡ 1 =
     ap (λ n. bit_at n j) whole
-    ∙ (bit_at_cat_high 1 j (word - 2 ^ j) j (omega (arith, top.2, top.3, double)) (omega arith) ∙ ap (bit_at 1) none) in (
+    ∙ (bit_at_cat_high 1 j (word - 2 ^ j) j (omega (arith, top.2, top.3, double)) (omega arith)
+    ∙ ap (bit_at 1) none) in (
       places_where (has_bit word) j,
       ap (places_where (has_bit word)) size
           ∙ (last-up (has_bit word) j (one-bit word j one)

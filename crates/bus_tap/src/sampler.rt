@@ -1,13 +1,14 @@
 //! Bits from samples of four channels.
 
-ghost use Rattle.std.specs.Prelude.{◌≡◌, ◌+◌, ◌≤◌, ◌/◌, ◌%◌, ◌==◌, ◌&&◌, ◌++◌, ◌∷◌, [], List, ℕ, length, not, Some, None};
-ghost use Rattle.std.specs.Prelude.{if◌then◌else◌};
+ghost use Rattle.std.specs.Prelude.{◌≡◌, ◌+◌, ◌≤◌, ◌/◌, ◌%◌, ◌==◌, ◌&&◌, ◌++◌, ◌∷◌, [], List, ℕ};
+ghost use Rattle.std.specs.Prelude.{if◌then◌else◌, length, not, Some, None};
 ghost use Rattle.bus_pairing.specs.declared.line.Line.TheVariants.{First};
 ghost use Rattle.std.specs.Prelude.{IsTrue};
 ghost use Rattle.bus_tap.specs.Blocks.{HasLevels, IsBlockOf};
 ghost use Rattle.bus_tap.specs.Internal.Counts.{AreCounted, CountsLine, HadCounted, HasCounted};
 ghost use Rattle.bus_tap.specs.Internal.Held.{held_state, next_state, held_clock, held_data, no_edges, AreHeldAt};
-ghost use Rattle.bus_tap.specs.Sampled.{Channel, IsAfterSamples, IsHeldAfter, sampled, bits_of_edges, clock_of, data_of};
+ghost use Rattle.bus_tap.specs.Sampled.{Channel, IsAfterSamples, IsHeldAfter, sampled, bits_of_edges};
+ghost use Rattle.bus_tap.specs.Sampled.{clock_of, data_of};
 
 use crate::block::{CountedBlock, CountedLine, LevelBlock, LineBlock};
 use crate::facts::Levels;

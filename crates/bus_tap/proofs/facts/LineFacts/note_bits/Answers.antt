@@ -6,7 +6,8 @@ use Rattle.bus_tap.proofs.facts.LineFacts.note_bits.Goals as goal
 
 pub loop-left-init : goal.loop-left-init
 loop-left-init c =
-    noted-first c.args.jump c.args.from c.args.rises c.args.self.now c.requires.bits.0 c.requires.bits.1 c.requires.jumps
+    noted-first c.args.jump c.args.from c.args.rises c.args.self.now c.requires.bits.0 c.requires.bits.1
+    c.requires.jumps
 
 pub note_bit-requires-clause-bits : goal.note_bit-requires-clause-bits
 note_bit-requires-clause-bits c =

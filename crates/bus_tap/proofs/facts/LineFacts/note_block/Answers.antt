@@ -19,7 +19,8 @@ returns-clause-facts c = λ cs ls hs bs facts.
     let high = marked-same from (has_bit (bit_and changed counted.after.clock)) (data_changed_high counted)
     (λ i inside. bit-and changed counted.after.clock i
     ∙ ap (λ b. b && has_bit counted.after.clock i) (bit-xor counted.before.bits counted.after.bits i)) in
-    let rose = marked-same from _ (clock_rose counted) (λ i inside. bit-rose counted.before.clock counted.after.clock i) in
+    let rose = marked-same from _ (clock_rose counted)
+    (λ i inside. bit-rose counted.before.clock counted.after.clock i) in
     let bits = rw (rose) at (c.note_bits.ensures.facts bs (record {
       bits = facts.bits;
       gap = facts.gap;
