@@ -4,7 +4,16 @@ use Rattle.std.proofs.Common.{length, map, refl, sym, ap, ◌∙◌, arith, appe
 use Rattle.std.proofs.lemmas.Nat.{mod_below}
 use Rattle.bus_tap.specs.Arrival.{Arrival}
 use Rattle.bus_tap.proofs.EachLemmas.{each-more, alone-front, alone-last, length-more}
-use Rattle.arrayvec.specs.ArrayVec.{ArrayVec}
+use Rattle.arrayvec.specs.ArrayVec.{ArrayVec, array_vec_len}
+use Rattle.std.proofs.Common.{length-append, ◌*◌}
+use Rattle.std.specs.List.{flat_map}
+use Rattle.std.specs.Prelude.{bit_or}
+use Rattle.std.proofs.lemmas.Grind.{flat_map-append}
+use Rattle.bus_tap.specs.Blocks.{block_arrivals, edges_in, ones_in}
+use Rattle.bus_tap.specs.Sampled.{bits_of_edges}
+use Rattle.bus_tap.specs.declared.block.EdgeBlock.{EdgeBlock}
+use Rattle.bus_tap.proofs.BlockLemmas.{arrivals-ones, none-in}
+use Rattle.bus_tap.proofs.OnesLemmas.{ones-few}
 use Rattle.bus_text.specs.Pages.{Pages}
 use Rattle.bus_text.proofs.PagesLemmas.{pages-more}
 use Rattle.bus_sample.specs.Marks.{mark, mark_at, marks_text, whole_text, line_end}
@@ -82,3 +91,64 @@ module _ (start now : Option (List ℕ)) (old : Marks) (xs : List Arrival) (mark
       let is : (length xs % 64 == 0) ≡ false = grind (arith, some, marked.column) in
       rw is
       (pages-more start now old.page.text new old.page.written (marks_text xs) (10 ∷ []) items marked.page)
+
+-- the bits of a block, as far as they are put
+pub record HasPut (edges : EdgeBlock) (old new : Marks) (left : ℕ) : Type 0 where
+  pub done : List ℕ
+  pub ones : ones_in (bit_or edges.first.rises edges.second.rises) ≡ done ++ ones_in left
+  pub put : (start now : Option (List ℕ)) (xs : List Arrival) → HasMarked start now old xs
+      → HasMarked start now new (xs ++ flat_map (λ i. bits_of_edges (edges_in edges i)) done)
+  pub few : array_vec_len new.page.text ≤ array_vec_len old.page.text + 4 * length done
+  pub written : new.page.written ≡ old.page.written
+
+pub put-first : (edges : EdgeBlock) (marks : Marks) →
+    HasPut edges marks marks (bit_or edges.first.rises edges.second.rises)
+put-first edges marks = record {
+  done = [];
+  ones = refl;
+  put = λ start now xs marked. rw (append-nil xs) marked;
+  few = omega arith;
+  written = refl;
+}
+
+module _ (edges : EdgeBlock) (old mid : Marks) (left rest place : ℕ) (before : HasPut edges old mid left)
+    (first : ones_in left ≡ place ∷ ones_in rest) where
+  pub put-room : array_vec_len mid.page.text + 4 ≤ array_vec_len old.page.text + 256
+  put-room =
+      omega (
+        arith,
+        before.few,
+        ap length before.ones,
+        length-append before.done (ones_in left),
+        ap length first,
+        ones-few (bit_or edges.first.rises edges.second.rises),
+      )
+
+  pub put-next : (new : Marks) → ((start now : Option (List ℕ)) (xs : List Arrival) → HasMarked start now mid xs →
+      HasMarked start now new (xs ++ bits_of_edges (edges_in edges place))) →
+      array_vec_len new.page.text ≤ array_vec_len mid.page.text + 4 → new.page.written ≡ mid.page.written →
+      HasPut edges old new rest
+  put-next new put few written =
+      let bits : ℕ → List Arrival = λ i. bits_of_edges (edges_in edges i) in
+      record {
+        done = before.done ++ place ∷ [];
+        ones = before.ones ∙ (ap (λ l. before.done ++ l) first
+            ∙ sym (append_assoc before.done (place ∷ []) (ones_in rest)));
+        put = λ start now xs marked.
+            rw (flat_map-append bits before.done (place ∷ []), append-nil (bits place), ← append_assoc)
+            (put start now (xs ++ flat_map bits before.done) (before.put start now xs marked));
+        few = omega (arith, few, before.few, length-append before.done (place ∷ []));
+        written = written ∙ before.written;
+      }
+
+module _ (edges : EdgeBlock) (old new : Marks) (left : ℕ) (before : HasPut edges old new left) (end : left ≡ 0) where
+  all-done : ones_in (bit_or edges.first.rises edges.second.rises) ≡ before.done
+  all-done = before.ones ∙ (ap (λ w. before.done ++ ones_in w) end
+      ∙ (ap (λ l. before.done ++ l) none-in ∙ append-nil before.done))
+
+  pub put-all : (start now : Option (List ℕ)) (xs : List Arrival) → HasMarked start now old xs →
+      HasMarked start now new (xs ++ block_arrivals edges)
+  put-all start now xs marked = rw (arrivals-ones edges, all-done) (before.put start now xs marked)
+
+  pub put-few : array_vec_len new.page.text ≤ array_vec_len old.page.text + 256
+  put-few = omega (arith, before.few, ap length all-done, ones-few (bit_or edges.first.rises edges.second.rises))

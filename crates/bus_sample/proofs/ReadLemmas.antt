@@ -1,9 +1,8 @@
 -- A recording, with octets more.
-use Rattle.std.proofs.Common.{replicate, ◌≡◌, ℕ, ◌+◌, ◌-◌, ◌<◌, ◌≤◌, List, [], ◌∷◌, ◌++◌, length, take, drop, refl, sym}
+use Rattle.std.proofs.Common.{◌≡◌, ℕ, ◌+◌, ◌-◌, ◌<◌, ◌≤◌, List, [], ◌∷◌, ◌++◌, length, take, drop, refl, sym}
 use Rattle.std.proofs.Common.{ap, ◌∙◌, arith, subst, append_assoc, length-append, Option, Result, Ok, Err, get_or}
-use Rattle.std.specs.Prelude.{MatchResult, slice_index}
+use Rattle.std.specs.Prelude.{MatchResult}
 use Rattle.bus_text.proofs.KnownBytesLemmas.{take_both}
-use Rattle.std.proofs.lemmas.List.{get_or-drop}
 use Rattle.std.proofs.lemmas.Grind.{common_steps}
 use Rattle.std.specs.Io.KnownBytes.{IsAtEnd}
 use Rattle.arrayvec.specs.ArrayVec.{array_vec_len}
@@ -113,35 +112,27 @@ ends-finishes after start now run xs (Err fault) end read cut =
       read,
     )
 
--- the octets so far, and some that are the same
-pub alike-next : (xs ys : List ℕ) (at n x : ℕ) → at < length ys → x ≡ get_or ys at 0 →
-    take n (take (length ys - at) (drop at ys)) ≡ replicate n (slice_index (take (length ys - at) (drop at ys)) 0) →
-    (xs ++ take at ys) ++ replicate n x ≡ xs ++ take (at + n) ys
-alike-next xs ys at n x inside is same =
+-- the octets so far, and some behind them
+pub behind-next : (xs ys : List ℕ) (at n : ℕ) → at ≤ length ys →
+    (xs ++ take at ys) ++ take n (take (length ys - at) (drop at ys)) ≡ xs ++ take (at + n) ys
+behind-next xs ys at n inside =
     let rest : take (length ys - at) (drop at ys) ≡ drop at ys = grind (arith, common_steps) in
-    let here : at + 0 ≡ at = omega arith in
-    let first : slice_index (drop at ys) 0 ≡ x =
-    get_or-drop at ys 0 0 ∙ (ap (λ i. get_or ys i 0) here ∙ sym is) in
-    let run : take n (drop at ys) ≡ replicate n x =
-    ap (take n) (sym rest) ∙ (same ∙ (ap (λ l. replicate n (slice_index l 0)) rest ∙ ap (replicate n) first)) in
-    append_assoc xs (take at ys) (replicate n x)
-    ∙ ap (λ l. xs ++ l) (ap (λ l. take at ys ++ l) (sym run) ∙ sym (take_both ys at n))
+    append_assoc xs (take at ys) (take n (take (length ys - at) (drop at ys)))
+    ∙ ap (λ l. xs ++ l) (ap (λ l. take at ys ++ take n l) rest ∙ sym (take_both ys at n))
 
-pub read-alike : (start now : Option (List ℕ)) (run : SampleRun) (xs ys : List ℕ) (at n x : ℕ) →
-    HasRead start now run ((xs ++ take at ys) ++ replicate n x) → at < length ys → x ≡ get_or ys at 0 →
-    take n (take (length ys - at) (drop at ys)) ≡ replicate n (slice_index (take (length ys - at) (drop at ys)) 0) →
-    HasRead start now run (xs ++ take (at + n) ys)
-read-alike start now run xs ys at n x read inside is same =
-    subst (λ l. HasRead start now run l) (alike-next xs ys at n x inside is same) read
-
-pub halts-alike : (start now : Option (List ℕ)) (run : SampleRun) (form : Form) (xs ys : List ℕ) (at n x : ℕ)
-    (fault : SampleFault) → 1 ≤ size_of form → at < length ys → x ≡ get_or ys at 0 →
-    take n (take (length ys - at) (drop at ys)) ≡ replicate n (slice_index (take (length ys - at) (drop at ys)) 0) →
-    StopsWith start now run (recorded form ((xs ++ take at ys) ++ replicate n x)) fault →
+pub halts-front : (start now : Option (List ℕ)) (run : SampleRun) (form : Form) (xs ys : List ℕ) (n : ℕ)
+    (fault : SampleFault) → 1 ≤ size_of form → StopsWith start now run (recorded form (xs ++ take n ys)) fault →
     StopsWith start now run (recorded form (xs ++ ys)) fault
-halts-alike start now run form xs ys at n x fault some inside is same halts =
-    let front = xs ++ take (at + n) ys in
-    let whole : front ++ drop (at + n) ys ≡ xs ++ ys = grind (arith, common_steps) in
+halts-front start now run form xs ys n fault some halts =
+    let front = xs ++ take n ys in
+    let whole : front ++ drop n ys ≡ xs ++ ys = grind (arith, common_steps) in
     halts-further start now run (recorded form front) (recorded form (xs ++ ys)) fault
-    (rw whole at (recorded-grows form front (drop (at + n) ys) some))
-    (rw (alike-next xs ys at n x inside is same) at halts)
+    (rw whole at (recorded-grows form front (drop n ys) some)) halts
+
+pub halts-behind : (start now : Option (List ℕ)) (run : SampleRun) (form : Form) (xs ys : List ℕ) (at : ℕ)
+    (fault : SampleFault) → at ≤ length ys →
+    StopsWith start now run (recorded form ((xs ++ take at ys) ++ take (length ys - at) (drop at ys))) fault →
+    StopsWith start now run (recorded form (xs ++ ys)) fault
+halts-behind start now run form xs ys at fault inside halts =
+    let whole : (xs ++ take at ys) ++ take (length ys - at) (drop at ys) ≡ xs ++ ys = grind (arith, common_steps) in
+    rw whole at halts

@@ -1,5 +1,5 @@
 -- The samples of octets, with one octet more.
-use Rattle.std.proofs.Common.{refl, replicate, zero, ◌≡◌, ℕ, suc, ◌+◌, ◌*◌, ◌/◌, ◌%◌, ◌<◌, ◌≤◌, List, [], ◌∷◌, ◌++◌}
+use Rattle.std.proofs.Common.{refl, ◌≡◌, ℕ, suc, ◌+◌, ◌*◌, ◌/◌, ◌%◌, ◌<◌, ◌≤◌, List, [], ◌∷◌, ◌++◌}
 use Rattle.std.proofs.Common.{length, take, drop, sym, ap, ◌∙◌, arith, append-nil, append_assoc, length-drop, inl, inr}
 use Rattle.std.specs.List.{flat_map}
 use Rattle.std.proofs.Math.Nat.{suc-mul}
@@ -144,17 +144,17 @@ one-more-sample xs x =
     ∙ ap (λ n. recorded (Samples 1) xs ++ n ∷ [])
     (ap (λ l. record_number (l ++ x ∷ [])) (one-cut xs) ∙ number-one x)
 
-pub alike-recorded : (form : Form) → form ≡ Samples 1 → (xs : List ℕ) (n x : ℕ) →
-    recorded form (xs ++ replicate n x) ≡ recorded form xs ++ replicate n x
-alike-recorded form is xs n x = rw is (go xs n)
+pub octets-recorded : (form : Form) → form ≡ Samples 1 → (xs ys : List ℕ) →
+    recorded form (xs ++ ys) ≡ recorded form xs ++ ys
+octets-recorded form is xs ys = rw is (go xs ys)
   where
-    go : (xs : List ℕ) (n : ℕ) → recorded (Samples 1) (xs ++ replicate n x) ≡ recorded (Samples 1) xs ++ replicate n x
-    go xs zero = ap (recorded (Samples 1)) (append-nil xs) ∙ sym (append-nil (recorded (Samples 1) xs))
-    go xs (suc n) =
-        ap (recorded (Samples 1)) (sym (append_assoc xs (x ∷ []) (replicate n x)))
-        ∙ (go (xs ++ x ∷ []) n
-        ∙ (ap (λ ss. ss ++ replicate n x) (one-more-sample xs x)
-        ∙ append_assoc (recorded (Samples 1) xs) (x ∷ []) (replicate n x)))
+    go : (xs ys : List ℕ) → recorded (Samples 1) (xs ++ ys) ≡ recorded (Samples 1) xs ++ ys
+    go xs [] = ap (recorded (Samples 1)) (append-nil xs) ∙ sym (append-nil (recorded (Samples 1) xs))
+    go xs (y ∷ ys) =
+        ap (recorded (Samples 1)) (sym (append_assoc xs (y ∷ []) ys))
+        ∙ (go (xs ++ y ∷ []) ys
+        ∙ (ap (λ ss. ss ++ ys) (one-more-sample xs y)
+        ∙ append_assoc (recorded (Samples 1) xs) (y ∷ []) ys))
 
-pub alike-cut : (form : Form) → form ≡ Samples 1 → (xs : List ℕ) → cut_record form xs ≡ []
-alike-cut form is xs = rw is (one-cut xs)
+pub octets-cut : (form : Form) → form ≡ Samples 1 → (xs : List ℕ) → cut_record form xs ≡ []
+octets-cut form is xs = rw is (one-cut xs)

@@ -2,9 +2,9 @@
 use Rattle.std.proofs.Common.{◌≡◌, ℕ, zero, suc, ◌+◌, ◌-◌, ◌≤◌, List, ◌∷◌, ◌++◌, length, map, replicate, refl, sym, ap}
 use Rattle.std.proofs.Common.{◌∙◌, arith, subst, length-append, append_assoc, append-nil, Option}
 use Rattle.std.proofs.lemmas.List.{map-append, length-replicate, length-map, replicate-append-replicate}
-use Rattle.bus_tap.specs.Sampled.{sampled, bits_of_edges}
+use Rattle.bus_tap.specs.Arrival.{Arrival}
+use Rattle.bus_tap.specs.Sampled.{sampled}
 use Rattle.bus_tap.specs.Tapped.{TapState, AdvancesTap, IsTapAfter, channels}
-use Rattle.bus_tap.specs.declared.sampler.Edges.{Edges}
 use Rattle.bus_sample.specs.Recording.{levels, arrivals}
 use Rattle.bus_sample.specs.Samples.{IsFrontOf}
 use Rattle.bus_sample.specs.Internal.Runs.{RunAfter, HasMarked}
@@ -15,39 +15,41 @@ map-same : (f : ℕ → ℕ) (n s : ℕ) → map f (replicate n s) ≡ replicate
 map-same f zero s = refl
 map-same f (suc n) s = ap (λ xs. f s ∷ xs) (map-same f n s)
 
-pub levels-run : (o : SampleOptions) (ss : List ℕ) (n s : ℕ) →
-    levels o (ss ++ replicate n s) ≡ levels o ss ++ replicate n (channels o.wires s)
-levels-run o ss n s =
-    map-append (channels o.wires) ss (replicate n s)
-    ∙ ap (λ xs. levels o ss ++ xs) (map-same (channels o.wires) n s)
+levels-run : (o : SampleOptions) (n s : ℕ) → levels o (replicate n s) ≡ replicate n (channels o.wires s)
+levels-run o n s = map-same (channels o.wires) n s
 
-module _ (o : SampleOptions) (old new : TapState) (ss : List ℕ) (n s l : ℕ) (e : Edges) (hold : old.hold ≡ o.hold)
-    (is : l ≡ channels o.wires s) (advances : AdvancesTap old (replicate n l) (bits_of_edges e) new)
-    (after : IsTapAfter old (levels o ss)) where
-  same-levels : levels o (ss ++ replicate n s) ≡ levels o ss ++ replicate n l
-  same-levels = levels-run o ss n s ∙ ap (λ x. levels o ss ++ replicate n x) (sym is)
+-- with these samples
+module _ (o : SampleOptions) (old new : TapState) (ss more : List ℕ) (xs : List Arrival) (hold : old.hold ≡ o.hold)
+    (advances : AdvancesTap old (levels o more) xs new) (after : IsTapAfter old (levels o ss)) where
+  same-levels : levels o (ss ++ more) ≡ levels o ss ++ levels o more
+  same-levels = map-append (channels o.wires) ss more
 
-  pub tap-more : IsTapAfter new (levels o (ss ++ replicate n s))
-  tap-more = subst (IsTapAfter new) (sym same-levels) (advances.after (levels o ss) after)
+  tap-with : IsTapAfter new (levels o (ss ++ more))
+  tap-with = subst (IsTapAfter new) (sym same-levels) (advances.after (levels o ss) after)
 
-  pub arrivals-more : arrivals o (ss ++ replicate n s) ≡ arrivals o ss ++ bits_of_edges e
-  arrivals-more =
+  pub arrivals-with : arrivals o (ss ++ more) ≡ arrivals o ss ++ xs
+  arrivals-with =
       ap (sampled o.hold) same-levels
-      ∙ subst (λ h. sampled h (levels o ss ++ replicate n l) ≡ sampled h (levels o ss) ++ bits_of_edges e) hold
+      ∙ subst (λ h. sampled h (levels o ss ++ levels o more) ≡ sampled h (levels o ss) ++ xs) hold
       (advances.sampled (levels o ss) after)
 
 -- and the text that was put
-pub taken-more : (start before now : Option (List ℕ)) (run new : SampleRun) (ss : List ℕ) (n s l : ℕ) (e : Edges) →
-    run.tap.hold ≡ run.options.hold → l ≡ channels run.options.wires s →
-    AdvancesTap run.tap (replicate n l) (bits_of_edges e) new.tap → RunAfter start before run ss →
-    new.options ≡ run.options →
-    HasMarked start now new.marks (arrivals run.options ss ++ bits_of_edges e) →
-    RunAfter start now new (ss ++ replicate n s)
-taken-more start before now run new ss n s l e hold is advances taken same marked =
+pub taken-with : (start before now : Option (List ℕ)) (run new : SampleRun) (ss more : List ℕ) (xs : List Arrival) →
+    run.tap.hold ≡ run.options.hold → AdvancesTap run.tap (levels run.options more) xs new.tap →
+    RunAfter start before run ss → new.options ≡ run.options →
+    HasMarked start now new.marks (arrivals run.options ss ++ xs) → RunAfter start now new (ss ++ more)
+taken-with start before now run new ss more xs hold advances taken same marked =
     rw same (record {
-      tap = tap-more run.options run.tap new.tap ss n s l e hold is advances taken.tap;
-      marks = rw (arrivals-more run.options run.tap new.tap ss n s l e hold is advances taken.tap) marked;
+      tap = tap-with run.options run.tap new.tap ss more xs hold advances taken.tap;
+      marks = rw (arrivals-with run.options run.tap new.tap ss more xs hold advances taken.tap) marked;
     })
+
+-- with samples that are the same
+module _ (o : SampleOptions) (old new : TapState) (n s l : ℕ) (xs : List Arrival) (is : l ≡ channels o.wires s)
+    (advances : AdvancesTap old (replicate n l) xs new) where
+  pub advances-run : AdvancesTap old (levels o (replicate n s)) xs new
+  advances-run =
+      subst (λ ls. AdvancesTap old ls xs new) (ap (replicate n) is ∙ sym (levels-run o n s)) advances
 
 pub count-of : (o : SampleOptions) (t : TapState) (ss : List ℕ) (n s : ℕ) → IsTapAfter t (levels o ss) →
     length (ss ++ replicate n s) ≡ t.samples + n

@@ -3,6 +3,7 @@
 ghost use Rattle.std.specs.Prelude.{◌≡◌, ◌+◌, ◌<◌, ◌≤◌, ◌^◌, ◌++◌, ◌∷◌, [], ℕ, List, Option, MatchResult, OnErr, OnOk};
 ghost use Rattle.arrayvec.specs.ArrayVec.{array_vec_len};
 ghost use Rattle.bus_tap.specs.Arrival.{Arrival};
+ghost use Rattle.bus_tap.specs.Blocks.{block_arrivals};
 ghost use Rattle.bus_tap.specs.Sampled.{bits_of_edges, bit_on};
 ghost use Rattle.bus_text.specs.Pages.{Pages};
 ghost use Rattle.bus_text.specs.Put.{TextStopsAt};
@@ -11,12 +12,15 @@ ghost use Rattle.bus_sample.specs.Internal.Runs.{HasMarked, length_of};
 ghost use Rattle.std.specs.Io.KnownBytes.{Appends};
 
 use bus_pairing::Line;
-use bus_tap::Edges;
+use bus_tap::{EdgeBlock, Edges, lowest_one};
 use bus_text::{Page, ShortWrite};
 use std::io::Write;
 
 /// Marks in a line of text.
 const WIDTH: u8 = 64;
+
+/// The marks of 0 and 1 on the second line.
+const SECOND: [u8; 2] = [b'o', b'i'];
 
 /// Writes arrivals as text.
 #[derive(Drop)]
@@ -26,13 +30,14 @@ pub(crate) struct Marks {
     column: u8,
 }
 
-/// The mark of a bit.
+/// The mark of a bit. No branch depends on the bit, which cannot be foreseen.
+#[inline(always)]
 fn mark(line: Line, bit: bool) -> u8
     ensures { result ≡ mark (line, bit) }
 {
     match line {
-        Line::First => { if bit { b'1' } else { b'0' } }
-        Line::Second => { if bit { b'i' } else { b'o' } }
+        Line::First => b'0' + u8::from(bit),
+        Line::Second => SECOND[usize::from(bit)],
     }
 }
 
@@ -64,7 +69,47 @@ impl Marks {
         Ok(())
     }
 
+    /// Puts the bits of 64 samples.
+    #[inline(always)]
+    pub(crate) fn put_block<W: Write>(
+        &mut self,
+        edges: &EdgeBlock,
+        w: &mut W,
+    ) -> Result<(), ShortWrite>
+        requires { length_of self.old < 2 ^ 90 }
+        ensures put { (start : Option (List ℕ)) (xs : List Arrival) →
+            HasMarked start (W.contents w.old) self.old xs → MatchResult result
+            (λ _. HasMarked start (W.contents w.new) self.new (xs ++ block_arrivals edges.now))
+            (λ cut. TextStopsAt start (W.contents w.new) (marks_text (xs ++ block_arrivals edges.now)) cut.sent) }
+        ensures few { OnOk result (length_of self.new ≤ length_of self.old + 256) }
+        ensures kept { OnErr result (self.new ≡ self.old) }
+    {
+        self.page.make_room(w)?;
+        self.put_edges(edges);
+        Ok(())
+    }
+
+    /// Puts the bits of 64 samples, for which there is room.
+    #[inline(always)]
+    fn put_edges(&mut self, edges: &EdgeBlock)
+        requires { array_vec_len self.old.page.text + 256 ≤ 16384 }
+        ensures put { (start now : Option (List ℕ)) (xs : List Arrival) → HasMarked start now self.old xs →
+            HasMarked start now self.new (xs ++ block_arrivals edges.now) }
+        ensures few { array_vec_len self.new.page.text ≤ array_vec_len self.old.page.text + 256 }
+        ensures written { self.new.page.written ≡ self.old.page.written }
+    {
+        let mut left = edges.first.rises | edges.second.rises;
+        while left != 0 {
+            let one = lowest_one(left);
+            let bits = edges.at(one.place);
+            self.put_bit(Line::First, bits.first);
+            self.put_bit(Line::Second, bits.second);
+            left = one.rest;
+        }
+    }
+
     /// Puts a bit of a line, if one arrives.
+    #[inline(always)]
     fn put_bit(&mut self, line: Line, bit: Option<bool>)
         requires { array_vec_len self.old.page.text + 2 ≤ 16384 }
         ensures put { (start now : Option (List ℕ)) (xs : List Arrival) → HasMarked start now self.old xs →

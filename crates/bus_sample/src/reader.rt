@@ -4,6 +4,7 @@ ghost use Rattle.std.specs.Prelude.{◌≡◌, ◌+◌, ◌-◌, ◌<◌, ◌≤
 ghost use Rattle.std.specs.Prelude.{OnOk, IfOk, IfErr};
 ghost use Rattle.std.specs.Prelude.{length, replicate, take, slice_index, IsTrue, ◌↔◌, Ok, Err};
 ghost use Rattle.std.specs.Io.KnownBytes.{Consumes};
+ghost use Rattle.bus_tap.specs.Blocks.{TakesBlocks};
 ghost use Rattle.bus_tap.specs.Tapped.{IsTapAfter, channels};
 ghost use Rattle.bus_sample.specs.Facts.{facts_text};
 ghost use Rattle.bus_sample.specs.Looks.{HasTold, LooksBy, IsToldInPart};
@@ -211,13 +212,95 @@ impl SampleRun {
         ensures options { self.new.options ≡ self.old.options }
         ensures sound { IsSoundRun self.new }
     {
+        let wires = self.options.wires;
         let mut at = 0;
         while at < octets.len() {
-            let count = alike(&octets[at..]);
-            self.consume_alike(octets[at], count, w)?;
-            at += count;
+            at += self.consume_front(&octets[at..], &wires, w)?;
         }
         Ok(())
+    }
+
+    /// Takes 64 samples of an octet each, or the first ones if they are the same. Returns how many.
+    #[inline(always)]
+    fn consume_front<W: Write>(
+        &mut self,
+        octets: &[u8],
+        wires: &Wires,
+        w: &mut W,
+    ) -> Result<usize, SampleFault>
+        requires wires { wires.now ≡ self.old.options.wires }
+        requires form { self.old.options.form ≡ Samples 1 }
+        requires sound { IsSoundRun self.old }
+        requires some { 1 ≤ length octets.now }
+        requires few { self.old.octets + length octets.now < 2 ^ 100 }
+        ensures read { (start : Option (List ℕ)) (xs : List ℕ) → HasRead start (W.contents w.old) self.old xs →
+            MatchResult result (λ n. HasRead start (W.contents w.new) self.new (xs ++ take n octets.now))
+            (λ fault. StopsWith start (W.contents w.new) self.new (recorded self.old.options.form (xs ++ octets.now))
+            fault) }
+        ensures count { IfOk result (λ n. (1 ≤ n) × (n ≤ length octets.now)
+            × (self.new.octets ≡ self.old.octets + n)) }
+        ensures options { self.new.options ≡ self.old.options }
+        ensures sound { IsSoundRun self.new }
+    {
+        if self.tap.takes_blocks() {
+            if let Some(block) = octets.first_chunk::<64>() {
+                self.consume_block(block, wires, w)?;
+                return Ok(64);
+            }
+        }
+        let count = alike(octets);
+        self.consume_alike(octets[0], count, w)?;
+        Ok(count)
+    }
+
+    /// Takes 64 samples of an octet each.
+    #[inline(always)]
+    fn consume_block<W: Write>(
+        &mut self,
+        octets: &[u8; 64],
+        wires: &Wires,
+        w: &mut W,
+    ) -> Result<(), SampleFault>
+        requires wires { wires.now ≡ self.old.options.wires }
+        requires form { self.old.options.form ≡ Samples 1 }
+        requires sound { IsSoundRun self.old }
+        requires takes { TakesBlocks self.old.tap }
+        requires few { self.old.octets + 64 < 2 ^ 100 }
+        ensures read { (start : Option (List ℕ)) (xs : List ℕ) → HasRead start (W.contents w.old) self.old xs →
+            MatchResult result (λ _. HasRead start (W.contents w.new) self.new (xs ++ octets.now))
+            (λ fault. StopsWith start (W.contents w.new) self.new (recorded self.old.options.form (xs ++ octets.now))
+            fault) }
+        ensures octets { self.new.octets ≡ self.old.octets + 64 }
+        ensures options { self.new.options ≡ self.old.options }
+        ensures sound { IsSoundRun self.new }
+    {
+        self.octets += 64;
+        self.put_block(octets, wires, w)
+    }
+
+    /// Takes 64 samples of an octet each, and puts the bits that arrive.
+    #[inline(always)]
+    fn put_block<W: Write>(
+        &mut self,
+        octets: &[u8; 64],
+        wires: &Wires,
+        w: &mut W,
+    ) -> Result<(), SampleFault>
+        requires wires { wires.now ≡ self.old.options.wires }
+        requires sound { IsSoundRun self.old }
+        requires takes { TakesBlocks self.old.tap }
+        ensures taken { (start : Option (List ℕ)) (ss : List ℕ) → RunAfter start (W.contents w.old) self.old ss →
+            MatchResult result (λ _. RunAfter start (W.contents w.new) self.new (ss ++ octets.now))
+            (λ fault. StopsWith start (W.contents w.new) self.new (ss ++ octets.now) fault) }
+        ensures same { IsSameRecord self.old self.new }
+        ensures sound { IsSoundRun self.new }
+    {
+        let block = wires.block(octets);
+        let edges = self.tap.consume_block(&block);
+        match self.marks.put_block(&edges, w) {
+            Ok(()) => Ok(()),
+            Err(cut) => Err(SampleFault::Write(cut.sent)),
+        }
     }
 
     /// Takes some samples of an octet each, which are the same.

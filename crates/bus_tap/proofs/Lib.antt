@@ -11,3 +11,8 @@ pub mod CountedLemmas
 pub mod FactsLemmas
 pub mod TapLemmas
 pub mod HeldLemmas
+pub mod OnesLemmas
+mod CarryLemmas
+mod CountedBlockLemmas
+pub mod BlockLemmas
+mod WireLemmas

@@ -70,7 +70,7 @@ same-bool false false same = refl
 same-bool true false same = absurd (cc)
 same-bool false true same = absurd (cc)
 
-other-bool : (x y : Bool) → beq x y ≡ false → x ≡ not y
+pub other-bool : (x y : Bool) → beq x y ≡ false → x ≡ not y
 other-bool true true other = absurd (cc)
 other-bool false false other = absurd (cc)
 other-bool true false other = refl
@@ -99,7 +99,7 @@ stood-not channel ss i (suc hold) j some within other = elim (cases_lt j (suc ho
     and-none true none = none
     and-none false none = refl
 
-not-not : (x y : Bool) → x ≡ not y → y ≡ not x
+pub not-not : (x y : Bool) → x ≡ not y → y ≡ not x
 not-not true true other = absurd (cc)
 not-not false false other = absurd (cc)
 not-not true false other = refl
@@ -109,7 +109,7 @@ if-both : (b x y z : Bool) → x ≡ z → y ≡ z → (if b then x else y) ≡ 
 if-both true x y z one other = one
 if-both false x y z one other = other
 
-counted-at : (hold : ℕ) (channel : Channel) (ss : List ℕ) (i : ℕ) → 1 ≤ i → counted_level hold channel ss i
+pub counted-at : (hold : ℕ) (channel : Channel) (ss : List ℕ) (i : ℕ) → 1 ≤ i → counted_level hold channel ss i
     ≡ (if stood channel ss i hold then level channel ss i else counted_level hold channel ss (i - 1))
 counted-at hold channel ss zero some = absurd (omega (arith, some))
 counted-at hold channel ss (suc i) some =
@@ -213,7 +213,7 @@ module _ (hold : ℕ) (channel : Channel) (h : HeldState) (ss : List ℕ) (s : �
           (omega (arith, after.within, eqb-false h.others hold full))
 
 -- the bit of a line at the last sample
-bit-if : (line : Line) (b x : Bool) →
+pub bit-if : (line : Line) (b x : Bool) →
     bit_on line (if b then Some x else None) ≡ (if b then (line, x) ∷ [] else [])
 bit-if line true x = refl
 bit-if line false x = refl

@@ -3,3 +3,4 @@ pub mod RestView
 pub mod Held
 pub mod Tallies
 pub mod Taps
+pub mod Counts

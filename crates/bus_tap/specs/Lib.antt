@@ -8,5 +8,6 @@ pub mod Sampled
 pub mod Facts
 pub mod Tapped
 pub mod Words
+pub mod Blocks
 pub mod Recorded
 pub mod Internal

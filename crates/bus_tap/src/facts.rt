@@ -3,9 +3,13 @@
 ghost use Rattle.std.specs.Prelude.{◌≡◌, ◌+◌, ◌-◌, ◌≤◌, ◌<◌, ◌^◌, ◌&&◌, not, ◌++◌, ◌∷◌, [], List, ℕ, length};
 ghost use Rattle.std.specs.Prelude.{if◌then◌else◌, Some, None};
 ghost use Rattle.bus_tap.specs.Facts.{AreFactsOf, AreWithin, IsTallied, IsLongest, spacing, jumps};
+ghost use Rattle.bus_tap.specs.Blocks.{has_bit};
+ghost use Rattle.bus_tap.specs.Internal.Counts.{AdvancesFactsBy, AreBitFacts, marked};
 ghost use Rattle.bus_tap.specs.Internal.Tallies.{where_is, AdvancesFacts};
 ghost use Rattle.bus_tap.specs.Internal.Held.{levels_in};
 ghost use Rattle.bus_pairing.specs.declared.line.Line.TheVariants.{First};
+
+use crate::block::{CountedLine, lowest_one};
 
 /// Samples in which something happens. Samples are numbered from 0. The layout is C's.
 #[repr(C)]
@@ -49,6 +53,25 @@ impl Occurrences {
         }
         self.last = sample;
         self.count += 1;
+    }
+
+    /// It happens in these samples of 64, too, the first of which is `from`.
+    #[inline(always)]
+    fn note_block(&mut self, word: u64, from: u64)
+        requires count { self.old.count ≤ 2 ^ 60 }
+        requires few { from ≤ 2 ^ 60 }
+        ensures tallied { (es : List ℕ) → IsTallied self.old es
+            → IsTallied self.new (es ++ marked from (has_bit word)) }
+        ensures count { self.new.count ≤ self.old.count + 64 }
+    {
+        if word == 0 {
+            return;
+        }
+        if self.count == 0 {
+            self.first = from + u64::from(word.trailing_zeros());
+        }
+        self.last = from + u64::from(63 - word.leading_zeros());
+        self.count += u64::from(word.count_ones());
     }
 }
 
@@ -167,7 +190,48 @@ impl LineFacts {
         }
     }
 
+    /// The levels before each of 64 samples and at it, the first of which is `from`.
+    #[inline(always)]
+    pub(crate) fn note_block(&mut self, from: u64, counted: CountedLine, jump: u64)
+        requires few { from + 64 ≤ 2 ^ 60 }
+        requires within { AreWithin self.old from }
+        ensures facts { AdvancesFactsBy jump self.old from counted self.new }
+        ensures within { AreWithin self.new (from + 64) }
+    {
+        let (before, after) = (counted.before, counted.after);
+        let turned = before.clock ^ after.clock;
+        let changed = before.bits ^ after.bits;
+        self.clock_changes.note_block(turned, from);
+        self.data_changes.note_block(changed, from);
+        self.data_changes_high
+            .note_block(changed & after.clock, from);
+        self.note_bits(turned & after.clock, from, jump);
+    }
+
+    /// Bits arrive in these samples of 64, the first of which is `from`.
+    #[inline(always)]
+    fn note_bits(&mut self, rises: u64, from: u64, jump: u64)
+        requires few { from + 64 ≤ 2 ^ 60 }
+        requires bits { (self.old.bits.count ≤ from) × (self.old.bits.last ≤ from) }
+        requires jumps { self.old.jumps.count ≤ from }
+        ensures facts { (es : List ℕ) → AreBitFacts jump self.old es
+            → AreBitFacts jump self.new (es ++ marked from (has_bit rises)) }
+        ensures others { (self.new.clock_changes ≡ self.old.clock_changes)
+            × (self.new.data_changes ≡ self.old.data_changes)
+            × (self.new.data_changes_high ≡ self.old.data_changes_high) }
+        ensures counts { (self.new.bits.count ≤ from + 64) × (self.new.bits.last ≤ from + 64)
+            × (self.new.jumps.count ≤ from + 64) }
+    {
+        let mut left = rises;
+        while left != 0 {
+            let one = lowest_one(left);
+            self.note_bit(from + u64::from(one.place), jump);
+            left = one.rest;
+        }
+    }
+
     /// A bit arrives in this sample.
+    #[inline(always)]
     fn note_bit(&mut self, sample: u64, jump: u64)
         requires few { sample < 2 ^ 60 }
         requires bits { (self.old.bits.count ≤ sample) × (self.old.bits.last ≤ sample) }

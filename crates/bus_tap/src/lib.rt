@@ -2,6 +2,7 @@
 //! second line's bits, and the rule by which that line comes to rest.
 #![tactic(auto)]
 
+mod block;
 mod facts;
 pub mod laws;
 mod number;
@@ -12,6 +13,7 @@ mod tap;
 mod wires;
 mod words;
 
+pub use block::{EdgeBlock, LevelBlock, LineBlock, LineEdges, LowestOne, lowest_one};
 pub use facts::{Gap, Levels, LineFacts, Occurrences, TapFacts};
 pub use number::number_of;
 pub use places::BitPlaces;

@@ -1,12 +1,16 @@
 //! Bits from samples of four channels.
 
-ghost use Rattle.std.specs.Prelude.{◌≡◌, ◌+◌, ◌≤◌, ◌/◌, ◌%◌, ◌==◌, ◌&&◌, ◌++◌, ◌∷◌, [], List, ℕ, not, Some, None};
-ghost use Rattle.std.specs.Prelude.{if◌then◌else◌};
+ghost use Rattle.std.specs.Prelude.{◌≡◌, ◌+◌, ◌≤◌, ◌/◌, ◌%◌, ◌==◌, ◌&&◌, ◌++◌, ◌∷◌, [], List, ℕ};
+ghost use Rattle.std.specs.Prelude.{if◌then◌else◌, length, not, Some, None};
 ghost use Rattle.bus_pairing.specs.declared.line.Line.TheVariants.{First};
 ghost use Rattle.std.specs.Prelude.{IsTrue};
+ghost use Rattle.bus_tap.specs.Blocks.{HasLevels, IsBlockOf};
+ghost use Rattle.bus_tap.specs.Internal.Counts.{AreCounted, CountsLine, HadCounted, HasCounted};
 ghost use Rattle.bus_tap.specs.Internal.Held.{held_state, next_state, held_clock, held_data, no_edges, AreHeldAt};
-ghost use Rattle.bus_tap.specs.Sampled.{IsAfterSamples, sampled, bits_of_edges, clock_of, data_of};
+ghost use Rattle.bus_tap.specs.Sampled.{Channel, IsAfterSamples, IsHeldAfter, sampled, bits_of_edges};
+ghost use Rattle.bus_tap.specs.Sampled.{clock_of, data_of};
 
+use crate::block::{CountedBlock, CountedLine, LevelBlock, LineBlock};
 use crate::facts::Levels;
 use bus_pairing::Line;
 use std::marker::Model;
@@ -70,6 +74,42 @@ impl HeldLevel {
             self.others += 1;
         }
     }
+
+    /// 64 samples of these levels. Returns those that count, before each sample and at it.
+    ///
+    /// The level that counts at a sample is what two of three have: this sample, that before, and what counted there.
+    /// So it is the carry where the levels and those a sample earlier are added. Where each level counts at once, the
+    /// levels are added to themselves.
+    #[inline(always)]
+    fn take(&mut self, levels: u64, hold: u32) -> CountedWord
+        requires { hold ≤ 1 }
+        ensures taken { (channel : Channel) (ss more : List ℕ) → length more ≡ 64 → HasLevels levels channel more
+            → IsHeldAfter hold channel (held_state self.old) ss
+            → IsHeldAfter hold channel (held_state self.new) (ss ++ more)
+            × HadCounted result.before hold channel ss more × HasCounted result.after hold channel ss more }
+        ensures within { self.new.others ≤ hold }
+    {
+        let earlier = if hold == 0 {
+            levels
+        } else {
+            levels << 1 | u64::from(self.level != (self.others != 0))
+        };
+        let sum = levels
+            .wrapping_add(earlier)
+            .wrapping_add(u64::from(self.level));
+        let before = sum ^ levels ^ earlier;
+        let after = levels & earlier | before & (levels | earlier);
+        self.level = (after >> 63) % 2 == 1;
+        self.others = u32::from(self.level != ((levels >> 63) % 2 == 1));
+        CountedWord { before, after }
+    }
+}
+
+/// The levels of a channel that count, before each of 64 samples and at it.
+#[derive(Clone, Copy)]
+pub(crate) struct CountedWord {
+    before: u64,
+    after: u64,
 }
 
 /// The two channels of a line.
@@ -133,6 +173,34 @@ impl LineLevels {
             None
         }
     }
+
+    /// 64 samples of these levels.
+    #[inline(always)]
+    fn take(&mut self, levels: LineBlock, hold: u32) -> CountedLine
+        requires { hold ≤ 1 }
+        ensures taken { (clock bits : Channel) (ss more : List ℕ) → length more ≡ 64
+            → HasLevels levels.clock clock more → HasLevels levels.bits bits more
+            → IsHeldAfter hold clock (held_state self.old.clock) ss
+            → IsHeldAfter hold bits (held_state self.old.bits) ss
+            → IsHeldAfter hold clock (held_state self.new.clock) (ss ++ more)
+            × IsHeldAfter hold bits (held_state self.new.bits) (ss ++ more)
+            × CountsLine hold clock bits ss more result }
+        ensures clock_within { self.new.clock.others ≤ hold }
+        ensures bits_within { self.new.bits.others ≤ hold }
+    {
+        let clock = self.clock.take(levels.clock, hold);
+        let bits = self.bits.take(levels.bits, hold);
+        CountedLine {
+            before: LineBlock {
+                clock: clock.before,
+                bits: bits.before,
+            },
+            after: LineBlock {
+                clock: clock.after,
+                bits: bits.after,
+            },
+        }
+    }
 }
 
 /// Finds the bits of two lines in the samples of a logic analyser. Where a line's clock rises, a bit of it arrives: the
@@ -187,6 +255,20 @@ impl Sampler {
         Edges {
             first: self.first.sample(sample, self.hold),
             second: self.second.sample(sample / 4, self.hold),
+        }
+    }
+
+    /// The next 64 samples. Returns the levels that count.
+    #[inline(always)]
+    pub(crate) fn take(&mut self, block: &LevelBlock) -> CountedBlock
+        requires { self.old.hold ≤ 1 }
+        ensures taken { (ss more : List ℕ) → IsBlockOf block.now more → IsAfterSamples self.old ss
+            → IsAfterSamples self.new (ss ++ more) × AreCounted self.old.hold ss more result }
+        ensures hold { self.new.hold ≡ self.old.hold }
+    {
+        CountedBlock {
+            first: self.first.take(block.first, self.hold),
+            second: self.second.take(block.second, self.hold),
         }
     }
 

@@ -1,15 +1,18 @@
 //! Bits from the samples of a recording, and what is counted in these.
 
 ghost use Rattle.std.specs.Prelude.{◌≡◌, ◌+◌, ◌-◌, ◌<◌, ◌≤◌, ◌↔◌, ◌++◌, ◌∷◌, [], List, ℕ, IfOk, IsErr, OnErr, IsTrue};
-ghost use Rattle.std.specs.Prelude.{IfSome};
+ghost use Rattle.std.specs.Prelude.{IfSome, MatchOption};
 ghost use Rattle.std.specs.Prelude.{replicate, length, Some, None};
 ghost use Rattle.bus_bits.specs.Limits.{most_places};
 ghost use Rattle.bus_tap.specs.Sampled.{sampled, bits_of_edges};
 ghost use Rattle.bus_tap.specs.Tapped.{AdvancesTap, HasSampled, IsTapAfter};
+ghost use Rattle.bus_tap.specs.Blocks.{IsBlockOf, TakesBlocks, block_arrivals};
 ghost use Rattle.bus_tap.specs.Facts.{AreLevels, AreTapFacts};
+ghost use Rattle.bus_tap.specs.Internal.Counts.{AreCounted};
 ghost use Rattle.bus_tap.specs.Internal.Taps.{HasHold, IsSettledTap};
 ghost use Rattle.bus_pairing.specs.declared.line.Line.TheVariants.{First, Second};
 
+use crate::block::{CountedBlock, EdgeBlock, LevelBlock};
 use crate::facts::{Levels, LineFacts, TapFacts};
 use crate::sampler::{Edges, Sampler};
 use bus_pairing::Line;
@@ -122,6 +125,20 @@ fn step_sampler(sampler: &mut Option<Sampler>, hold: u32, sample: u8) -> Step
     }
 }
 
+/// Gives a sampler 64 samples.
+#[inline(always)]
+fn take_block(sampler: &mut Option<Sampler>, block: &LevelBlock) -> CountedBlock
+    requires { MatchOption sampler.old ⊥ (λ s. s.hold ≤ 1) }
+    ensures taken { (hold : ℕ) (ss more : List ℕ) → IsBlockOf block.now more → HasSampled hold sampler.old ss
+        → HasSampled hold sampler.new (ss ++ more) × AreCounted hold ss more result }
+    ensures alike { (hold : ℕ) → HasHold hold sampler.old → HasHold hold sampler.new }
+{
+    match sampler {
+        None => CountedBlock::NONE,
+        Some(sampler) => sampler.take(block),
+    }
+}
+
 impl Tap {
     /// Before the first sample. A level counts once it stood in `hold` + 1 samples in a row. Where the distance of two
     /// bits differs by more than `jump` samples from the one before, that is a jump.
@@ -206,6 +223,35 @@ impl Tap {
         ConsumedSamples {
             samples: count,
             edges: Edges::NONE,
+        }
+    }
+
+    /// Whether it takes blocks now. It does after the first sample, where each level counts at once or once it stood in
+    /// two samples, and with room for 64 samples more.
+    #[inline(always)]
+    pub fn takes_blocks(&self) -> bool
+        ensures { IsTrue result → TakesBlocks self.now }
+    {
+        self.hold <= 1 && self.samples <= MOST - 64 && self.sampler.is_some()
+    }
+
+    /// Takes 64 samples. Returns the bits that arrive with them.
+    #[inline(always)]
+    pub fn consume_block(&mut self, block: &LevelBlock) -> EdgeBlock
+        requires { TakesBlocks self.old }
+        ensures taken { (ss : List ℕ) → IsBlockOf block.now ss
+            → AdvancesTap self.old ss (block_arrivals result) self.new }
+        ensures samples { self.new.samples ≡ self.old.samples + 64 }
+    {
+        let counted = take_block(&mut self.sampler, block);
+        let from = self.samples;
+        self.still = None;
+        self.first.note_block(from, counted.first, self.jump);
+        self.second.note_block(from, counted.second, self.jump);
+        self.samples += 64;
+        EdgeBlock {
+            first: counted.first.edges(),
+            second: counted.second.edges(),
         }
     }
 

@@ -1,7 +1,11 @@
 //! The wires of a recording.
 
-ghost use Rattle.std.specs.Prelude.{◌≡◌, ◌^◌, ◌/◌, ◌%◌, ◌==◌};
+ghost use Rattle.std.specs.Prelude.{◌≡◌, ◌^◌, ◌/◌, ◌%◌, ◌==◌, ◌<◌, ℕ, map, slice_index};
+ghost use Rattle.bus_tap.specs.Blocks.{IsBlockOf, has_bit};
 ghost use Rattle.bus_tap.specs.Tapped.{channels, wire_level};
+
+use crate::block::{LevelBlock, LineBlock};
+use std::simd::prelude::*;
 
 /// A wire, which is a bit of each sample of a recording.
 #[derive(Clone, Copy, Debug, PartialEq, Eq)]
@@ -44,6 +48,34 @@ fn level(wire: Option<Wire>, sample: u64) -> bool
     }
 }
 
+/// A bit of each of 64 octets.
+#[inline(always)]
+fn bits(octets: &[u8; 64], at: u8) -> u64
+    requires { (i : ℕ) → slice_index octets.now i < 256 }
+    ensures { (i : ℕ) → i < 64 → has_bit result i ≡ (slice_index octets.now i / 2 ^ at % 2 == 1) }
+{
+    if at >= 8 {
+        return 0;
+    }
+    let mask = 1 << at;
+    let found = u8x64::from_array(*octets) & u8x64::splat(mask);
+    found.simd_eq(u8x64::splat(mask)).to_bitmask()
+}
+
+/// The levels of a wire in 64 samples of an octet each.
+#[inline(always)]
+fn levels(wire: Option<Wire>, octets: &[u8; 64]) -> u64
+    ensures { (i : ℕ) → i < 64 → has_bit result i ≡ wire_level wire (slice_index octets.now i) }
+{
+    match wire {
+        None => 0,
+        Some(wire) => {
+            let word = bits(octets, wire.number);
+            if wire.is_inverted { !word } else { word }
+        }
+    }
+}
+
 impl Wires {
     /// A sample of a recording as a sampler takes it: the levels of the first line's clock and data in its bits 0 and
     /// 1, and those of the second line in bits 2 and 3.
@@ -64,5 +96,22 @@ impl Wires {
             levels += 8;
         }
         levels
+    }
+
+    /// The levels in 64 samples of an octet each.
+    #[inline(always)]
+    pub fn block(&self, octets: &[u8; 64]) -> LevelBlock
+        ensures { IsBlockOf result (map (channels self.now) octets.now) }
+    {
+        LevelBlock {
+            first: LineBlock {
+                clock: levels(self.first_clock, octets),
+                bits: levels(self.first_data, octets),
+            },
+            second: LineBlock {
+                clock: levels(self.second_clock, octets),
+                bits: levels(self.second_data, octets),
+            },
+        }
     }
 }

@@ -2,6 +2,7 @@
 
 ghost use Rattle.std.specs.Prelude.{◌<◌, ◌-◌, ◌^◌};
 
+mod blocks;
 mod rests;
 mod runs;
 mod samples;

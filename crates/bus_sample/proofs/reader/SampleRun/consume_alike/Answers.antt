@@ -1,7 +1,7 @@
 use Rattle.std.proofs.Common.{◌++◌, replicate, ap, ◌∙◌, arith, length-append}
 use Rattle.std.proofs.lemmas.List.{length-replicate}
 use Rattle.bus_sample.specs.Recording.{recorded}
-use Rattle.bus_sample.proofs.RecordLemmas.{alike-recorded, alike-cut}
+use Rattle.bus_sample.proofs.RecordLemmas.{octets-recorded, octets-cut}
 use Rattle.bus_sample.proofs.ReadLemmas.{read-whole}
 use Rattle.bus_sample.proofs.reader.SampleRun.consume_alike.Goals as goal
 
@@ -16,7 +16,7 @@ returns-clause-read g c = λ start xs read.
     (record { tap = read.taken.tap; marks = read.taken.marks }) in
     read-whole start (g.W.Write.contents c.consume_run.new.w) c.consume_run.new.self form (xs ++ replicate n x)
     (recorded form xs ++ replicate n x) c.consume_run.result (ap (λ o. o.form) same.2)
-    (alike-recorded form c.requires.form xs n x) (alike-cut form c.requires.form (xs ++ replicate n x))
-    (ap (λ p. p.items) same.0 ∙ (read.part ∙ alike-cut form c.requires.form xs))
+    (octets-recorded form c.requires.form xs (replicate n x)) (octets-cut form c.requires.form (xs ++ replicate n x))
+    (ap (λ p. p.items) same.0 ∙ (read.part ∙ octets-cut form c.requires.form xs))
     (omega (arith, same.1, read.octets, length-append xs (replicate n x), length-replicate n x))
     taken

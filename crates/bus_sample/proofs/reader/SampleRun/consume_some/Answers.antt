@@ -3,7 +3,7 @@ use Rattle.bus_tap.specs.Sampled.{bits_of_edges}
 use Rattle.bus_sample.specs.Recording.{arrivals}
 use Rattle.bus_sample.specs.Internal.Runs.{HasMarked}
 use Rattle.std.proofs.lemmas.List.{length-replicate}
-use Rattle.bus_sample.proofs.RunLemmas.{taken-more, arrivals-more, count-of, run-front}
+use Rattle.bus_sample.proofs.RunLemmas.{advances-run, arrivals-with, taken-with, count-of, run-front}
 use Rattle.bus_sample.proofs.reader.SampleRun.consume_some.Goals as goal
 
 pub returns-in-Err-clause-taken : goal.returns-in-Err-clause-taken
@@ -21,9 +21,12 @@ returns-in-Err-clause-taken g c = λ sample is start ss taken. (
 pub returns-in-Ok-put-clause-taken : goal.returns-in-Ok-put-clause-taken
 returns-in-Ok-put-clause-taken g c = λ sample is start ss taken.
     let self = c.args.self.now in
-    taken-more start (g.W.Write.contents c.args.w.now) (g.W.Write.contents c.put.new.w) self _ ss
-    c.in-Ok.taken.samples sample _ c.in-Ok.taken.edges c.requires.sound.given.0 is
-    c.in-Ok.ensures.taken.2 taken refl (c.in-Ok-put.ensures.put start _ taken.marks)
+    let n = c.in-Ok.taken.samples in
+    let xs = bits_of_edges c.in-Ok.taken.edges in
+    taken-with start (g.W.Write.contents c.args.w.now) (g.W.Write.contents c.put.new.w) self _ ss (replicate n sample)
+    xs c.requires.sound.given.0
+    (advances-run self.options self.tap c.consume.new.self n sample c.args.levels xs is c.in-Ok.ensures.taken.2) taken
+    refl (c.in-Ok-put.ensures.put start _ taken.marks)
 
 pub returns-in-Ok-put-clause-sound : goal.returns-in-Ok-put-clause-sound
 returns-in-Ok-put-clause-sound g c =
@@ -60,12 +63,14 @@ returns-in-Err-put-clause-sound g c =
 pub returns-in-Err-put-clause-taken : goal.returns-in-Err-put-clause-taken
 returns-in-Err-put-clause-taken g c = λ sample is start ss taken.
     let self = c.args.self.now in
+    let xs = bits_of_edges c.in-Ok.taken.edges in
     let n = c.in-Ok.taken.samples in (
       ss ++ replicate n sample,
       run-front ss c.args.count n sample c.in-Ok.ensures.taken.0,
-      rw (arrivals-more self.options self.tap c.consume.new.self ss n sample _ c.in-Ok.taken.edges
-          c.requires.sound.given.0 is c.in-Ok.ensures.taken.2 taken.tap)
-          (c.in-Err-put.ensures.put start _ taken.marks),
+      rw (arrivals-with self.options self.tap c.consume.new.self ss (replicate n sample) xs
+          c.requires.sound.given.0
+          (advances-run self.options self.tap c.consume.new.self n sample c.args.levels xs is
+          c.in-Ok.ensures.taken.2) taken.tap) (c.in-Err-put.ensures.put start _ taken.marks),
     )
 
 pub returns-then-is_none-clause-taken : goal.returns-then-is_none-clause-taken
@@ -76,5 +81,8 @@ returns-then-is_none-clause-taken g c = λ sample is start ss taken.
     let marked : HasMarked start w self.marks (arrivals self.options ss ++ bits_of_edges c.in-Ok.taken.edges) =
     subst (λ xs. HasMarked start w self.marks (arrivals self.options ss ++ xs)) (sym none)
     (rw (append-nil (arrivals self.options ss)) taken.marks) in
-    taken-more start w w self _ ss c.in-Ok.taken.samples sample _ c.in-Ok.taken.edges
-    c.requires.sound.given.0 is c.in-Ok.ensures.taken.2 taken refl marked
+    let n = c.in-Ok.taken.samples in
+    let xs = bits_of_edges c.in-Ok.taken.edges in
+    taken-with start w w self _ ss (replicate n sample) xs c.requires.sound.given.0
+    (advances-run self.options self.tap c.consume.new.self n sample c.args.levels xs is c.in-Ok.ensures.taken.2) taken
+    refl marked

@@ -1,0 +1,166 @@
+//! Samples by 64, beside the same by one.
+
+use crate::expect::{holds, same};
+use bus_tap::{Edges, Tap, Wire, Wires};
+use std::alloc::Global;
+use std::process::Abort;
+
+/// How many samples a recording has.
+const SAMPLES: usize = 200;
+
+/// Clock and data of the first line and of the second: the number of each wire, and whether it is inverted.
+const WIRES: [[Option<(u8, bool)>; 4]; 4] = [
+    [
+        Some((0, false)),
+        Some((1, false)),
+        Some((2, false)),
+        Some((3, false)),
+    ],
+    [
+        Some((7, true)),
+        Some((2, true)),
+        Some((0, true)),
+        Some((5, false)),
+    ],
+    // one clock for both lines, and a bit that an octet does not have
+    [
+        Some((1, false)),
+        Some((4, false)),
+        Some((1, false)),
+        Some((8, true)),
+    ],
+    [Some((6, false)), Some((6, true)), None, None],
+];
+
+/// A wire of a row.
+fn wire(told: Option<(u8, bool)>) -> Option<Wire> {
+    told.map(|(number, is_inverted)| Wire {
+        number,
+        is_inverted,
+    })
+}
+
+/// For at most how many samples the wires stand: with 2 there are glitches most of the time.
+const STAND: [usize; 3] = [2, 6, 50];
+
+/// The next of the numbers that begin with a seed.
+fn next(state: &mut u64) -> usize {
+    *state = state
+        .wrapping_mul(6364136223846793005)
+        .wrapping_add(1442695040888963407);
+    (*state >> 40) as usize
+}
+
+/// Octets of which one bit changes after at most so many.
+fn recording(rt: &impl Abort, alloc: Global, stand: usize) -> Vec<u8> {
+    let mut samples = Vec::new(alloc);
+    let mut state = 7;
+    let mut levels: u8 = 0;
+    let mut left: usize = 0;
+    for _ in 0..SAMPLES {
+        if left == 0 {
+            levels ^= 1 << (next(&mut state) % 8);
+            left = 1 + next(&mut state) % stand.max(1);
+        }
+        left = left.saturating_sub(1);
+        samples.push(levels).expect(rt, "memory");
+    }
+    samples
+}
+
+/// A tap, and the bits that it found: `0` and `1` on the first line, `o` and `i` on the second.
+#[derive(Drop)]
+struct Taken {
+    tap: Tap,
+    text: String,
+}
+
+impl Taken {
+    fn new(alloc: Global, hold: u32) -> Self {
+        Taken {
+            tap: Tap::new(hold, 2),
+            text: String::new(alloc),
+        }
+    }
+
+    fn mark(&mut self, rt: &impl Abort, edges: Edges) {
+        if let Some(bit) = edges.first {
+            self.text
+                .push_str(if bit { "1" } else { "0" })
+                .expect(rt, "text");
+        }
+        if let Some(bit) = edges.second {
+            self.text
+                .push_str(if bit { "i" } else { "o" })
+                .expect(rt, "text");
+        }
+    }
+
+    /// Takes samples by one.
+    fn take(&mut self, rt: &impl Abort, wires: &Wires, samples: &[u8]) {
+        for sample in samples {
+            let levels = wires.channels(u64::from(*sample));
+            let taken = self.tap.consume(levels, 1).expect(rt, "few samples");
+            self.mark(rt, taken.edges);
+        }
+    }
+
+    /// Takes samples by 64, and those behind by one.
+    fn take_blocks(&mut self, rt: &impl Abort, wires: &Wires, samples: &[u8]) {
+        let mut rest = samples;
+        for _ in 0..SAMPLES {
+            let Some(block) = rest.first_chunk::<64>() else {
+                break;
+            };
+            assert!(rt; self.tap.takes_blocks());
+            let edges = self.tap.consume_block(&wires.block(block));
+            for sample in 0..64u32 {
+                self.mark(rt, edges.at(sample));
+            }
+            rest = &rest[64..];
+        }
+        self.take(rt, wires, rest);
+    }
+}
+
+/// However a recording is cut, blocks bring the bits and the facts of its samples.
+#[test]
+fn blocks_of_samples(rt: HostRuntime) {
+    let alloc = rt.alloc();
+    for stand in STAND {
+        let samples = recording(&rt, alloc, stand);
+        for row in WIRES {
+            let [first_clock, first_data, second_clock, second_data] = row;
+            let wires = Wires {
+                first_clock: wire(first_clock),
+                first_data: wire(first_data),
+                second_clock: wire(second_clock),
+                second_data: wire(second_data),
+            };
+            for hold in 0..2u32 {
+                let mut want = Taken::new(alloc, hold);
+                want.take(&rt, &wires, &samples);
+                for cut in 1..=64usize {
+                    let case = format_args!("hold {hold}, up to {stand} alike, cut at {cut}");
+                    let mut taken = Taken::new(alloc, hold);
+                    let (front, rest) = samples.split_at_checked(cut).expect(&rt, "samples");
+                    taken.take(&rt, &wires, front);
+                    taken.take_blocks(&rt, &wires, rest);
+                    same(&rt, taken.text.as_str(), want.text.as_str(), &case);
+                    same(&rt, taken.tap.facts(), want.tap.facts(), &case);
+                }
+            }
+        }
+    }
+}
+
+/// Blocks are for taps with a sample, whose levels count after one sample more or at once.
+#[test]
+fn taps_that_take_blocks(rt: HostRuntime) {
+    for hold in 0..4u32 {
+        let mut tap = Tap::new(hold, 2);
+        holds(&rt, !tap.takes_blocks(), "no sample");
+        tap.consume(0, 1).expect(&rt, "few samples");
+        same(&rt, tap.takes_blocks(), hold < 2, "a sample");
+    }
+}
