@@ -3,8 +3,7 @@
  *     generate BITS SEED KIND text|packed [LINE]
  *     generate dictionary TYPES
  *
- * BITS is the number of bits, of two lines that of pairs of bits; LINE how many a line of text has, 80 unless given. The
- * kinds:
+ * BITS is the number of bits, of `pairs` that of pairs; LINE how many a line of text has, 80 unless given. The kinds:
  *
  *     polling    commands to stations, answers, idle lines; one frame in twenty has one bit flipped
  *     random     random bits
@@ -20,6 +19,7 @@
  *     pairs      polling on two lines: commands on the first, answers on the second; each rests at 1
  *                while the other sends
  *     arrivals   the same as bits in the order of arrival, one of each line in turn
+ *     gated      the same, with bits of the second line only while it sends
  *     first      the first line of `pairs`, alone
  *     second     the second
  *
@@ -31,7 +31,7 @@
 #include <string.h>
 
 static uint64_t state, left;
-static int packed, two, alone, in_turn, sender, fill, held;
+static int packed, two, alone, arrive, gated, sender, fill, held;
 static unsigned marks, line = 80, types;
 
 static uint32_t draw(uint32_t below) {
@@ -44,7 +44,7 @@ static uint32_t draw(uint32_t below) {
 /* A mark of a capture: of one line a bit, of two lines a pair, or a bit with its line. */
 static void put_mark(int mark) {
     if (!packed) {
-        putchar(in_turn ? "01oi"[mark] : '0' + mark);
+        putchar(arrive ? "01oi"[mark] : '0' + mark);
         if (++marks % line == 0)
             putchar('\n');
         return;
@@ -63,11 +63,15 @@ static void put_bit(int bit) {
     if (left == 0)
         return;
     left--;
-    if (in_turn) {
-        put_mark(mark & 1);
-        put_mark(2 | mark >> 1);
-    } else
+    if (!arrive) {
         put_mark(alone ? mark >> (alone - 1) & 1 : mark);
+        return;
+    }
+    put_mark(mark & 1);
+    if (left > 0 && (!gated || sender == 1)) {
+        left--;
+        put_mark(2 | mark >> 1);
+    }
 }
 
 static void put_flag(void) {
@@ -261,24 +265,24 @@ static int put_some(const char *kind) {
     return 1;
 }
 
-/* Takes the kind apart: two lines, one of them or their bits in turn, and the types of a dialogue. */
+/* Takes the kind apart: two lines, one of them or their bits as they arrive, and the types of a dialogue. */
 static void use_kind(const char *kind) {
     if (strcmp(kind, "first") == 0)
         alone = 1;
     else if (strcmp(kind, "second") == 0)
         alone = 2;
-    in_turn = strcmp(kind, "arrivals") == 0;
-    two = alone || in_turn || strcmp(kind, "pairs") == 0;
+    gated = strcmp(kind, "gated") == 0;
+    arrive = gated || strcmp(kind, "arrivals") == 0;
+    two = alone || arrive || strcmp(kind, "pairs") == 0;
     if (strncmp(kind, "dialogue", 8) == 0)
         use_types(kind + 8);
 }
 
 /* The head of a packed capture: its form, and how many marks it has. */
 static void put_head(void) {
-    uint64_t count = in_turn ? 2 * left : left;
-    fputs(in_turn ? "TS2BITS3" : two && !alone ? "TS2BITS2" : "TS2BITS1", stdout);
+    fputs(arrive ? "TS2BITS3" : two && !alone ? "TS2BITS2" : "TS2BITS1", stdout);
     for (int i = 0; i < 8; i++)
-        putchar((int)(count >> 8 * i & 0xff));
+        putchar((int)(left >> 8 * i & 0xff));
 }
 
 int main(int argc, char **argv) {
