@@ -124,12 +124,12 @@ impl RestRule {
         ensures most { self.new.most ≡ self.old.most }
     {
         let past = past_second(lines, count);
-        let more = (count - past) as u64;
+        let mut silent = self.silent;
         if past > 0 {
             self.ones = ones_before(bits, lines, past, self.ones);
-            self.silent = 0;
+            silent = 0;
         }
-        self.silent = min(self.most, self.silent.saturating_add(more));
+        self.silent = min(self.most, silent.saturating_add((count - past) as u64));
     }
 
     /// A bit of the first line arrives. Returns whether the second line comes to rest with it.

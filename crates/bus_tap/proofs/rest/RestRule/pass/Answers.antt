@@ -45,16 +45,16 @@ returns-clause-after c = λ xs after.
     let lines = c.args.lines.now in
     let past = c.past_second-past.result in
     let inside = c.if-past-gt0.self-inside in
-    let now : RestState = record { most = inside.most; silent = inside.silent; ones = inside.ones } in
+    let now : RestState = record { most = inside.most; silent = c.if-past-gt0.silent; ones = inside.ones } in
     let old : IsRestAfter (rest_state c.self.inside) xs = rw (c.self.view_is) after in
     let front : IsRestAfter now (xs ++ arrivals_from bits lines 0 past) = elim c.if-past-gt0.branch [
       | then-past-gt0 w ↦
-          rw (w.self-inside-is, w.ones_before-self-inside.ensures)
+          rw (w.self-inside-is, w.silent-is, w.ones_before-self-inside.ensures)
           (last-of (rest_state c.self.inside) bits lines xs past c.args.count 0 old
           (c.past_second-past.ensures.last (omega (arith, w.if-past-gt0.true))) (omega (arith, w.if-past-gt0.true)))
       | else-past-gt0 w ↦
           (let none : past ≡ 0 = omega (arith, w.if-past-gt0.false) in
-          rw (w.self-inside-is, none, arrivals-none bits lines 0, append-nil xs) old)
+          rw (w.self-inside-is, w.silent-is, none, arrivals-none bits lines 0, append-nil xs) old)
     ] in
     all-of now bits lines xs past c.args.count _ (omega (arith, c.past_second-past.ensures.within))
     (c.past_second-past.ensures.behind bits)
