@@ -1,13 +1,12 @@
 //! Arrivals parted by line.
 
-ghost use Rattle.std.specs.Prelude.{◌≡◌, ◌<◌, ◌≤◌, List, length};
-ghost use Rattle.bus_tap.specs.Arrival.{Arrival, own};
+ghost use Rattle.std.specs.Prelude.{◌≡◌, ◌+◌, ◌*◌, ◌<◌, ◌≤◌, List, length};
+ghost use Rattle.bus_tap.specs.Arrival.{Arrival, arrivals_from, own};
 ghost use Rattle.bus_clocks.specs.Internal.Parts.{Parts, upto};
 ghost use Rattle.bus_pairing.specs.declared.line.Line.TheVariants.{First};
 
-use crate::feed::Arrival;
 use crate::line_bits::{BLOCK, LineBits};
-use bus_pairing::Line;
+use bus_bits::bit_at;
 
 /// The bits of some arrivals, parted by line.
 #[derive(Drop)]
@@ -20,23 +19,24 @@ pub(crate) struct Parted {
     pub(crate) before: [u16; BLOCK],
 }
 
-/// Parts these arrivals, at most 512.
-pub(crate) fn part(arrivals: &[Arrival]) -> Parted
-    requires { length arrivals.now ≤ 512 }
-    ensures { Parts arrivals.now result }
+/// Parts these arrivals, at most 512 from one on.
+pub(crate) fn part(bits: &[u8], lines: &[u8], from: usize, count: usize) -> Parted
+    requires few { count ≤ 512 }
+    requires enough { (from + count ≤ 8 * length bits.now) × (from + count ≤ 8 * length lines.now) }
+    ensures { Parts (arrivals_from bits.now lines.now from count) result }
 {
     let mut parted = Parted {
         first: LineBits::new(),
         second: LineBits::new(),
         before: [0; BLOCK],
     };
-    for arrival in arrivals {
-        match arrival.0 {
-            Line::First => parted.first.append(arrival.1),
-            Line::Second => {
-                parted.before[parted.second.count()] = parted.first.count() as u16;
-                parted.second.append(arrival.1);
-            }
+    for i in 0..count {
+        let bit = bit_at(bits, from + i);
+        if bit_at(lines, from + i) {
+            parted.before[parted.second.count()] = parted.first.count() as u16;
+            parted.second.append(bit);
+        } else {
+            parted.first.append(bit);
         }
     }
     parted

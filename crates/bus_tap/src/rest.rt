@@ -8,6 +8,7 @@ ghost use Rattle.bus_bits.specs.Bits.{bit_at};
 ghost use Rattle.bus_line.specs.Internal.Run.{ones_after};
 ghost use Rattle.bus_pairing.specs.declared.line.Line.TheVariants.{Second};
 
+use bus_bits::bit_at;
 use bus_pairing::Line;
 use std::cmp::min;
 use std::marker::Model;
@@ -162,15 +163,6 @@ impl RestRule {
     }
 }
 
-/// A bit of these octets.
-#[inline(always)]
-fn bit_of(octets: &[u8], at: usize) -> bool
-    requires { at + 1 ≤ 8 * length octets.now }
-    ensures { result ≡ bit_at octets.now at }
-{
-    (octets[at / 8] >> (at % 8)) % 2 == 1
-}
-
 /// How many of so many arrivals there are up to the last that is a bit of the second line.
 fn past_second(lines: &[u8], count: usize) -> usize
     requires { count ≤ 8 * length lines.now }
@@ -182,7 +174,7 @@ fn past_second(lines: &[u8], count: usize) -> usize
     while past > 0 {
         if past % 8 == 0 && lines[past / 8 - 1] == 0 {
             past -= 8;
-        } else if bit_of(lines, past - 1) {
+        } else if bit_at(lines, past - 1) {
             return past;
         } else {
             past -= 1;
@@ -201,8 +193,8 @@ fn ones_before(bits: &[u8], lines: &[u8], past: usize, others: u64) -> u64
     let mut ones = 0;
     while at > 0 && ones < IDLE_ONES {
         at -= 1;
-        if bit_of(lines, at) {
-            if !bit_of(bits, at) {
+        if bit_at(lines, at) {
+            if !bit_at(bits, at) {
                 return ones;
             }
             ones += 1;

@@ -7,20 +7,20 @@ use Rattle.bus_bits.proofs.OctetLemmas.{least}
 use Rattle.bus_tap.proofs.QuietLemmas.{ones-first, ones-one, ones-zero}
 use Rattle.bus_tap.proofs.rest.ones_before.Goals as goal
 
-pub returns-then-not-bit_of : goal.returns-then-not-bit_of
-returns-then-not-bit_of c =
+pub returns-then-not-bit_at : goal.returns-then-not-bit_at
+returns-then-not-bit_at c =
     let at = c.loop-at.at - 1 in
     let next : at + 1 ≡ c.loop-at.at = omega (arith, c.loop-at-test.true) in
     let none = rw next at (ones-zero c.args.others at c.args.bits.now c.args.lines.now
-    (sym c.bit_of.ensures ∙ c.if-bit_of.true) (sym c.bit_of-then-bit_of.ensures ∙ c.if-not-bit_of.true)) in
+    (sym c.bit_at.ensures ∙ c.if-bit_at.true) (sym c.bit_at-then-bit_at.ensures ∙ c.if-not-bit_at.true)) in
     omega (arith, c.loop-at.invariant.ones, none, c.loop-at.invariant.few)
 
-pub loop-at-preserved-then-bit_of : goal.loop-at-preserved-then-bit_of
-loop-at-preserved-then-bit_of c =
+pub loop-at-preserved-then-bit_at : goal.loop-at-preserved-then-bit_at
+loop-at-preserved-then-bit_at c =
     let at = c.loop-at.at - 1 in
     let next : at + 1 ≡ c.loop-at.at = omega (arith, c.loop-at-test.true) in
     let one = rw next at (ones-one c.args.others at c.args.bits.now c.args.lines.now
-    (sym c.bit_of.ensures ∙ c.if-bit_of.true) (sym c.bit_of-then-bit_of.ensures ∙ c.if-not-bit_of.false)) in
+    (sym c.bit_at.ensures ∙ c.if-bit_at.true) (sym c.bit_at-then-bit_at.ensures ∙ c.if-not-bit_at.false)) in
     record {
       within = omega (arith, c.loop-at.invariant.within);
       few = omega (arith, c.if-ones-lt-IDLE_ONES.true);
@@ -32,7 +32,7 @@ loop-at-preserved c =
     let at = c.loop-at.at - 1 in
     let next : at + 1 ≡ c.loop-at.at = omega (arith, c.loop-at-test.true) in
     let none = rw next at (ones-first c.args.others at c.args.bits.now c.args.lines.now
-    (sym c.bit_of.ensures ∙ c.if-bit_of.false)) in
+    (sym c.bit_at.ensures ∙ c.if-bit_at.false)) in
     record {
       within = omega (arith, c.loop-at.invariant.within);
       few = c.loop-at.invariant.few;

@@ -37,7 +37,7 @@ loop-past-preserved c =
           omega (arith, before.within, c.loop-past-test.true) in
           let here : past - 1 + 1 ≡ past = omega (arith, c.loop-past-test.true) in
           rw count (none-more bits c.args.lines.now (past - 1) (c.args.count - past)
-          (sym c.bit_of.ensures ∙ c.if-bit_of.false) (rw here (before.none bits)));
+          (sym c.bit_at.ensures ∙ c.if-bit_at.false) (rw here (before.none bits)));
     }
 
 pub returns-clause-behind : goal.returns-clause-behind
