@@ -6,11 +6,12 @@ use Rattle.std.proofs.lemmas.Bool.{cases_lt}
 use Rattle.std.proofs.lemmas.List.{get_or-drop, get_or-set_other, get_or-set_same, get_or-take, length-drop, length-set}
 use Rattle.std.proofs.lemmas.List.{length-take}
 use Rattle.std.proofs.lemmas.Option.{get_or_from_slice_get, slice_get-get_or, slice_get_within}
-use Rattle.bus_bits.specs.Bits.{bits_from}
+use Rattle.bus_bits.specs.Bits.{bit_at, bits_from}
 use Rattle.bus_pairing.specs.declared.line.Line.{Line}
 use Rattle.bus_pairing.specs.declared.line.Line.TheVariants.{First, Second}
-use Rattle.bus_tap.specs.Arrival.{Arrival, own, firsts_before}
-use Rattle.bus_tap.proofs.ArrivalLemmas.{own-append, before-append, before-now}
+use Rattle.bus_tap.specs.Arrival.{Arrival, arrival_of, arrivals_from, own, firsts_before}
+use Rattle.bus_tap.proofs.ArrivalLemmas.{arrivals-first, arrivals-more, arrivals-none, own-append, before-append}
+use Rattle.bus_tap.proofs.ArrivalLemmas.{before-now}
 use Rattle.bus_clocks.specs.Internal.Parts.{Parts, upto, beyond}
 use Rattle.bus_clocks.specs.declared.parted.Parted.{Parted}
 use Rattle.bus_clocks.proofs.LineBitsLemmas.{bits-middle}
@@ -115,6 +116,26 @@ get-other : (xs : List ℕ) (i k v x : ℕ) → (k ≡ i → ⊥) → slice_get 
 get-other xs i k v x other is =
     slice_get-get_or (slice_set xs i v) k 0 (omega (arith, length-set xs i v, slice_get_within xs k x is))
     ∙ ap Some (get_or-set_other xs i k v 0 other ∙ get_or_from_slice_get xs k x 0 is)
+
+-- one arrival more of two rows of octets
+pub arrivals-next : (bits lines : List ℕ) (from i : ℕ) → arrivals_from bits lines from (i + 1)
+    ≡ arrivals_from bits lines from i ++ arrival_of (bit_at bits (from + i), bit_at lines (from + i)) ∷ []
+arrivals-next bits lines from i =
+    arrivals-more bits lines from i 1
+    ∙ ap (λ (ys : List Arrival). arrivals_from bits lines from i ++ ys)
+    (arrivals-first bits lines (from + i) 0
+    ∙ ap (λ (ys : List Arrival). arrival_of (bit_at bits (from + i), bit_at lines (from + i)) ∷ ys)
+    (arrivals-none bits lines (from + i + 1)))
+
+-- none are parted at first
+pub parts-none : (p : Parted) → [] ≡ p.first → [] ≡ p.second → length p.before ≡ 512 → Parts [] p
+parts-none p first second long = record {
+  few = omega arith;
+  long = long;
+  first = sym first;
+  second = sym second;
+  before = λ k inside. absurd (omega (arith, inside));
+}
 
 -- an arrival more is parted
 pub parts-first : (xs : List Arrival) (p : Parted) (x : Arrival) (b : List Bool) → x.0 ≡ First → length xs < 512 →

@@ -1,6 +1,6 @@
 //! Arrivals parted by line.
 
-ghost use Rattle.std.specs.Prelude.{◌≡◌, ◌+◌, ◌*◌, ◌<◌, ◌≤◌, List, length};
+ghost use Rattle.std.specs.Prelude.{◌≡◌, ◌+◌, ◌*◌, ◌<◌, ◌≤◌, ◌^◌, List, length};
 ghost use Rattle.bus_tap.specs.Arrival.{Arrival, arrivals_from, own};
 ghost use Rattle.bus_clocks.specs.Internal.Parts.{Parts, upto};
 ghost use Rattle.bus_pairing.specs.declared.line.Line.TheVariants.{First};
@@ -22,6 +22,7 @@ pub(crate) struct Parted {
 /// Parts these arrivals, at most 512 from one on.
 pub(crate) fn part(bits: &[u8], lines: &[u8], from: usize, count: usize) -> Parted
     requires few { count ≤ 512 }
+    requires fits { from + count < 2 ^ 64 }
     requires enough { (from + count ≤ 8 * length bits.now) × (from + count ≤ 8 * length lines.now) }
     ensures { Parts (arrivals_from bits.now lines.now from count) result }
 {

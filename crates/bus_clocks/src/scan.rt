@@ -1,6 +1,6 @@
 //! Many arrivals at once, shown to an observer.
 
-ghost use Rattle.std.specs.Prelude.{◌≡◌, ◌+◌, ◌-◌, ◌*◌, ◌≤◌, ◌<◌, ℕ, List, length, min};
+ghost use Rattle.std.specs.Prelude.{◌≡◌, ◌+◌, ◌-◌, ◌*◌, ◌≤◌, ◌<◌, ◌^◌, ℕ, List, length, min};
 ghost use Rattle.bus_bits.specs.Limits.{most_places};
 ghost use Rattle.bus_tap.specs.Arrival.{Arrival, arrivals_from, own};
 ghost use Rattle.bus_clocks.specs.Clocks.{two_clocks, bits_taken};
@@ -61,6 +61,7 @@ impl<C: Check> TwoClockAnalyser<C> {
         out: &mut X,
     )
         requires few { count ≤ 512 }
+        requires fits { from + count < 2 ^ 64 }
         requires enough { (from + count ≤ 8 * length bits.now) × (from + count ≤ 8 * length lines.now) }
         requires places { bits_taken self.old + count ≤ most_places }
         requires room { L.has_room observer.old count }
