@@ -13,7 +13,7 @@ unpack_octets-requires-clause-sixteens g c =
     omega (
       arith,
       length-take count c.args.octets.now,
-      least (length c.args.octets.now) 2048,
+      least (length c.args.octets.now) c.min-most.result,
       c.min.ensures,
       c.whole-count.ensures.within,
       c.whole-count.ensures.sixteens,

@@ -1,7 +1,15 @@
-use Rattle.std.proofs.Common.{◌++◌, Err, Ok, take}
+use Rattle.std.proofs.Common.{◌++◌, ◌/◌, ◌∙◌, Err, Ok, arith, take}
+use Rattle.std.proofs.lemmas.Grind.{common_steps}
 use Rattle.std.proofs.lemmas.Result.{err_from_is_err_and}
+use Rattle.bus_bits.proofs.OctetLemmas.{least}
 use Rattle.bus_calls.proofs.SessionsTextLemmas.{mark-taken}
 use Rattle.bus_calls.proofs.arrivals.ClockAnalyserCaptureKind.analyse_text.Goals as goal
+
+pub analyse_quiet-requires-clause-quiet : goal.analyse_quiet-requires-clause-quiet
+analyse_quiet-requires-clause-quiet g c = λ xs ys after few.
+    c.quiet.ensures xs ys after
+    (grind (arith, common_steps, few, c.part-block.ensures.within, c.part-block.ensures.len.0,
+    c.min-room.ensures ∙ least (c.quiet.result / 8) 128))
 
 pub returns-in_err-analyse_quiet-clause-taken : goal.returns-in_err-analyse_quiet-clause-taken
 returns-in_err-analyse_quiet-clause-taken g c =
