@@ -63,7 +63,7 @@ le-octets n =
     ∷ n / 1099511627776 % 256 ∷ n / 281474976710656 % 256 ∷ n / 72057594037927936 % 256 ∷ []) first
 
 -- the first octets of a number have its lowest bits
-le-bits : (k n : ℕ) → k ≤ 8 → bits_of_octets (take k (to_le_bytes w64 n)) ≡ bits_of (8 * k) n
+pub le-bits : (k n : ℕ) → k ≤ 8 → bits_of_octets (take k (to_le_bytes w64 n)) ≡ bits_of (8 * k) n
 le-bits k n few = ap (λ (os : List ℕ). bits_of_octets (take k os)) (le-octets n)
     ∙ (ap bits_of_octets (octets-fewer k 8 n few) ∙ octets-bits k n)
 
@@ -75,7 +75,7 @@ pub joined-is : (rest bits held count : ℕ) → rest < 2 ^ held → bits < 2 ^ 
 joined-is rest bits held count small below fits =
     rw (shl_whole bits count held 64 below (omega (arith, fits))) (or_shifted_r bits held rest small)
 
-joined-bits : (rest bits held count : ℕ) → rest < 2 ^ held →
+pub joined-bits : (rest bits held count : ℕ) → rest < 2 ^ held →
     bits_of (held + count) (bits * 2 ^ held + rest) ≡ bits_of held rest ++ bits_of count bits
 joined-bits rest bits held count small =
     bits-split held count (bits * 2 ^ held + rest)
