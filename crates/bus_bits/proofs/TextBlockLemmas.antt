@@ -1,5 +1,5 @@
 -- Bits of a text, packed into a block.
-use Rattle.std.proofs.Common.{◌≡◌, ℕ, zero, suc, ◌+◌, ◌-◌, ◌*◌, ◌/◌, ◌%◌, ◌^◌, ◌<◌, ◌≤◌, ◌==◌, Bool, true, false}
+use Rattle.std.proofs.Common.{◌≡◌, ℕ, zero, suc, ◌+◌, ◌-◌, ◌*◌, ◌/◌, ◌%◌, ◌^◌, ◌<◌, ◌≤◌, Bool, true, false}
 use Rattle.std.proofs.Common.{List, [], ◌∷◌, ◌++◌, length, take, drop, set, get_or, map, None, inl, inr, refl, sym, ap}
 use Rattle.std.proofs.Common.{◌∙◌, subst, arith, append_assoc, append-nil, length-append}
 use Rattle.std.specs.Prelude.{bit_and, bit_or, slice_index}
@@ -11,6 +11,7 @@ use Rattle.std.proofs.lemmas.Grind.{common_steps}
 use Rattle.std.proofs.lemmas.Nat.{and_mask, mod_low, mul-add-lt, pow-add, shl_whole, shr-shr, shr_below, shr_high}
 use Rattle.std.proofs.lemmas.List.{get_or-drop, get_or-set_same, get_or-take, length-drop, length-take, take-append-le}
 use Rattle.std.proofs.lemmas.List.{take-map, take-set-le, take-take, take_all, take_more}
+use Rattle.std.proofs.Math.Nat.{div-eq_of_lt}
 use Rattle.std.proofs.Math.Seq.{take-append-add}
 use Rattle.bus_bits.specs.Bits.{bits_from}
 use Rattle.bus_bits.specs.Octet.{bits_of, bits_of_octets}
@@ -194,10 +195,10 @@ packed-more is_mark value text block after p q n bits before taken fits room few
       (packed_bits block p) bits (packed_bits after q) are (before.given xs clean) given);
 }
 
--- no more than sixteen bits are ones in a row from the lowest
-pub ones-few : (n t : ℕ) → n < 2 ^ 16 → ((i : ℕ) → i < t → bit_at n i ≡ 1) → t ≤ 16
-ones-few n t small ones = elim (cases_lt 16 t) [
-  | inl more ↦ absurd (omega (arith, ones 16 more, small))
+-- no more bits are ones in a row from the lowest than a number has
+pub ones-few : (k n t : ℕ) → n < 2 ^ k → ((i : ℕ) → i < t → bit_at n i ≡ 1) → t ≤ k
+ones-few k n t small ones = elim (cases_lt k t) [
+  | inl more ↦ absurd (omega (arith, ones k more, div-eq_of_lt small))
   | inr within ↦ within
 ]
 

@@ -12,7 +12,7 @@ use Rattle.bus_line.specs.Due as line
 use Rattle.bus_pairing.specs.LineReport.{LineReport, of_line, firsts, seconds, merged}
 use Rattle.bus_pairing.specs.Seen.{SeenReport, seen}
 use Rattle.bus_pairing.specs.Shown.{begun_span}
-use Rattle.bus_pairing.specs.declared.line.Line.TheVariants.{First, Second}
+use Rattle.bus_pairing.specs.declared.line.Line.TheVariants.{First}
 use Rattle.bus_pairing.specs.declared.pending.Pending.{Pending}
 use Rattle.bus_tap.specs.Arrival.{Arrival, arrival_of, own}
 use Rattle.bus_tap.specs.Arrival.{arrived, begun_places}

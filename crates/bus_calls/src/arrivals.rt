@@ -188,7 +188,7 @@ impl<C: Check> CaptureKind for ClockAnalyser<C> {
         Self::laws();
         let room = min(run.analyser.rest.quiet() / 8, BLOCK as u64) as usize;
         // Fewer octets are not looked at together, and do not pay for clearing the blocks.
-        if octets.len() < 16 || room == 0 {
+        if octets.len() < 32 || room == 0 {
             return Ok(0);
         }
         let mut bits = [0; BLOCK];

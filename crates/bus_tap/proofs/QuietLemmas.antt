@@ -1,15 +1,15 @@
 -- The rule of rest, with many arrivals more.
 use Rattle.std.proofs.Common.{◌≡◌, ℕ, zero, suc, ◌+◌, ◌-◌, ◌*◌, ◌/◌, ◌%◌, ◌^◌, ◌<◌, ◌≤◌, ◌⊎◌, ◌==◌, ◌&&◌, min, ltb, Bool}
-use Rattle.std.proofs.Common.{true, false, List, [], ◌∷◌, ◌++◌, length, refl, sym, ap, ◌∙◌, subst, arith, inl, inr}
+use Rattle.std.proofs.Common.{true, false, List, [], ◌∷◌, ◌++◌, length, refl, sym, ap, ◌∙◌, arith, inl, inr}
 use Rattle.std.proofs.Common.{append-nil, append_assoc, if◌then◌else◌}
 use Rattle.std.specs.Prelude.{slice_index}
 use Rattle.std.proofs.lemmas.Bool.Decides.{nat_tests}
 use Rattle.bus_bits.specs.Bits.{bit_at}
 use Rattle.bus_line.specs.Internal.Run.{ones_after}
 use Rattle.bus_pairing.specs.declared.line.Line.TheVariants.{First, Second}
-use Rattle.bus_tap.specs.Arrival.{Arrival, arrival_of, arrivals_from, own}
+use Rattle.bus_tap.specs.Arrival.{Arrival, arrivals_from, own}
 use Rattle.bus_tap.specs.Rested.{rested, silence, RestState, IsRestAfter}
-use Rattle.bus_tap.proofs.ArrivalLemmas.{own-append, arrivals-first, arrivals-last, arrivals-more}
+use Rattle.bus_tap.proofs.ArrivalLemmas.{own-append, arrivals-first, arrivals-last}
 use Rattle.bus_tap.proofs.RestLemmas.{rested-more, comes-first, comes-second, after-first, after-second, ones-more}
 use Rattle.bus_tap.proofs.RestLemmas.{ones-none, silence-second}
 

@@ -12,7 +12,7 @@ use super::text_bits::is_skipped;
 use super::text_block::{Packing, TextBlock, append_bits, close};
 use std::simd::prelude::*;
 
-/// What sixteen octets of a text mark, the first the lowest.
+/// What 32 octets of a text mark, the first the lowest.
 #[derive(Clone, Copy)]
 struct ArrivalMarks {
     /// Which of them are bits that are 1.
@@ -40,7 +40,7 @@ struct Parting {
 
 impl TextArrivals {
     /// Packs the next arrivals of a text into two blocks, until fewer than ten octets of room are left, fewer than
-    /// sixteen octets of the text follow, or an octet is neither a mark nor skipped: their bits into the one, and into
+    /// 32 octets of the text follow, or an octet is neither a mark nor skipped: their bits into the one, and into
     /// the other a 1 for each that is of the second line.
     #[inline(always)]
     pub fn part(text: &[u8], bits: &mut [u8], lines: &mut [u8]) -> TextBlock
@@ -118,7 +118,7 @@ fn lines_of(parting: Parting) -> Packing
     }
 }
 
-/// Packs up to sixteen arrivals more, and takes what is skipped after them.
+/// Packs up to 32 arrivals more, and takes what is skipped after them.
 #[inline(always)]
 fn part_line(text: &[u8], bits: &mut [u8], lines: &mut [u8], parting: Parting) -> Parting
     requires parted { AreParted text.now bits.old lines.old parting }
@@ -128,13 +128,13 @@ fn part_line(text: &[u8], bits: &mut [u8], lines: &mut [u8], parting: Parting) -
     ensures more { parting.taken ≤ result.taken }
     ensures len { (length bits.new ≡ length bits.old) × (length lines.new ≡ length lines.old) }
 {
-    let parting = part_sixteen(text, bits, lines, parting);
+    let parting = part_many(text, bits, lines, parting);
     pass_spaces(text, parting)
 }
 
-/// Packs the arrivals before the first of the next sixteen octets that is none.
+/// Packs the arrivals before the first of the next 32 octets that is none.
 #[inline(always)]
-fn part_sixteen(text: &[u8], bits: &mut [u8], lines: &mut [u8], parting: Parting) -> Parting
+fn part_many(text: &[u8], bits: &mut [u8], lines: &mut [u8], parting: Parting) -> Parting
     requires parted { AreParted text.now bits.old lines.old parting }
     requires same { length bits.old ≡ length lines.old }
     requires room { parting.filled + 10 ≤ length bits.old }
@@ -173,15 +173,15 @@ fn pass_spaces(text: &[u8], parting: Parting) -> Parting
     now
 }
 
-/// What sixteen octets mark. None marks two things.
+/// What 32 octets mark. None marks two things.
 #[inline(always)]
-fn marks_of(octets: &[u8; 16]) -> ArrivalMarks
-    ensures bits { bits_of 16 result.bits ≡ map (λ x. (mark_arrival x).0) octets.now }
-    ensures lines { bits_of 16 result.lines ≡ map (λ x. (mark_arrival x).1) octets.now }
-    ensures marks { bits_of 16 result.marks ≡ map is_arrival octets.now }
-    ensures few { (result.bits < 2 ^ 16) × (result.lines < 2 ^ 16) × (result.marks < 2 ^ 16) }
+fn marks_of(octets: &[u8; 32]) -> ArrivalMarks
+    ensures bits { bits_of 32 result.bits ≡ map (λ x. (mark_arrival x).0) octets.now }
+    ensures lines { bits_of 32 result.lines ≡ map (λ x. (mark_arrival x).1) octets.now }
+    ensures marks { bits_of 32 result.marks ≡ map is_arrival octets.now }
+    ensures few { (result.bits < 2 ^ 32) × (result.lines < 2 ^ 32) × (result.marks < 2 ^ 32) }
 {
-    let text = u8x16::from_array(*octets);
+    let text = u8x32::from_array(*octets);
     let first_ones = lanes(text, b'1');
     let second_ones = lanes(text, b'i');
     let lines = lanes(text, b'o') + second_ones;
@@ -192,12 +192,12 @@ fn marks_of(octets: &[u8; 16]) -> ArrivalMarks
     }
 }
 
-/// Which of sixteen octets are this one.
+/// Which of 32 octets are this one.
 #[inline(always)]
-fn lanes(text: u8x16, mark: u8) -> u64
-    requires { length text ≡ 16 }
+fn lanes(text: u8x32, mark: u8) -> u64
+    requires { length text ≡ 32 }
     ensures value { result ≡ mask_l (map (λ x. x == mark) text) }
-    ensures few { result < 2 ^ 16 }
+    ensures few { result < 2 ^ 32 }
 {
-    text.simd_eq(u8x16::splat(mark)).to_bitmask()
+    text.simd_eq(u8x32::splat(mark)).to_bitmask()
 }

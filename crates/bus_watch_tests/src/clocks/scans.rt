@@ -34,7 +34,7 @@ fn next(state: &mut u64) -> usize {
 }
 
 /// Parts and beginnings of parts of either line, as their clocks may bring them; the same seed gives the same list.
-fn traffic(rt: &impl Abort, alloc: Global, seed: u64) -> Vec<Arrival> {
+pub(super) fn traffic(rt: &impl Abort, alloc: Global, seed: u64) -> Vec<Arrival> {
     let mut arrivals = Vec::new(alloc);
     let mut state = seed;
     for _ in 0..ARRIVALS {
@@ -60,7 +60,7 @@ fn analyser(rt: &impl Abort, alloc: Global) -> TwoClockAnalyser<OctetCheck> {
 }
 
 /// Arrivals as `scan` takes them: their bits, and which of these are of the second line, the first of each octet lowest.
-fn in_octets(rt: &impl Abort, alloc: Global, arrivals: &[Arrival]) -> (Vec<u8>, Vec<u8>) {
+pub(super) fn in_octets(rt: &impl Abort, alloc: Global, arrivals: &[Arrival]) -> (Vec<u8>, Vec<u8>) {
     let (mut bits, mut lines) = (Vec::new(alloc), Vec::new(alloc));
     for eight in arrivals.chunks(8) {
         let (mut ones, mut seconds) = (0u8, 0u8);
@@ -151,8 +151,10 @@ fn scans_to_the_last_place(rt: HostRuntime) {
     let alloc = rt.alloc();
     let dictionary = Dictionary::read(alloc, CALLS).expect(&rt, "a dictionary");
     let origin = (1 << 60) - 100;
-    let mut analyser = TwoClockAnalyser::<OctetCheck>::new(alloc, dictionary, 5, origin)
-        .expect(&rt, "an analyser");
+    let mut analyser = TwoClockAnalyser::<OctetCheck>::new(alloc, dictionary, 5, origin).expect(
+        &rt,
+        "an analyser",
+    );
     let mut text = String::new(alloc);
     for want in [64, 36, 0] {
         let taken = analyser.scan(&[0; 8], &[0xaa; 8], 64, &mut Writing, &mut text);

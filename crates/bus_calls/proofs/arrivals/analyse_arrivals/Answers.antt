@@ -1,4 +1,4 @@
-use Rattle.std.proofs.Common.{◌≡◌, ◌+◌, ◌-◌, ◌^◌, ◌≤◌, ◌++◌, ℕ, min, List, length, subst, sym, ap, ◌∙◌, arith, MatchResult}
+use Rattle.std.proofs.Common.{◌≡◌, ◌+◌, ◌-◌, ◌^◌, ◌++◌, ℕ, min, List, subst, sym, ap, ◌∙◌, arith, MatchResult}
 use Rattle.bus_tap.specs.Arrival.{Arrival, arrivals_from}
 use Rattle.bus_tap.proofs.ArrivalLemmas.{arrivals-more, arrivals-none, length-arrivals}
 use Rattle.bus_clocks.specs.Clocks.{bits_taken}

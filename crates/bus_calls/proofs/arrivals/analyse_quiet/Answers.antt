@@ -1,4 +1,4 @@
-use Rattle.std.proofs.Common.{◌++◌, Bool, List, map, zip, arith, refl}
+use Rattle.std.proofs.Common.{map, zip, arith, refl}
 use Rattle.bus_bits.specs.Bits.{bits_from}
 use Rattle.bus_tap.specs.Arrival.{arrival_of, arrivals_from}
 use Rattle.bus_tap.specs.Rested.{rested}

@@ -1,6 +1,6 @@
-use Rattle.std.proofs.Common.{◌≡◌, ◌+◌, ◌-◌, ℕ, List, [], suc, sym, ap, ◌∙◌, subst, arith}
+use Rattle.std.proofs.Common.{◌≡◌, ◌+◌, ◌-◌, suc, sym, ap, ◌∙◌, arith}
 use Rattle.bus_pairing.specs.declared.line.Line.TheVariants.{Second}
-use Rattle.bus_tap.specs.Arrival.{arrivals_from, own}
+use Rattle.bus_tap.specs.Arrival.{own}
 use Rattle.bus_tap.proofs.ArrivalLemmas.{arrivals-none}
 use Rattle.bus_tap.proofs.QuietLemmas.{none-more, octet-none}
 use Rattle.bus_tap.proofs.rest.past_second.Goals as goal

@@ -1,5 +1,5 @@
-use Rattle.std.proofs.Common.{◌≡◌, ◌++◌, List, ℕ, None, take, zip, sym, ap, ◌∙◌, subst, arith}
-use Rattle.bus_bits.specs.Capture.{is_arrival, marks_by, text_arrivals, text_arrivals_fault}
+use Rattle.std.proofs.Common.{◌++◌, take, sym}
+use Rattle.bus_bits.specs.Capture.{is_arrival, marks_by}
 use Rattle.bus_bits.proofs.ArrivalPlanesLemmas.{both-given}
 use Rattle.bus_bits.proofs.format.arrival_planes.close_both.Goals as goal
 

@@ -1,4 +1,4 @@
-use Rattle.std.proofs.Common.{◌≡◌, ◌+◌, ◌<◌, ◌^◌, ◌==◌, ◌||◌, ℕ, Bool, List, length, map, ap, refl, ◌∙◌, arith}
+use Rattle.std.proofs.Common.{◌≡◌, ◌+◌, ◌<◌, ◌==◌, ◌||◌, ℕ, Bool, List, length, map, ap, refl, ◌∙◌}
 use Rattle.std.proofs.lemmas.List.{length-map}
 use Rattle.std.proofs.lemmas.Simd.{mask_l-lt}
 use Rattle.std.specs.Simd.Lanes.{mask_l}
@@ -8,37 +8,39 @@ use Rattle.bus_bits.proofs.ArrivalPlanesLemmas.{first-is-no-second, mask-sum, on
 use Rattle.bus_bits.proofs.TextMarksLemmas.{bits-mask}
 use Rattle.bus_bits.proofs.format.arrival_planes.marks_of.Goals as goal
 
--- which of sixteen octets are of one kind, as a number
-kind : (os : List ℕ) (p : ℕ → Bool) (n : ℕ) → length os ≡ 16 → n ≡ mask_l (map p os) →
-    (bits_of 16 n ≡ map p os) × (n < 65536)
+-- which of 32 octets are of one kind, as a number
+kind : (os : List ℕ) (p : ℕ → Bool) (n : ℕ) → length os ≡ 32 → n ≡ mask_l (map p os) →
+    (bits_of 32 n ≡ map p os) × (n < 4294967296)
 kind os p n long is = (
-  ap (bits_of 16) is ∙ bits-mask (map p os) 16 (length-map os p ∙ long),
+  ap (bits_of 32) is ∙ bits-mask (map p os) 32 (length-map os p ∙ long),
   rw is (rw (length-map os p ∙ long) at (mask_l-lt (map p os))),
 )
 
-ones : (os : List ℕ) (a b n : ℕ) → length os ≡ 16 → a ≡ mask_l (map (λ x. x == 49) os)
+ones : (os : List ℕ) (a b n : ℕ) → length os ≡ 32 → a ≡ mask_l (map (λ x. x == 49) os)
     → b ≡ mask_l (map (λ x. x == 105) os) → n ≡ a + b
-    → (bits_of 16 n ≡ map (λ x. (mark_arrival x).0) os) × (n < 65536)
+    → (bits_of 32 n ≡ map (λ x. (mark_arrival x).0) os) × (n < 4294967296)
 ones os a b n long first second is =
     kind os (λ x. (mark_arrival x).0) n long
     (is ∙ rw (first, second) (mask-sum (λ x. x == 49) (λ x. x == 105) one-is-first os))
 
-seconds : (os : List ℕ) (a b n : ℕ) → length os ≡ 16 → a ≡ mask_l (map (λ x. x == 111) os)
+seconds : (os : List ℕ) (a b n : ℕ) → length os ≡ 32 → a ≡ mask_l (map (λ x. x == 111) os)
     → b ≡ mask_l (map (λ x. x == 105) os) → n ≡ a + b
-    → (bits_of 16 n ≡ map (λ x. (mark_arrival x).1) os) × (n < 65536)
+    → (bits_of 32 n ≡ map (λ x. (mark_arrival x).1) os) × (n < 4294967296)
 seconds os a b n long zero one is =
     kind os (λ x. (mark_arrival x).1) n long
     (is ∙ rw (zero, one) (mask-sum (λ x. x == 111) (λ x. x == 105) second-zero-is os))
 
-all : (os : List ℕ) (a b c d n : ℕ) → length os ≡ 16 → a ≡ mask_l (map (λ x. x == 48) os)
+all : (os : List ℕ) (a b c d n : ℕ) → length os ≡ 32 → a ≡ mask_l (map (λ x. x == 48) os)
     → b ≡ mask_l (map (λ x. x == 49) os) → c ≡ mask_l (map (λ x. x == 111) os)
     → d ≡ mask_l (map (λ x. x == 105) os) → n ≡ a + b + (c + d)
-    → (bits_of 16 n ≡ map is_arrival os) × (n < 65536)
+    → (bits_of 32 n ≡ map is_arrival os) × (n < 4294967296)
 all os a b c d n long zero one second-zero second-one is =
     kind os is_arrival n long
     (is ∙ rw (zero, one, second-zero, second-one)
-    (rw (mask-sum (λ x. x == 48) (λ x. x == 49) zero-is-first os,
-    mask-sum (λ x. x == 111) (λ x. x == 105) second-zero-is os)
+    (rw (
+      mask-sum (λ x. x == 48) (λ x. x == 49) zero-is-first os,
+      mask-sum (λ x. x == 111) (λ x. x == 105) second-zero-is os,
+    )
     (mask-sum is_bit (λ x. (x == 111) || (x == 105)) first-is-no-second os)))
 
 pub returns-clause-bits : goal.returns-clause-bits

@@ -1,4 +1,4 @@
-use Rattle.std.proofs.Common.{◌<◌, ◌≡◌, true, length, sym, ◌∙◌, arith}
+use Rattle.std.proofs.Common.{◌≡◌, true, sym, ◌∙◌, arith}
 use Rattle.std.specs.Prelude.{slice_index}
 use Rattle.bus_bits.specs.Capture.{is_arrival, is_space, mark_arrival}
 use Rattle.bus_bits.specs.Internal.Packs.{bits_of_both, lines_of_both}

@@ -33,7 +33,7 @@ returns-then-marks-eq65535-clause-packed c =
 -- no more than sixteen of sixteen marks are ones in a row
 ones-most : (n : ℕ) → n < 2 ^ 16 → trailing_ones w64 n ≤ 16
 ones-most n small =
-    ones-few n (trailing_ones w64 n) small (bit_at-trailing_ones w64 n (omega (arith, small))).2
+    ones-few 16 n (trailing_ones w64 n) small (bit_at-trailing_ones w64 n (omega (arith, small))).2
 
 pub append_bits-requires-2-clause-few : goal.append_bits-requires-2-clause-few
 append_bits-requires-2-clause-few c =

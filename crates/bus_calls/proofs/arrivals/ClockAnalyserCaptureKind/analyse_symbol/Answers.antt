@@ -1,8 +1,8 @@
-use Rattle.std.proofs.Common.{◌≡◌, ◌∷◌, [], ◌++◌, ℕ, Bool, true, false, if◌then◌else◌, List, map, refl, sym, ap, ◌∙◌}
+use Rattle.std.proofs.Common.{◌≡◌, ◌∷◌, [], Bool, true, false, if◌then◌else◌, map, refl, sym, ap, ◌∙◌}
 use Rattle.std.specs.Prelude.{bit_or}
 use mir.Val.{bool_byte}
 use Rattle.bus_bits.specs.Bits.{bits_from}
-use Rattle.bus_tap.specs.Arrival.{Arrival, arrival_of, arrivals_from}
+use Rattle.bus_tap.specs.Arrival.{arrival_of, arrivals_from}
 use Rattle.bus_tap.specs.Rested.{fill, rested}
 use Rattle.bus_calls.proofs.ArrivalsLemmas.{rests-more, symbols-taken, watched-behind}
 use Rattle.bus_calls.proofs.arrivals.ClockAnalyserCaptureKind.analyse_symbol.Goals.{then-comes, else-comes}

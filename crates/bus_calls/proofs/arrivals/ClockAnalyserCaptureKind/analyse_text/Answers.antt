@@ -8,8 +8,14 @@ use Rattle.bus_calls.proofs.arrivals.ClockAnalyserCaptureKind.analyse_text.Goals
 pub analyse_quiet-requires-clause-quiet : goal.analyse_quiet-requires-clause-quiet
 analyse_quiet-requires-clause-quiet g c = λ xs ys after few.
     c.quiet.ensures xs ys after
-    (grind (arith, common_steps, few, c.part-block.ensures.within, c.part-block.ensures.len.0,
-    c.min-room.ensures ∙ least (c.quiet.result / 8) 128))
+    (grind (
+      arith,
+      common_steps,
+      few,
+      c.part-block.ensures.within,
+      c.part-block.ensures.len.0,
+      c.min-room.ensures ∙ least (c.quiet.result / 8) 128,
+    ))
 
 pub returns-in_err-analyse_quiet-clause-taken : goal.returns-in_err-analyse_quiet-clause-taken
 returns-in_err-analyse_quiet-clause-taken g c =

@@ -1,8 +1,8 @@
-use Rattle.std.proofs.Common.{◌≡◌, ◌+◌, ◌-◌, ◌++◌, ◌≤◌, [], ℕ, List, length, ap, ◌∙◌, subst, arith}
+use Rattle.std.proofs.Common.{◌≡◌, ◌+◌, ◌-◌, ◌++◌, ◌≤◌, [], ℕ, ap, ◌∙◌, subst, arith}
 use Rattle.bus_bits.proofs.OctetLemmas.{least}
 use Rattle.bus_watch.proofs.FedLemmas.{leads-nil}
 use Rattle.bus_watch.proofs.PairScanLemmas.{leads-further}
-use Rattle.bus_tap.specs.Arrival.{Arrival, arrivals_from}
+use Rattle.bus_tap.specs.Arrival.{arrivals_from}
 use Rattle.bus_tap.proofs.ArrivalLemmas.{arrivals-more, arrivals-none, length-arrivals}
 use Rattle.bus_clocks.specs.Clocks.{two_clocks}
 use Rattle.bus_clocks.proofs.analyser.TwoClockAnalyser.scan.Goals as goal

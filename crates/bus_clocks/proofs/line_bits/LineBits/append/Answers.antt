@@ -1,4 +1,4 @@
-use Rattle.std.proofs.Common.{◌≡◌, ◌+◌, ◌*◌, ◌/◌, ◌%◌, ◌<◌, ◌≤◌, length, refl, ap, ◌∙◌, arith}
+use Rattle.std.proofs.Common.{◌≡◌, ◌+◌, ◌*◌, ◌/◌, ◌%◌, ◌≤◌, length, refl, ap, ◌∙◌, arith}
 use Rattle.bus_bits.proofs.BitLemmas.{length-from}
 use Rattle.bus_clocks.proofs.LineBitsLemmas.{bits-appended, length-stored}
 use Rattle.bus_clocks.proofs.line_bits.LineBits.append.Goals as goal

@@ -1,4 +1,4 @@
-use Rattle.std.proofs.Common.{refl, arith}
+use Rattle.std.proofs.Common.{refl}
 use Rattle.bus_bits.specs.Bits.{bits_from}
 use Rattle.bus_clocks.proofs.line_bits.LineBits.new.Goals as goal
 

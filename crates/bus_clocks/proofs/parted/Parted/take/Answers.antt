@@ -1,4 +1,4 @@
-use Rattle.std.proofs.Common.{◌≡◌, ◌+◌, ◌*◌, ◌/◌, ◌≤◌, ◌∷◌, [], ◌++◌, arith}
+use Rattle.std.proofs.Common.{◌≡◌, ◌*◌, ◌/◌, arith}
 use Rattle.bus_tap.specs.Arrival.{arrivals_from}
 use Rattle.bus_clocks.proofs.PartsLemmas.{arrivals-one, first-begins, second-begins}
 use Rattle.bus_clocks.proofs.parted.Parted.take.Goals as goal
