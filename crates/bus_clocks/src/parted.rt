@@ -27,7 +27,6 @@ pub(crate) struct Parted {
 }
 
 /// Parts these arrivals, at most 512 from one on.
-#[inline(always)]
 pub(crate) fn part(bits: &[u8], lines: &[u8], from: usize, count: usize) -> Parted
     requires few { count ≤ 512 }
     requires fits { from + count < 2 ^ 64 }
