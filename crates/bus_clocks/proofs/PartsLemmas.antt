@@ -1,7 +1,7 @@
 -- Arrivals up to a bit of the second line, and those beyond it.
 use Rattle.std.proofs.Common.{◌≡◌, ℕ, zero, suc, ◌+◌, ◌-◌, ◌<◌, ◌≤◌, Bool, List, [], ◌∷◌, ◌++◌, length, refl, sym, ap}
 use Rattle.std.proofs.Common.{◌∙◌, arith, append-nil, length-append, inl, inr, Some, subst, take, drop}
-use Rattle.std.proofs.Common.{◌*◌, get_or, map, zip, true, false, not}
+use Rattle.std.proofs.Common.{◌*◌, get_or, map, zip, true, false, not, replicate}
 use Rattle.std.specs.Prelude.{slice_get, slice_set}
 use Rattle.std.proofs.lemmas.Bool.{cases_lt}
 use Rattle.std.proofs.lemmas.List.{get_or-drop, get_or-set_other, get_or-set_same, get_or-take, length-drop, length-set}
@@ -325,6 +325,28 @@ second-begins bits lines at x y a b is ones twos pairs =
       before = λ k inside.
           (turns-first (bits_of 32 a) (bits_of 32 b) k (omega (arith, inside, length-bits 32 a)) long).1;
     })
+
+-- ---- 64 arrivals of which the second line is silent
+
+silent-own : (n : ℕ) (b : List Bool) → length b ≡ n →
+    (own First (map arrival_of (zip b (replicate n false))) ≡ b)
+    × (own Second (map arrival_of (zip b (replicate n false))) ≡ [])
+silent-own zero [] long = (refl, refl)
+silent-own zero (x ∷ b) long = absurd (omega (arith, long))
+silent-own (suc n) [] long = absurd (omega (arith, long))
+silent-own (suc n) (x ∷ b) long =
+    let rest = silent-own n b (omega (arith, long)) in
+    (ap (λ z. x ∷ z) rest.0, rest.1)
+
+none-second : bits_of 64 0 ≡ replicate 64 false
+unfolding bits_of
+none-second = refl
+
+pub silent-from : (bits lines : List ℕ) (at x y : ℕ) → y ≡ 0
+    → bits_of 64 x ≡ bits_from bits at 64 → bits_of 64 y ≡ bits_from lines at 64
+    → (own First (arrivals_from bits lines at 64) ≡ bits_of 64 x) × (own Second (arrivals_from bits lines at 64) ≡ [])
+silent-from bits lines at x y is ones twos =
+    rw (← ones, ← twos, ap (bits_of 64) is ∙ none-second) (silent-own 64 (bits_of 64 x) (length-bits 64 x))
 
 -- ---- the bits of either line in the middle
 

@@ -46,7 +46,8 @@ pub(crate) fn part(bits: &[u8], lines: &[u8], from: usize, count: usize) -> Part
 }
 
 impl Parted {
-    /// Takes some of these arrivals, so many from one on: 64 where the lines take turns, and else one. Returns how many.
+    /// Takes some of these arrivals, so many from one on: 64 where the lines take turns or the second is silent, and else
+    /// one. Returns how many.
     #[inline(always)]
     fn take(&mut self, bits: &[u8], lines: &[u8], at: usize, count: usize) -> usize
         requires some { 1 ≤ count }
@@ -58,7 +59,12 @@ impl Parted {
     {
         if at % 8 == 0 && count >= 64 {
             let turns = eight_at(lines, at / 8);
-            let pairs = PairWords::of(eight_at(bits, at / 8));
+            let word = eight_at(bits, at / 8);
+            if turns == 0 {
+                self.take_first(word);
+                return 64;
+            }
+            let pairs = PairWords::of(word);
             if turns == FIRST_BEGINS {
                 self.take_turns(pairs.first, pairs.second, 1);
                 return 64;
@@ -70,6 +76,17 @@ impl Parted {
         }
         self.take_one(bit_at(bits, at), bit_at(lines, at));
         1
+    }
+
+    /// Takes 64 arrivals of the first line.
+    #[inline(always)]
+    fn take_first(&mut self, bits: u64)
+        requires { (xs : List Arrival) × Parts xs self.old × (length xs + 64 ≤ 512) }
+        ensures { (xs zs : List Arrival) → Parts xs self.old → length xs + 64 ≤ 512 →
+            own First zs ≡ bits_of 64 bits → own Second zs ≡ [] → Parts (xs ++ zs) self.new }
+    {
+        self.first.append(bits & 0xffff_ffff, 32);
+        self.first.append(bits >> 32, 32);
     }
 
     /// Takes 64 arrivals, of each line in turn: so many bits of the first came before the first bit of the second.
