@@ -1,3 +1,4 @@
+pub mod ArrivalPlanesLemmas
 pub mod BitLemmas
 pub mod CaptureLemmas
 pub mod EightBitsLemmas

@@ -1,5 +1,5 @@
 -- Bits of a text, packed into a block.
-use Rattle.std.proofs.Common.{◌≡◌, ℕ, zero, suc, ◌+◌, ◌-◌, ◌*◌, ◌/◌, ◌%◌, ◌^◌, ◌<◌, ◌≤◌, ◌==◌, Bool, true, false}
+use Rattle.std.proofs.Common.{◌≡◌, ℕ, zero, suc, ◌+◌, ◌-◌, ◌*◌, ◌/◌, ◌%◌, ◌^◌, ◌<◌, ◌≤◌, Bool, true, false}
 use Rattle.std.proofs.Common.{List, [], ◌∷◌, ◌++◌, length, take, drop, set, get_or, map, None, inl, inr, refl, sym, ap}
 use Rattle.std.proofs.Common.{◌∙◌, subst, arith, append_assoc, append-nil, length-append}
 use Rattle.std.specs.Prelude.{bit_and, bit_or, slice_index}
@@ -11,18 +11,18 @@ use Rattle.std.proofs.lemmas.Grind.{common_steps}
 use Rattle.std.proofs.lemmas.Nat.{and_mask, mod_low, mul-add-lt, pow-add, shl_whole, shr-shr, shr_below, shr_high}
 use Rattle.std.proofs.lemmas.List.{get_or-drop, get_or-set_same, get_or-take, length-drop, length-take, take-append-le}
 use Rattle.std.proofs.lemmas.List.{take-map, take-set-le, take-take, take_all, take_more}
+use Rattle.std.proofs.Math.Nat.{div-eq_of_lt}
 use Rattle.std.proofs.Math.Seq.{take-append-add}
 use Rattle.bus_bits.specs.Bits.{bits_from}
 use Rattle.bus_bits.specs.Octet.{bits_of, bits_of_octets}
-use Rattle.bus_bits.specs.Capture.{is_bit, is_space, text_bits, text_fault}
-use Rattle.bus_bits.specs.Internal.Packs.{IsPacked, packed_bits}
+use Rattle.bus_bits.specs.Capture.{fault_by, is_bit, is_space, marks_by}
+use Rattle.bus_bits.specs.Internal.Packs.{IsPackedBy, packed_bits}
 use Rattle.bus_bits.specs.declared.format.text_block.Packing.{Packing}
 use Rattle.bus_bits.proofs.BitLemmas.{bits-in, bits-more}
 use Rattle.bus_bits.proofs.EightBitsOfNineLemmas.{all_kept, marks_text, text-given}
 use Rattle.bus_bits.proofs.GatherLemmas.{more-given, none-given}
 use Rattle.bus_bits.proofs.OctetLemmas.{bits-front, bits-low, bits-split, bits_of_octets-append, bits_of_octets-push}
 use Rattle.bus_bits.proofs.TextBitsLemmas.{values-more, space_read}
-use Rattle.bus_bits.proofs.TextMarksLemmas.{space-no-bit}
 use Rattle.bus_bits.proofs.WordLemmas.{bits-octets}
 
 -- ---- the octets of a number
@@ -64,7 +64,7 @@ le-octets n =
     ∷ n / 1099511627776 % 256 ∷ n / 281474976710656 % 256 ∷ n / 72057594037927936 % 256 ∷ []) first
 
 -- the first octets of a number have its lowest bits
-le-bits : (k n : ℕ) → k ≤ 8 → bits_of_octets (take k (to_le_bytes w64 n)) ≡ bits_of (8 * k) n
+pub le-bits : (k n : ℕ) → k ≤ 8 → bits_of_octets (take k (to_le_bytes w64 n)) ≡ bits_of (8 * k) n
 le-bits k n few = ap (λ (os : List ℕ). bits_of_octets (take k os)) (le-octets n)
     ∙ (ap bits_of_octets (octets-fewer k 8 n few) ∙ octets-bits k n)
 
@@ -76,7 +76,7 @@ pub joined-is : (rest bits held count : ℕ) → rest < 2 ^ held → bits < 2 ^ 
 joined-is rest bits held count small below fits =
     rw (shl_whole bits count held 64 below (omega (arith, fits))) (or_shifted_r bits held rest small)
 
-joined-bits : (rest bits held count : ℕ) → rest < 2 ^ held →
+pub joined-bits : (rest bits held count : ℕ) → rest < 2 ^ held →
     bits_of (held + count) (bits * 2 ^ held + rest) ≡ bits_of held rest ++ bits_of count bits
 joined-bits rest bits held count small =
     bits-split held count (bits * 2 ^ held + rest)
@@ -150,31 +150,32 @@ bits-stored block p room few =
 -- ---- what octets of a text give
 
 -- the first octets of which each is a bit
-pub front-marks : (k count n : ℕ) (xs : List ℕ) → count ≤ k → bits_of k n ≡ map is_bit xs →
-    ((i : ℕ) → i < count → bit_at n i ≡ 1) → list_all is_bit (take count xs) ≡ true
+pub front-marks : (is_mark : ℕ → Bool) (k count n : ℕ) (xs : List ℕ) → count ≤ k → bits_of k n ≡ map is_mark xs →
+    ((i : ℕ) → i < count → bit_at n i ≡ 1) → list_all is_mark (take count xs) ≡ true
 unfolding bits_of
-front-marks k zero n xs few is ones = refl
-front-marks zero (suc count) n xs few is ones = absurd (omega (arith, few))
-front-marks (suc k) (suc count) n [] few is ones = refl
-front-marks (suc k) (suc count) n (x ∷ xs) few is ones =
+front-marks is_mark k zero n xs few is ones = refl
+front-marks is_mark zero (suc count) n xs few is ones = absurd (omega (arith, few))
+front-marks is_mark (suc k) (suc count) n [] few is ones = refl
+front-marks is_mark (suc k) (suc count) n (x ∷ xs) few is ones =
     let one : n % 2 ≡ 1 = omega (arith, ones 0 (omega arith)) in
-    let first : is_bit x ≡ true = sym (ap (λ (z : List Bool). get_or z 0 true) is) ∙ rw one refl in
-    and_from (is_bit x) (list_all is_bit (take count xs)) first
-    (front-marks k count (n / 2) xs (omega (arith, few)) (ap (drop 1) is)
+    let first : is_mark x ≡ true = sym (ap (λ (z : List Bool). get_or z 0 true) is) ∙ rw one refl in
+    and_from (is_mark x) (list_all is_mark (take count xs)) first
+    (front-marks is_mark k count (n / 2) xs (omega (arith, few)) (ap (drop 1) is)
     (λ i below. ap (λ (j : ℕ). j % 2) (shr-shr n 1 i ∙ ap (λ (j : ℕ). n / 2 ^ j) (omega arith))
     ∙ ones (i + 1) (omega (arith, below))))
 
 -- more of the text is packed
-pub packed-more : (text block after : List ℕ) (p q : Packing) (n : ℕ) (bits : List Bool) → IsPacked text block p →
-    q.taken ≡ p.taken + n
+pub packed-more : (is_mark value : ℕ → Bool) (text block after : List ℕ) (p q : Packing) (n : ℕ) (bits : List Bool) →
+    IsPackedBy is_mark value text block p → q.taken ≡ p.taken + n
     → n ≤ length (take (length text - p.taken) (drop p.taken text)) → q.filled < length after → q.held < 8 →
     q.rest < 2 ^ q.held
     → packed_bits after q ≡ packed_bits block p ++ bits
-    → ((ys : List ℕ) → text_fault ys ≡ None
-    → (text_fault (ys ++ take n (take (length text - p.taken) (drop p.taken text))) ≡ None)
-    × (text_bits (ys ++ take n (take (length text - p.taken) (drop p.taken text))) ≡ text_bits ys ++ bits))
-    → IsPacked text after q
-packed-more text block after p q n bits before taken fits room few small are given = record {
+    → ((ys : List ℕ) → fault_by is_mark ys ≡ None
+    → (fault_by is_mark (ys ++ take n (take (length text - p.taken) (drop p.taken text))) ≡ None)
+    × (map value (marks_by is_mark (ys ++ take n (take (length text - p.taken) (drop p.taken text))))
+    ≡ map value (marks_by is_mark ys) ++ bits))
+    → IsPackedBy is_mark value text after q
+packed-more is_mark value text block after p q n bits before taken fits room few small are given = record {
   enough = omega (
     arith,
     taken,
@@ -187,33 +188,35 @@ packed-more text block after p q n bits before taken fits room few small are giv
   few = few;
   small = small;
   given = λ xs clean.
-      subst (λ (m : ℕ). (text_fault (xs ++ take m text) ≡ None)
-      × (text_bits (xs ++ take m text) ≡ text_bits xs ++ packed_bits after q)) (sym taken)
-      (more-given text_bits text_fault xs text p.taken n (packed_bits block p) bits (packed_bits after q) are
-      (before.given xs clean) given);
+      subst (λ (m : ℕ). (fault_by is_mark (xs ++ take m text) ≡ None)
+      × (map value (marks_by is_mark (xs ++ take m text)) ≡ map value (marks_by is_mark xs) ++ packed_bits after q))
+      (sym taken)
+      (more-given (λ (ys : List ℕ). map value (marks_by is_mark ys)) (fault_by is_mark) xs text p.taken n
+      (packed_bits block p) bits (packed_bits after q) are (before.given xs clean) given);
 }
 
--- no more than sixteen bits are ones in a row from the lowest
-pub ones-few : (n t : ℕ) → n < 2 ^ 16 → ((i : ℕ) → i < t → bit_at n i ≡ 1) → t ≤ 16
-ones-few n t small ones = elim (cases_lt 16 t) [
-  | inl more ↦ absurd (omega (arith, ones 16 more, small))
+-- no more bits are ones in a row from the lowest than a number has
+pub ones-few : (k n t : ℕ) → n < 2 ^ k → ((i : ℕ) → i < t → bit_at n i ≡ 1) → t ≤ k
+ones-few k n t small ones = elim (cases_lt k t) [
+  | inl more ↦ absurd (omega (arith, ones k more, div-eq_of_lt small))
   | inr within ↦ within
 ]
 
 -- the bits of the first of some octets, where all of these are bits
-pub front-given : (os front : List ℕ) (k count ones : ℕ) (given : List Bool) → front ≡ take k os → count ≤ k →
-    bits_of k ones ≡ map (λ x. x == 49) front
-    → list_all is_bit (take count front) ≡ true → given ≡ bits_of count ones → (ys : List ℕ) → text_fault ys ≡ None
-    → (text_fault (ys ++ take count os) ≡ None) × (text_bits (ys ++ take count os) ≡ text_bits ys ++ given)
-front-given os front k count ones given same few is all are ys clean =
-    let value : ℕ → Bool = λ x. x == 49 in
+pub front-given : (is_mark value : ℕ → Bool) (os front : List ℕ) (k count ones : ℕ) (given : List Bool) →
+    front ≡ take k os → count ≤ k → bits_of k ones ≡ map value front
+    → list_all is_mark (take count front) ≡ true → given ≡ bits_of count ones → (ys : List ℕ)
+    → fault_by is_mark ys ≡ None
+    → (fault_by is_mark (ys ++ take count os) ≡ None)
+    × (map value (marks_by is_mark (ys ++ take count os)) ≡ map value (marks_by is_mark ys) ++ given)
+front-given is_mark value os front k count ones given same few is all are ys clean =
     let front-same : take count front ≡ take count os = ap (take count) same ∙ take-take count k os few in
-    let marks : list_all is_bit (take count os) ≡ true = ap (list_all is_bit) (sym front-same) ∙ all in
+    let marks : list_all is_mark (take count os) ≡ true = ap (list_all is_mark) (sym front-same) ∙ all in
     let bits : given ≡ map value (take count os) =
     are ∙ (sym (bits-front count k ones few)
     ∙ (ap (take count) is ∙ (take-map value count front ∙ ap (map value) front-same))) in
-    text-given is_bit value os (take count os) count given (marks_text is_bit (take count os) marks)
-    (all_kept is_bit (take count os) marks) bits ys clean
+    text-given is_mark value os (take count os) count given (marks_text is_mark (take count os) marks)
+    (all_kept is_mark (take count os) marks) bits ys clean
 
 unmarked : (n : ℕ) (xs : List ℕ) → bits_of 16 n ≡ map is_bit xs → bit_at n 0 ≡ 0 → is_bit (get_or xs 0 0) ≡ false
 unfolding bits_of
@@ -244,10 +247,10 @@ bits-halves block n =
     ∙ rw (and_mask n 32, bits-low 32 n) (ap (λ (z : List Bool). block ++ z) (sym (bits-split 32 32 n)))
 
 -- one octet more that is skipped
-pub space-passed : (text block : List ℕ) (p : Packing) → p.taken < length text →
-    is_space (slice_index text p.taken) ≡ true → IsPacked text block p
-    → IsPacked text block (record p { taken = p.taken + 1 })
-space-passed text block p inside space packed = record {
+pub space-passed : (is_mark value : ℕ → Bool) → ((x : ℕ) → is_space x ≡ true → is_mark x ≡ false) →
+    (text block : List ℕ) (p : Packing) → p.taken < length text → is_space (slice_index text p.taken) ≡ true →
+    IsPackedBy is_mark value text block p → IsPackedBy is_mark value text block (record p { taken = p.taken + 1 })
+space-passed is_mark value others text block p inside space packed = record {
   enough = omega (arith, inside);
   room = packed.room;
   few = packed.few;
@@ -255,14 +258,14 @@ space-passed text block p inside space packed = record {
   given = λ xs clean.
       let x : ℕ = get_or text p.taken 0 in
       let before = packed.given xs clean in
-      let more = values-more is_bit (λ y. y == 49) (xs ++ take p.taken text) x before.0 (space_read is_bit x space) in
+      let more = values-more is_mark value (xs ++ take p.taken text) x before.0 (space_read is_mark x space) in
       let next : (xs ++ take p.taken text) ++ x ∷ [] ≡ xs ++ take (p.taken + 1) text =
       append_assoc xs (take p.taken text) (x ∷ [])
       ∙ ap (λ (z : List ℕ). xs ++ z) (sym (take_more text p.taken 0 inside)) in (
-        subst (λ (z : List ℕ). text_fault z ≡ None) next more.0,
-        ap text_bits (sym next)
+        subst (λ (z : List ℕ). fault_by is_mark z ≡ None) next more.0,
+        ap (λ (z : List ℕ). map value (marks_by is_mark z)) (sym next)
             ∙ (more.1
-            ∙ rw (space-no-bit x space) (append-nil (text_bits (xs ++ take p.taken text)) ∙ before.1)),
+            ∙ rw (others x space) (append-nil (map value (marks_by is_mark (xs ++ take p.taken text))) ∙ before.1)),
       );
 }
 
@@ -271,13 +274,13 @@ unfolding bits_of_octets bits_of
 no-bits block = refl
 
 -- nothing is packed at first
-pub packed-none : (text block : List ℕ) → 1 ≤ length block →
-    IsPacked text block (record { taken = 0; filled = 0; rest = 0; held = 0 })
-packed-none text block room = record {
+pub packed-none : (is_mark value : ℕ → Bool) (text block : List ℕ) → 1 ≤ length block →
+    IsPackedBy is_mark value text block (record { taken = 0; filled = 0; rest = 0; held = 0 })
+packed-none is_mark value text block room = record {
   enough = omega arith;
   room = omega (arith, room);
   few = omega arith;
   small = omega arith;
-  given = λ xs clean. none-given text_bits text_fault xs text
+  given = λ xs clean. none-given (λ (ys : List ℕ). map value (marks_by is_mark ys)) (fault_by is_mark) xs text
       (packed_bits block (record { taken = 0; filled = 0; rest = 0; held = 0 })) (no-bits block) clean;
 }

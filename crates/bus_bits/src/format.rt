@@ -1,5 +1,6 @@
 //! Readers of captures, octet by octet or several octets at once.
 
+mod arrival_planes;
 mod eight_bits;
 mod packed_bits;
 mod packed_head;

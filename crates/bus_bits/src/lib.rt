@@ -15,4 +15,4 @@ pub use format::{
 pub use octet::{bits_number, bits_octet, octet_bits};
 pub use span::Span;
 pub use spent::Spent;
-pub use word::{Word, seven_octets_at, word_at};
+pub use word::{Word, bit_at, eight_at, seven_octets_at, word_at};

@@ -2,7 +2,7 @@
 
 ghost use Rattle.std.specs.Prelude.{◌≡◌, ◌+◌, ◌-◌, ◌*◌, ◌/◌, ◌%◌, ◌≤◌, ◌<◌, ◌^◌, ℕ, length, min, slice_index};
 ghost use Rattle.bus_bits.specs.Octet.{bits_of};
-ghost use Rattle.bus_bits.specs.Bits.{bits_from};
+ghost use Rattle.bus_bits.specs.Bits.{bit_at, bits_from};
 ghost use Rattle.bus_bits.specs.Word.{IsWordOf};
 
 use std::cmp::min;
@@ -12,6 +12,15 @@ use std::cmp::min;
 pub struct Word {
     pub bits: u64,
     pub count: u32,
+}
+
+/// A bit of these octets, the lowest of each first.
+#[inline(always)]
+pub fn bit_at(octets: &[u8], at: usize) -> bool
+    requires { at < 8 * length octets.now }
+    ensures { result ≡ bit_at octets.now at }
+{
+    (octets[at / 8] >> (at % 8)) % 2 == 1
 }
 
 /// Bits of these octets, the lowest of each first, from bit `at` on: up to 48 of those before bit `end`.
@@ -79,7 +88,7 @@ fn only(octets: &[u8]) -> u64
 
 /// Eight of these octets as a number, the first lowest.
 #[inline(always)]
-pub(crate) fn eight_at(octets: &[u8], from: usize) -> u64
+pub fn eight_at(octets: &[u8], from: usize) -> u64
     requires { from + 8 ≤ length octets.now }
     ensures { bits_of 64 result ≡ bits_from octets.now (8 * from) 64 }
 {

@@ -9,14 +9,14 @@ use Rattle.bus_pairing.specs.LineReport.{LineReport}
 use Rattle.bus_pairing.specs.Seen.{SeenReport, seen}
 use Rattle.bus_pairing.proofs.SeenLemmas.{seen-more}
 use Rattle.bus_watch.specs.Watch.{AdvancesWatchShown}
-use Rattle.bus_tap.specs.Arrival.{Arrival, arrived, decides}
+use Rattle.bus_tap.specs.Arrival.{Arrival, arrival_of, arrived, decides}
 use Rattle.bus_clocks.specs.Clocks.{IsAfterArrivals, bits_taken, two_clocks}
 use Rattle.bus_tap.specs.Laws.{ArrivalsGrow}
-use Rattle.bus_tap.specs.Rested.{comes_to_rest, rested, fill}
+use Rattle.bus_tap.specs.Rested.{IsRestAfter, RestState, comes_to_rest, rested, fill}
 use Rattle.bus_tap.proofs.RestLemmas.{rested-more}
 use Rattle.bus_clocks.proofs.RoomLemmas.{own-count}
 use Rattle.bus_text.specs.declared.fault.ToolFault.{ToolFault}
-use Rattle.bus_calls.specs.Captures.{arrival_of, form_of_arrivals}
+use Rattle.bus_calls.specs.Captures.{form_of_arrivals}
 use Rattle.bus_calls.specs.Internal.Arrivals.{RestsAfter, arrivals_kind, clocks_behind}
 use Rattle.bus_calls.specs.Internal.Kinds.{FedOn}
 use Rattle.bus_calls.specs.Internal.Watching.{FeedStopsWith, FeedAfter, WatchStopsWith, WatchAfter}
@@ -52,6 +52,17 @@ pub fed-on : (rest : ℕ) (b more : List (Bool × Bool)) → FedOn form_of_arriv
 fed-on rest b more =
     let on = rests-on rest (map arrival_of b) (map arrival_of more) in
     record { taken = on.taken; is = ap (rested rest) (map-append arrival_of b more) ∙ on.is }
+
+-- the rule takes the arrivals of some symbols more
+pub rests-more : (r q : RestState) (b more : List (Bool × Bool)) (ys zs : List Arrival) → q.most ≡ r.most
+    → ys ≡ map arrival_of more
+    → rested r.most (map arrival_of b ++ ys) ≡ rested r.most (map arrival_of b) ++ zs
+    → IsRestAfter q (map arrival_of b ++ ys)
+    → RestsAfter q (b ++ more) (rested r.most (map arrival_of b) ++ zs)
+rests-more r q b more ys zs most are gives after =
+    let all : map arrival_of (b ++ more) ≡ map arrival_of b ++ ys =
+    map-append arrival_of b more ∙ ap (λ (xs : List Arrival). map arrival_of b ++ xs) (sym are) in
+    record { after = rw all after; rested = rw (all, most) gives }
 
 -- ---- what is seen
 

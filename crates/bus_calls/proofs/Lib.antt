@@ -14,7 +14,6 @@ pub mod ReadingLemmas
 pub mod ListsLemmas
 pub mod KnownLemmas
 pub mod ChecksLemmas
-pub mod ArrivalBlockLemmas
 pub mod ArrivalsLemmas
 pub mod LinesLemmas
 pub mod EncodeLemmas

@@ -12,19 +12,15 @@ use Rattle.bus_line.specs.Due as line
 use Rattle.bus_pairing.specs.LineReport.{LineReport, of_line, firsts, seconds, merged}
 use Rattle.bus_pairing.specs.Seen.{SeenReport, seen}
 use Rattle.bus_pairing.specs.Shown.{begun_span}
-use Rattle.bus_pairing.specs.declared.line.Line.TheVariants.{First, Second}
+use Rattle.bus_pairing.specs.declared.line.Line.TheVariants.{First}
 use Rattle.bus_pairing.specs.declared.pending.Pending.{Pending}
-use Rattle.bus_tap.specs.Arrival.{Arrival, own}
+use Rattle.bus_tap.specs.Arrival.{Arrival, arrival_of, own}
 use Rattle.bus_tap.specs.Arrival.{arrived, begun_places}
 use Rattle.bus_tap.specs.Rested.{rested}
 use Rattle.bus_text.specs.Listing.{Line, ending_lines, pair_ending_lines}
 use Rattle.bus_text.specs.declared.fault.ToolFault.{ToolFault}
 use Rattle.bus_text.specs.declared.fault.ToolFault.TheVariants.{BadMark, Magic, TooMany, PadBits, Trailing, PlaceLimit}
 use Rattle.bus_text.specs.declared.fault.ToolFault.TheVariants.{ShortHead, ShortBody}
-
--- an arrival, by its bit and whether it is one of the second line
-abbrev pub arrival_of : Bool × Bool → Arrival
-arrival_of (bit, is_second) = (if is_second then Second else First, bit)
 
 -- in what captures differ; R is what they have, bits, pairs of bits or arrivals, and X what an analyser takes
 pub record Form (R X : Type 0) : Type 0 where

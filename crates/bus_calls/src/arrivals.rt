@@ -1,13 +1,13 @@
 //! Captures of two lines with a clock each.
 
-ghost use Rattle.std.specs.Prelude.{◌≡◌, ◌≤◌, ℕ, List, Option, ◌∷◌, ◌++◌, take, MatchResult};
-ghost use Rattle.bus_calls.specs.Captures.{arrival_of};
+ghost use Rattle.std.specs.Prelude.{◌≡◌, ◌≤◌, ◌*◌, ℕ, Bool, List, Option, ◌∷◌, ◌++◌, length, take, zip, MatchResult};
+ghost use Rattle.bus_bits.specs.Bits.{bits_from};
 ghost use Rattle.bus_calls.specs.Internal.Arrivals.{arrivals_kind};
-ghost use Rattle.bus_calls.specs.Internal.Watching.{WatchStopsWith, IsSame, IsSound, WatchAfter};
-ghost use Rattle.bus_tap.specs.Arrival.{Arrival};
-ghost use Rattle.bus_tap.specs.Rested.{fill};
+ghost use Rattle.bus_calls.specs.Internal.Watching.{FeedAfter, FeedStopsWith, WatchStopsWith, IsSame, IsSound};
+ghost use Rattle.bus_calls.specs.Internal.Watching.{WatchAfter};
+ghost use Rattle.bus_tap.specs.Arrival.{Arrival, arrival_of, arrivals_from};
+ghost use Rattle.bus_tap.specs.Rested.{IsRestAfter, fill, rested};
 
-use crate::arrival_block::ArrivalBlock;
 use crate::capture_kind::CaptureKind;
 use crate::run::CaptureRun;
 use arrayvec::ArrayVec;
@@ -22,7 +22,11 @@ use bus_text::{Page, Printer, ShortWrite, ToolFault, put_kept};
 use bus_watch::laws::seen_grows;
 use bus_watch::{Counts, Line, NewFault};
 use std::alloc::Global;
+use std::cmp::min;
 use std::io::Write;
+
+/// How many octets hold the arrivals that are taken at once, and as many their lines.
+const BLOCK: usize = 128;
 
 /// An analyser of two lines with a clock each, behind the rule of rest.
 #[derive(Drop)]
@@ -31,25 +35,70 @@ pub struct ClockAnalyser<C: Check> {
     pub rest: RestRule,
 }
 
-/// Takes arrivals, and tells what is seen at them.
+/// A symbol as an arrival.
+fn arrival(symbol: (bool, bool)) -> Arrival
+    ensures { result ≡ arrival_of symbol }
+{
+    let (bit, is_second) = symbol;
+    if is_second {
+        (Line::Second, bit)
+    } else {
+        (Line::First, bit)
+    }
+}
+
+/// Takes so many arrivals of these octets, their bits and their lines, and tells what is seen at them.
 fn analyse_arrivals<C: Check, W: Write>(
-    arrivals: &[Arrival],
+    bits: &[u8],
+    lines: &[u8],
+    count: usize,
     run: &mut CaptureRun<ClockAnalyser<C>>,
     w: &mut W,
 ) -> Result<(), ToolFault>
-    requires { IsSound (arrivals_kind C.check) run.old }
+    requires sound { IsSound (arrivals_kind C.check) run.old }
+    requires enough { (count ≤ 8 * length bits.now) × (count ≤ 8 * length lines.now) }
     ensures taken { (start : Option (List ℕ)) (b : List Arrival) →
         WatchAfter (arrivals_kind C.check) start (W.contents w.old) run.old b → MatchResult result
-        (λ _. WatchAfter (arrivals_kind C.check) start (W.contents w.new) run.new (b ++ arrivals.now))
-        (λ fault. WatchStopsWith (arrivals_kind C.check) start (W.contents w.new) run.new (b ++ arrivals.now) fault) }
+        (λ _. WatchAfter (arrivals_kind C.check) start (W.contents w.new) run.new
+        (b ++ arrivals_from bits.now lines.now 0 count))
+        (λ fault. WatchStopsWith (arrivals_kind C.check) start (W.contents w.new) run.new
+        (b ++ arrivals_from bits.now lines.now 0 count) fault) }
     ensures rule { run.new.analyser.rest ≡ run.old.analyser.rest }
     ensures same { IsSame (arrivals_kind C.check) run.old run.new }
     ensures sound { IsSound (arrivals_kind C.check) run.new }
 {
     ClockAnalyser::<C>::laws();
     run.reporter.cut = None;
-    let taken = run.analyser.analyser.scan(arrivals, &mut run.reporter, w);
-    run.reporter.scanned(taken, arrivals.len())
+    let taken = run
+        .analyser
+        .analyser
+        .scan(bits, lines, count, &mut run.reporter, w);
+    run.reporter.scanned(taken, count)
+}
+
+/// Takes so many symbols of these octets, none of which brings the second line to rest.
+fn analyse_quiet<C: Check, W: Write>(
+    bits: &[u8],
+    lines: &[u8],
+    count: usize,
+    run: &mut CaptureRun<ClockAnalyser<C>>,
+    w: &mut W,
+) -> Result<(), ToolFault>
+    requires sound { IsSound (arrivals_kind C.check) run.old }
+    requires enough { (count ≤ 8 * length bits.now) × (count ≤ 8 * length lines.now) }
+    requires quiet { (xs ys : List Arrival) → IsRestAfter run.old.analyser.rest xs → length ys ≤ count →
+        rested run.old.analyser.rest.most (xs ++ ys) ≡ rested run.old.analyser.rest.most xs ++ ys }
+    ensures taken { (start : Option (List ℕ)) (b : List (Bool × Bool)) →
+        FeedAfter (arrivals_kind C.check) start (W.contents w.old) run.old b → MatchResult result
+        (λ _. FeedAfter (arrivals_kind C.check) start (W.contents w.new) run.new
+        (b ++ zip (bits_from bits.now 0 count) (bits_from lines.now 0 count)))
+        (λ fault. FeedStopsWith (arrivals_kind C.check) start (W.contents w.new) run.new
+        (b ++ zip (bits_from bits.now 0 count) (bits_from lines.now 0 count)) fault) }
+    ensures same { IsSame (arrivals_kind C.check) run.old run.new }
+    ensures sound { IsSound (arrivals_kind C.check) run.new }
+{
+    run.analyser.rest.pass(bits, lines, count);
+    analyse_arrivals(bits, lines, count, run, w)
 }
 
 impl<C: Check> CaptureKind for ClockAnalyser<C> {
@@ -123,9 +172,12 @@ impl<C: Check> CaptureKind for ClockAnalyser<C> {
         run: &mut CaptureRun<Self>,
         w: &mut W,
     ) -> Result<(), ToolFault> {
-        let mut block = ArrivalBlock::new();
-        block.put(symbol, &mut run.analyser.rest);
-        analyse_arrivals(block.as_slice(), run, w)
+        let arrival = arrival(symbol);
+        let comes = run.analyser.rest.push(arrival.0, arrival.1);
+        // Behind it are the fifteen 1s that bring the second line to rest.
+        let bits = [u8::from(symbol.0) | 0xfe, 0xff];
+        let lines = [u8::from(symbol.1) | 0xfe, 0xff];
+        analyse_arrivals(&bits, &lines, if comes { 16 } else { 1 }, run, w)
     }
 
     fn analyse_text<W: Write>(
@@ -134,10 +186,18 @@ impl<C: Check> CaptureKind for ClockAnalyser<C> {
         w: &mut W,
     ) -> Result<usize, ToolFault> {
         Self::laws();
-        let mut block = ArrivalBlock::new();
-        let taken = block.put_text(octets, &mut run.analyser.rest);
-        analyse_arrivals(block.as_slice(), run, w)?;
-        Ok(taken)
+        let room = min(run.analyser.rest.quiet() / 8, BLOCK as u64) as usize;
+        // Fewer octets are not looked at together, and do not pay for clearing the blocks.
+        if octets.len() < 32 || room == 0 {
+            return Ok(0);
+        }
+        let mut bits = [0; BLOCK];
+        let mut lines = [0; BLOCK];
+        let bits = &mut bits[..room];
+        let lines = &mut lines[..room];
+        let block = TextArrivals::part(octets, bits, lines);
+        analyse_quiet(bits, lines, block.count, run, w)?;
+        Ok(block.taken)
     }
 
     fn analyse_packed<W: Write>(
@@ -148,10 +208,17 @@ impl<C: Check> CaptureKind for ClockAnalyser<C> {
     ) -> Result<usize, ToolFault> {
         arrivals_are_head_and_body();
         Self::laws();
-        let mut block = ArrivalBlock::new();
-        let taken = block.put_packed(body, octets, &mut run.analyser.rest);
-        analyse_arrivals(block.as_slice(), run, w)?;
-        Ok(taken)
+        let most = min(run.analyser.rest.quiet() / 4, 2 * BLOCK as u64) as usize;
+        let count = body.whole(min(octets.len(), most));
+        if count == 0 {
+            return Ok(0);
+        }
+        let whole = &octets[..count];
+        let mut bits = [0; BLOCK];
+        let mut lines = [0; BLOCK];
+        body.unpack_octets(whole, &mut bits, &mut lines);
+        analyse_quiet(&bits, &lines, 4 * whole.len(), run, w)?;
+        Ok(count)
     }
 
     fn laws() {

@@ -2,7 +2,6 @@
 //! lines.
 #![tactic(auto)]
 
-mod arrival_block;
 mod arrivals;
 mod capture_kind;
 mod check;

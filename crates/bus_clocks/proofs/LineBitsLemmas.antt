@@ -1,91 +1,55 @@
--- A bit more among packed bits, and some of those that octets hold.
-use Rattle.std.proofs.Common.{◌≡◌, ℕ, zero, suc, ◌+◌, ◌*◌, ◌/◌, ◌%◌, ◌^◌, ◌<◌, Bool, true, false, List, [], ◌∷◌, ◌++◌}
-use Rattle.std.proofs.Common.{length, take, inl, inr, refl, replicate, sym, ap, ◌∙◌, arith, length-append, append_assoc}
-use Rattle.std.specs.Prelude.{bit_or, slice_index, slice_set}
-use Rattle.std.specs.Int.Bits.{or_shifted_r}
-use Rattle.std.proofs.lemmas.Nat.{mod_low, mul-add-lt, pow-add, shl_whole, shr_high}
-use Rattle.std.proofs.lemmas.Bool.{cases_lt}
-use Rattle.std.proofs.lemmas.List.{append_cancel_left, get_or-set_same, get_or-set_other}
+-- Bits after those that octets hold, and some of those that octets hold.
+use Rattle.std.proofs.Common.{◌≡◌, ℕ, ◌+◌, ◌-◌, ◌*◌, ◌%◌, ◌^◌, ◌<◌, ◌≤◌, Bool, List, ◌++◌, length, take, refl}
+use Rattle.std.proofs.Common.{sym, ap, ◌∙◌, arith, length-append, append_assoc, mod-lt}
+use Rattle.std.specs.Prelude.{bit_and, bit_or, slice_index}
+use Rattle.std.specs.Int.{w64, to_le_bytes}
+use Rattle.std.proofs.lemmas.Nat.{and_mask, one_shl, pow_pos}
+use Rattle.std.proofs.lemmas.List.{append_cancel_left, take_all}
 use Rattle.std.proofs.Math.Seq.{take-append-add, take-append_seam}
-use mir.Val.{bool_byte}
+use Rattle.std.proofs.lemmas.Grind.{common_steps}
+use borrow.Rule.Slice.PartMut.{put_mid}
 use Rattle.bus_bits.specs.Bits.{bits_from}
-use Rattle.bus_bits.specs.Octet.{bits_of}
+use Rattle.bus_bits.specs.Octet.{bits_of, bits_of_octets}
 use Rattle.bus_bits.proofs.BitLemmas.{bits-in, bits-more, bits-taken, length-from}
-use Rattle.bus_bits.proofs.OctetLemmas.{bits-front, bits-low, bits-split, one_bit}
-use Rattle.bus_bits.proofs.PairBlockLemmas.{octet-stored}
+use Rattle.bus_bits.proofs.OctetLemmas.{bits-front, bits-low}
+use Rattle.bus_bits.proofs.PairBlockLemmas.{bits-stored}
+use Rattle.bus_bits.proofs.TextBlockLemmas.{joined-bits, joined-is, le-bits}
 
-pub byte-small : (b : Bool) → bool_byte b < 2 ^ 1
-byte-small true = omega arith
-byte-small false = omega arith
-
--- the octet to which a bit is put
-pub put-is : (o f k : ℕ) → o < 2 ^ k → f < 2 ^ 1 → k < 8 → bit_or o (f * 2 ^ k % 2 ^ 8) ≡ f * 2 ^ k + o
-put-is o f k small one few = rw (shl_whole f 1 k 8 one (omega (arith, few))) (or_shifted_r f k o small)
-
-put-bits : (o f k : ℕ) → o < 2 ^ k → bits_of (k + 1) (f * 2 ^ k + o) ≡ bits_of k o ++ bits_of 1 f
-put-bits o f k small =
-    bits-split k 1 (f * 2 ^ k + o)
-    ∙ (ap (λ (x : ℕ). bits_of k (f * 2 ^ k + o) ++ bits_of 1 x) (shr_high f k o small)
-    ∙ ap (λ (z : List Bool). z ++ bits_of 1 f)
-    (sym (bits-low k (f * 2 ^ k + o)) ∙ ap (bits_of k) (mod_low f k o small)))
-
--- a bit after `q` octets and `k` bits
-pub bit-put : (os : List ℕ) (q k f : ℕ) (bit : Bool) → q < length os → k < 8 → slice_index os q < 2 ^ k →
-    f ≡ bool_byte bit →
-    bits_from (slice_set os q (f * 2 ^ k + slice_index os q)) 0 (8 * q + (k + 1))
-    ≡ bits_from os 0 (8 * q + k) ++ bit ∷ []
-bit-put os q k f bit inside few small is =
+-- the octets of a number that has some bits behind others of an octet, stored from that octet on
+pub bits-appended : (os : List ℕ) (q k count bits rest joined : ℕ) → q + 8 ≤ length os → k < 8 → k + count ≤ 64
+    → bits < 2 ^ count → rest ≡ bit_and (slice_index os q) (1 * 2 ^ k % 2 ^ 64 - 1)
+    → joined ≡ bit_or rest (bits * 2 ^ k % 2 ^ 64)
+    → bits_from (put_mid q (q + 8 - q) os (to_le_bytes w64 joined)) 0 (8 * q + k + count)
+    ≡ bits_from os 0 (8 * q + k) ++ bits_of count bits
+bits-appended os q k count bits rest joined inside few fits below kept is =
     let o = slice_index os q in
-    let v : ℕ = f * 2 ^ k + o in
-    let new = slice_set os q v in
+    let new = put_mid q (q + 8 - q) os (to_le_bytes w64 joined) in
     let front = bits_from os 0 (8 * q) in
-    let stored : bits_from new 0 (8 * (q + 1)) ≡ front ++ bits_of 8 v = octet-stored os q v inside in
-    let more : 8 * q + (k + 1) ≡ length front + (k + 1) = omega (arith, length-from os 0 (8 * q)) in
-    let low : bits_of k o ≡ bits_from os (0 + 8 * q) k =
-    ap (bits_of k) (omega arith) ∙ bits-in os q 0 (0 + 8 * q) k (omega arith) (omega (arith, few)) in
-    sym (bits-taken new 0 (8 * (q + 1)) (8 * q + (k + 1)) (omega (arith, few)))
-    ∙ (ap (take (8 * q + (k + 1))) stored
-    ∙ (ap (λ (n : ℕ). take n (front ++ bits_of 8 v)) more
-    ∙ (take-append-add front (bits_of 8 v) (k + 1)
-    ∙ (ap (λ b. front ++ b) (bits-front (k + 1) 8 v (omega (arith, few))
-    ∙ (put-bits o f k small ∙ ap (λ b. bits_of k o ++ b) (one_bit f 1 bit is (omega arith) (omega arith))))
-    ∙ (sym (append_assoc front (bits_of k o) (bit ∷ []))
-    ∙ ap (λ b. (front ++ b) ++ bit ∷ []) low
-    ∙ ap (λ b. b ++ bit ∷ []) (sym (bits-more os 0 (8 * q) k)))))))
+    let low : rest ≡ o % 2 ^ k =
+    kept ∙ (ap (λ (n : ℕ). bit_and o (n - 1)) (one_shl k 64 (omega (arith, few))) ∙ and_mask o k) in
+    let small : rest < 2 ^ k = rw low (mod-lt o (pow_pos k)) in
+    let sum : joined ≡ bits * 2 ^ k + rest = is ∙ joined-is rest bits k count small below fits in
+    let octets : bits_of_octets (to_le_bytes w64 joined) ≡ bits_of 64 joined =
+    ap bits_of_octets (sym (take_all 8 (to_le_bytes w64 joined) (omega arith))) ∙ le-bits 8 joined (omega arith) in
+    let stored : bits_from new 0 (8 * (q + 8)) ≡ front ++ bits_of 64 joined =
+    bits-stored os (to_le_bytes w64 joined) q 8 (q + 8) refl refl inside ∙ ap (λ (b : List Bool). front ++ b) octets in
+    let here : 8 * q + k + count ≡ length front + (k + count) = omega (arith, length-from os 0 (8 * q)) in
+    let first : bits_of k rest ≡ bits_from os (0 + 8 * q) k =
+    ap (bits_of k) low ∙ (bits-low k o ∙ (ap (bits_of k) (omega arith)
+    ∙ bits-in os q 0 (0 + 8 * q) k (omega arith) (omega (arith, few)))) in
+    sym (bits-taken new 0 (8 * (q + 8)) (8 * q + k + count) (omega (arith, fits)))
+    ∙ (ap (take (8 * q + k + count)) stored
+    ∙ (ap (λ (n : ℕ). take n (front ++ bits_of 64 joined)) here
+    ∙ (take-append-add front (bits_of 64 joined) (k + count)
+    ∙ (ap (λ (b : List Bool). front ++ b) (bits-front (k + count) 64 joined fits
+    ∙ rw sum (joined-bits rest bits k count small))
+    ∙ (sym (append_assoc front (bits_of k rest) (bits_of count bits))
+    ∙ ap (λ (b : List Bool). (front ++ b) ++ bits_of count bits) first
+    ∙ ap (λ (b : List Bool). b ++ bits_of count bits) (sym (bits-more os 0 (8 * q) k)))))))
 
-pub zeros : (n q : ℕ) → slice_index (replicate n 0) q ≡ 0
-zeros zero q = refl
-zeros (suc n) zero = refl
-zeros (suc n) (suc q) = zeros n q
-
--- what is not taken yet stays 0
-pub none-after : (os : List ℕ) (n v : ℕ) → ((q : ℕ) → n / 8 < q → slice_index os q ≡ 0) → (q : ℕ) → (n + 1) / 8 < q →
-    slice_index (slice_set os (n / 8) v) q ≡ 0
-none-after os n v none q past =
-    get_or-set_other os (n / 8) q v 0 (λ same. omega (arith, same, past)) ∙ none q (omega (arith, past))
-
-pub put-low : (os : List ℕ) (n f : ℕ) → slice_index os (n / 8) < 2 ^ (n % 8) → f < 2 ^ 1 → n / 8 < length os →
-    ((q : ℕ) → n / 8 < q → slice_index os q ≡ 0) →
-    slice_index (slice_set os (n / 8) (f * 2 ^ (n % 8) + slice_index os (n / 8))) ((n + 1) / 8) < 2 ^ ((n + 1) % 8)
-put-low os n f low one inside none =
-    let k = n % 8 in
-    let q = n / 8 in
-    let o = slice_index os q in
-    let v : ℕ = f * 2 ^ k + o in
-    let sum : 2 ^ k * 2 ^ 1 ≡ 2 ^ (k + 1) = sym (pow-add 2 k 1) in
-    let small : v < 2 ^ (k + 1) = rw (← sum) (mul-add-lt f (2 ^ k) o (2 ^ 1) one low) in
-    elim (cases_lt k 7) [
-      | inl more ↦
-          (let here : (n + 1) / 8 ≡ q = omega (arith, more) in
-          let next : (n + 1) % 8 ≡ k + 1 = omega (arith, more) in
-          rw (here, next, get_or-set_same os q v 0 inside) small)
-      | inr full ↦
-          (let next : (n + 1) % 8 ≡ 0 = omega (arith, full) in
-          let zero : slice_index (slice_set os q v) ((n + 1) / 8) ≡ 0 =
-          get_or-set_other os q ((n + 1) / 8) v 0 (λ same. omega (arith, same, full))
-          ∙ none ((n + 1) / 8) (omega (arith, full)) in
-          rw (next, zero) (omega arith))
-    ]
+pub length-stored : (os written : List ℕ) (q : ℕ) → length written ≡ 8 → q + 8 ≤ length os →
+    length (put_mid q (q + 8 - q) os written) ≡ length os
+length-stored os written q long inside = grind (arith, common_steps)
 
 -- those in the middle
 pub bits-middle : (os : List ℕ) (a b c : List Bool) → bits_from os 0 (length (a ++ (b ++ c))) ≡ a ++ (b ++ c) →

@@ -1,7 +1,8 @@
 //! Some bits of a line, packed.
 
-ghost use Rattle.std.specs.Prelude.{◌≡◌, ◌<◌, ◌≤◌, ◌*◌, List, Bool, [], ◌∷◌, ◌++◌, length};
+ghost use Rattle.std.specs.Prelude.{◌≡◌, ◌+◌, ◌*◌, ◌^◌, ◌<◌, ◌≤◌, [], ◌++◌, length};
 ghost use Rattle.bus_bits.specs.Bits.{bits_from};
+ghost use Rattle.bus_bits.specs.Octet.{bits_of};
 
 use std::marker::Model;
 
@@ -11,7 +12,8 @@ pub(crate) const BLOCK: usize = 512;
 /// At most 512 bits of a line, packed as a decoder scans them: the least significant of each octet first.
 #[derive(Drop)]
 pub(crate) struct LineBits {
-    octets: [u8; 64],
+    /// Eight more than they fill, since eight are stored at once. What is behind the bits is not told.
+    octets: [u8; 72],
     count: usize,
 }
 
@@ -33,19 +35,25 @@ impl LineBits {
         ensures { result ≡ [] }
     {
         LineBits {
-            octets: [0; 64],
+            octets: [0; 72],
             count: 0,
         }
     }
 
-    /// A bit more.
+    /// So many bits more, the first lowest.
     #[inline(always)]
-    pub(crate) fn append(&mut self, bit: bool)
-        requires { length self.old < 512 }
-        ensures { self.new ≡ self.old ++ bit ∷ [] }
+    pub(crate) fn append(&mut self, bits: u64, count: usize)
+        requires few { count ≤ 48 }
+        requires small { bits < 2 ^ count }
+        requires room { length self.old + count ≤ 512 }
+        ensures { self.new ≡ self.old ++ bits_of count bits }
     {
-        self.octets[self.count / 8] |= u8::from(bit) << (self.count % 8) as u32;
-        self.count += 1;
+        let at = self.count / 8;
+        let held = self.count % 8;
+        let rest = u64::from(self.octets[at]) & ((1 << held) - 1);
+        let joined = rest | bits << held;
+        self.octets[at..at + 8].copy_from_slice(&joined.to_le_bytes());
+        self.count += count;
     }
 
     /// How many bits there are.

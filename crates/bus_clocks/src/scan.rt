@@ -1,14 +1,14 @@
 //! Many arrivals at once, shown to an observer.
 
-ghost use Rattle.std.specs.Prelude.{◌≡◌, ◌+◌, ◌-◌, ◌≤◌, ◌<◌, ℕ, List, length, take, min};
+ghost use Rattle.std.specs.Prelude.{◌≡◌, ◌+◌, ◌-◌, ◌*◌, ◌≤◌, ◌<◌, ◌^◌, ℕ, List, length, min};
 ghost use Rattle.bus_bits.specs.Limits.{most_places};
-ghost use Rattle.bus_tap.specs.Arrival.{Arrival, own};
+ghost use Rattle.bus_tap.specs.Arrival.{Arrival, arrivals_from, own};
 ghost use Rattle.bus_clocks.specs.Clocks.{two_clocks, bits_taken};
 ghost use Rattle.bus_clocks.specs.Internal.Parts.{Parts, upto, beyond};
 ghost use Rattle.bus_watch.specs.Watch.{AdvancesWatchShown};
 
 use crate::analyser::{TwoClockAnalyser, enter};
-use crate::feed::{Arrival, PLACES};
+use crate::feed::PLACES;
 use crate::laws::arrivals_are;
 use crate::line_bits::BLOCK;
 use crate::parted::{Parted, part};
@@ -20,47 +20,56 @@ use bus_watch::{ReportObserver, newest, observe_bits, show};
 use std::cmp::min;
 
 impl<C: Check> TwoClockAnalyser<C> {
-    /// Takes these bits in their order of arrival, and shows the observer what is seen at them. Returns how many it
-    /// took: the origin and the bits of both lines together never come to more than 2^60.
+    /// Takes so many bits in their order of arrival, and shows the observer what is seen at them. Of the octets of
+    /// `lines` a bit is 1 where that of `bits` arrives on the second line; the lowest of each octet is the first.
+    /// Returns how many it took: the origin and the bits of both lines together never come to more than 2^60.
     pub fn scan<X, L: ReportObserver<X>>(
         &mut self,
-        arrivals: &[Arrival],
+        bits: &[u8],
+        lines: &[u8],
+        count: usize,
         observer: &mut L,
         out: &mut X,
     ) -> usize
-        requires room { L.has_room observer.old (min (length arrivals.now) (most_places - bits_taken self.old)) }
-        ensures taken { result ≡ min (length arrivals.now) (most_places - bits_taken self.old) }
-        ensures told { AdvancesWatchShown (two_clocks C.check) self.old (take result arrivals.now) self.new
-            (λ ss. L.observes self.old.conversation.dictionary observer.old out.old ss observer.new out.new) }
+        requires enough { (count ≤ 8 * length bits.now) × (count ≤ 8 * length lines.now) }
+        requires room { L.has_room observer.old (min count (most_places - bits_taken self.old)) }
+        ensures taken { result ≡ min count (most_places - bits_taken self.old) }
+        ensures told { AdvancesWatchShown (two_clocks C.check) self.old (arrivals_from bits.now lines.now 0 result)
+            self.new (λ ss. L.observes self.old.conversation.dictionary observer.old out.old ss observer.new out.new) }
     {
         let places = PLACES.saturating_sub(
             self.place_on(Line::First) + self.place_on(Line::Second),
         );
-        let end = min(arrivals.len() as u64, places) as usize;
+        let end = min(count as u64, places) as usize;
         let mut at = 0;
         while at < end {
-            let past = at + min(BLOCK, end - at);
-            self.scan_block(&arrivals[at..past], observer, out);
-            at = past;
+            let some = min(BLOCK, end - at);
+            self.scan_block(bits, lines, at, some, observer, out);
+            at += some;
         }
         end
     }
 
-    /// Takes these arrivals, at most 512.
+    /// Takes these arrivals, at most 512 from one on.
     fn scan_block<X, L: ReportObserver<X>>(
         &mut self,
-        block: &[Arrival],
+        bits: &[u8],
+        lines: &[u8],
+        from: usize,
+        count: usize,
         observer: &mut L,
         out: &mut X,
     )
-        requires few { length block.now ≤ 512 }
-        requires places { bits_taken self.old + length block.now ≤ most_places }
-        requires room { L.has_room observer.old (length block.now) }
-        ensures told { AdvancesWatchShown (two_clocks C.check) self.old block.now self.new
-            (λ ss. L.observes self.old.conversation.dictionary observer.old out.old ss observer.new out.new) }
-        ensures left { (more : ℕ) → L.has_room observer.old (length block.now + more) → L.has_room observer.new more }
+        requires few { count ≤ 512 }
+        requires fits { from + count < 2 ^ 64 }
+        requires enough { (from + count ≤ 8 * length bits.now) × (from + count ≤ 8 * length lines.now) }
+        requires places { bits_taken self.old + count ≤ most_places }
+        requires room { L.has_room observer.old count }
+        ensures told { AdvancesWatchShown (two_clocks C.check) self.old
+            (arrivals_from bits.now lines.now from count) self.new (λ ss. L.observes self.old.conversation.dictionary observer.old out.old ss observer.new out.new) }
+        ensures left { (more : ℕ) → L.has_room observer.old (count + more) → L.has_room observer.new more }
     {
-        let parted = part(block);
+        let parted = part(bits, lines, from, count);
         let mut taken = 0;
         while taken < parted.second.count() {
             taken = self.scan_some(&parted, taken, observer, out);

@@ -1,9 +1,13 @@
 -- More arrivals: the bits of each line, and their places.
-use Rattle.std.proofs.Common.{◌≡◌, ℕ, zero, suc, ◌<◌, ◌≤◌, Bool, List, [], ◌∷◌, ◌++◌, length, refl, sym, ap, subst}
-use Rattle.std.proofs.Common.{arith, append-nil, append_assoc}
+use Rattle.std.proofs.Common.{◌≡◌, ℕ, zero, suc, ◌+◌, ◌<◌, ◌≤◌, Bool, List, [], ◌∷◌, ◌++◌, length, map, zip, refl, sym}
+use Rattle.std.proofs.Common.{ap, ◌∙◌, subst, arith, append-nil, append_assoc}
+use Rattle.std.proofs.lemmas.List.{map-append}
+use Rattle.bus_bits.specs.Bits.{bit_at, bits_from}
+use Rattle.bus_bits.proofs.BitLemmas.{bits-more, length-from}
+use Rattle.bus_bits.proofs.PairWordsLemmas.{zip-append}
 use Rattle.bus_pairing.specs.declared.line.Line.{Line}
 use Rattle.bus_pairing.specs.declared.line.Line.TheVariants.{First, Second}
-use Rattle.bus_tap.specs.Arrival.{Arrival, own, firsts_before}
+use Rattle.bus_tap.specs.Arrival.{Arrival, arrival_of, arrivals_from, own, firsts_before}
 
 -- the bits of a line
 pub own-append : (line : Line) (xs ys : List Arrival) → own line (xs ++ ys) ≡ own line xs ++ own line ys
@@ -45,3 +49,41 @@ from-front P step before (x ∷ after) holds =
 pub one-by-one : (P : List Arrival → Type 0) → P [] → ((xs : List Arrival) (x : Arrival) → P xs → P (xs ++ x ∷ [])) →
     (xs : List Arrival) → P xs
 one-by-one P none step xs = from-front P step [] xs none
+
+-- ---- those of two rows of octets
+
+-- some of them, and more
+pub arrivals-more : (bits lines : List ℕ) (i m n : ℕ) →
+    arrivals_from bits lines i (m + n) ≡ arrivals_from bits lines i m ++ arrivals_from bits lines (i + m) n
+arrivals-more bits lines i m n =
+    rw (bits-more bits i m n, bits-more lines i m n)
+    (ap (map arrival_of)
+    (zip-append (bits_from bits i m) (bits_from lines i m) (bits_from bits (i + m) n) (bits_from lines (i + m) n)
+    (length-from bits i m ∙ sym (length-from lines i m)))
+    ∙ map-append arrival_of (zip (bits_from bits i m) (bits_from lines i m))
+    (zip (bits_from bits (i + m) n) (bits_from lines (i + m) n)))
+
+pub arrivals-first : (bits lines : List ℕ) (i n : ℕ) → arrivals_from bits lines i (suc n)
+    ≡ arrival_of (bit_at bits i, bit_at lines i) ∷ arrivals_from bits lines (i + 1) n
+unfolding bits_from
+arrivals-first bits lines i n = refl
+
+pub arrivals-none : (bits lines : List ℕ) (i : ℕ) → arrivals_from bits lines i 0 ≡ []
+unfolding bits_from
+arrivals-none bits lines i = refl
+
+-- and the last of them
+pub arrivals-last : (bits lines : List ℕ) (n : ℕ) → arrivals_from bits lines 0 (n + 1)
+    ≡ arrivals_from bits lines 0 n ++ arrival_of (bit_at bits n, bit_at lines n) ∷ []
+arrivals-last bits lines n =
+    let here : 0 + n ≡ n = omega arith in
+    arrivals-more bits lines 0 n 1
+    ∙ ap (λ (ys : List Arrival). arrivals_from bits lines 0 n ++ ys)
+    (ap (λ (i : ℕ). arrivals_from bits lines i 1) here
+    ∙ (arrivals-first bits lines n 0
+    ∙ ap (λ (ys : List Arrival). arrival_of (bit_at bits n, bit_at lines n) ∷ ys) (arrivals-none bits lines (n + 1))))
+
+pub length-arrivals : (bits lines : List ℕ) (i n : ℕ) → length (arrivals_from bits lines i n) ≡ n
+length-arrivals bits lines i zero = ap length (arrivals-none bits lines i)
+length-arrivals bits lines i (suc n) =
+    ap length (arrivals-first bits lines i n) ∙ ap suc (length-arrivals bits lines (i + 1) n)

@@ -4,6 +4,7 @@ pub mod ArrivedLemmas
 pub mod PlacesLemmas
 pub mod LocatedLemmas
 pub mod LinesLemmas
+pub mod QuietLemmas
 pub mod RestLemmas
 pub mod SampledLemmas
 pub mod SameSampleLemmas

@@ -27,12 +27,12 @@ rested-more most xs x is same =
     ∙ ap (λ b. rested most xs ++ (x ∷ fill b)) same))
 
 -- ones at the end
-ones-more : (k : ℕ) (b : List Bool) → ones_after k (b ++ true ∷ []) ≡ suc (ones_after k b)
+pub ones-more : (k : ℕ) (b : List Bool) → ones_after k (b ++ true ∷ []) ≡ suc (ones_after k b)
 ones-more k [] = refl
 ones-more k (true ∷ b) = ones-more (suc k) b
 ones-more k (false ∷ b) = ones-more 0 b
 
-ones-none : (k : ℕ) (b : List Bool) → ones_after k (b ++ false ∷ []) ≡ 0
+pub ones-none : (k : ℕ) (b : List Bool) → ones_after k (b ++ false ∷ []) ≡ 0
 ones-none k [] = refl
 ones-none k (true ∷ b) = ones-none (suc k) b
 ones-none k (false ∷ b) = ones-none 0 b
@@ -60,7 +60,7 @@ module _ (xs : List Arrival) (bit : Bool) where
         before-within k xs,
       )
 
-  silence-second : silence (xs ++ (Second, bit) ∷ []) ≡ 0
+  pub silence-second : silence (xs ++ (Second, bit) ∷ []) ≡ 0
   silence-second =
       let ys = xs ++ (Second, bit) ∷ [] in
       let count : length (own Second ys) - 1 ≡ length (own Second xs) = omega (

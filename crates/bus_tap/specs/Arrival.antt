@@ -3,10 +3,11 @@
 -- The first line's bits number the places. The second line has a clock of its own: it may be quicker or slower, and may
 -- stop. So a bit of the second line has no place of its own, and stands at that of the last bit of the first line
 -- before it. Each line is decoded from its own bits alone, and its reports come when these decide.
-use Rattle.std.specs.Prelude.{ℕ, zero, suc, ◌+◌, ◌-◌, Bool, List, [], ◌∷◌, ◌++◌, length, map, take, drop, Option}
-use Rattle.std.specs.Prelude.{Some, option_map}
+use Rattle.std.specs.Prelude.{ℕ, zero, suc, ◌+◌, ◌-◌, Bool, List, [], ◌∷◌, ◌++◌, length, map, take, drop, zip, Option}
+use Rattle.std.specs.Prelude.{Some, option_map, if◌then◌else◌}
 use Rattle.std.specs.List.{flat_map}
 use Rattle.std.specs.Option.{option_to_list}
+use Rattle.bus_bits.specs.Bits.{bits_from}
 use Rattle.bus_line.specs.Report.{Report, moved}
 use Rattle.bus_bits.specs.declared.span.Span.{Span}
 use Rattle.bus_line.specs.Due.{places, due_at, begun}
@@ -17,6 +18,15 @@ use Rattle.bus_pairing.specs.declared.line.Line.TheVariants.{First, Second}
 -- a bit, and the line that it arrived on
 abbrev pub Arrival : Type 0
 Arrival = Line × Bool
+
+-- an arrival, by its bit and whether it is one of the second line
+abbrev pub arrival_of : Bool × Bool → Arrival
+arrival_of (bit, is_second) = (if is_second then Second else First, bit)
+
+-- those of two rows of octets, so many from one on: the first row has their bits, and the second whether they are bits
+-- of the second line, the lowest of each octet first
+abbrev pub arrivals_from : List ℕ → List ℕ → ℕ → ℕ → List Arrival
+arrivals_from bits lines from count = map arrival_of (zip (bits_from bits from count) (bits_from lines from count))
 
 -- the bits of either line
 abbrev pub own : Line → List Arrival → List Bool

@@ -1,10 +1,14 @@
 //! Brings the second line to rest where its clock has stopped.
 
-ghost use Rattle.std.specs.Prelude.{◌≡◌, ◌+◌, ◌≤◌, ◌==◌, ◌&&◌, ◌++◌, ◌∷◌, [], List, min, nat_lt, if◌then◌else◌};
-ghost use Rattle.std.specs.Prelude.{◌↔◌, IsSome, IfSome};
-ghost use Rattle.bus_tap.specs.Arrival.{Arrival};
+ghost use Rattle.std.specs.Prelude.{◌≡◌, ◌+◌, ◌-◌, ◌*◌, ◌≤◌, ◌==◌, ◌&&◌, ◌++◌, ◌∷◌, [], ℕ, List, length, min, nat_lt, true};
+ghost use Rattle.std.specs.Prelude.{◌↔◌, IsSome, IfSome, if◌then◌else◌};
+ghost use Rattle.bus_tap.specs.Arrival.{Arrival, arrivals_from, own};
 ghost use Rattle.bus_tap.specs.Rested.{IsRestAfter, rested, fill};
+ghost use Rattle.bus_bits.specs.Bits.{bit_at};
+ghost use Rattle.bus_line.specs.Internal.Run.{ones_after};
+ghost use Rattle.bus_pairing.specs.declared.line.Line.TheVariants.{Second};
 
+use bus_bits::bit_at;
 use bus_pairing::Line;
 use std::cmp::min;
 use std::marker::Model;
@@ -98,6 +102,37 @@ impl RestRule {
         }
     }
 
+    /// How many arrivals, whatever they are, do not bring the second line to rest.
+    pub fn quiet(&self) -> u64
+        ensures { (xs ys : List Arrival) → IsRestAfter self.now xs → length ys ≤ result →
+            rested self.now.most (xs ++ ys) ≡ rested self.now.most xs ++ ys }
+    {
+        if self.most == 0 {
+            return u64::MAX;
+        }
+        if self.silent >= self.most {
+            return self.most - 1;
+        }
+        self.most - self.silent - 1
+    }
+
+    /// These arrive, of which none brings the second line to rest: so many bits, and a 1 for each that is one of the
+    /// second line, the lowest of each octet first.
+    pub fn pass(&mut self, bits: &[u8], lines: &[u8], count: usize)
+        requires enough { (count ≤ 8 * length bits.now) × (count ≤ 8 * length lines.now) }
+        ensures after { (xs : List Arrival) → IsRestAfter self.old xs →
+            IsRestAfter self.new (xs ++ arrivals_from bits.now lines.now 0 count) }
+        ensures most { self.new.most ≡ self.old.most }
+    {
+        let past = past_second(lines, count);
+        let mut silent = self.silent;
+        if past > 0 {
+            self.ones = ones_before(bits, lines, past, self.ones);
+            silent = 0;
+        }
+        self.silent = min(self.most, silent.saturating_add((count - past) as u64));
+    }
+
     /// A bit of the first line arrives. Returns whether the second line comes to rest with it.
     fn push_first(&mut self) -> bool
         ensures comes { result ≡ (nat_lt self.old.silent self.old.most
@@ -126,4 +161,47 @@ impl RestRule {
             0
         };
     }
+}
+
+/// How many of so many arrivals there are up to the last that is a bit of the second line.
+fn past_second(lines: &[u8], count: usize) -> usize
+    requires { count ≤ 8 * length lines.now }
+    ensures within { result ≤ count }
+    ensures behind { (bits : List ℕ) → own Second (arrivals_from bits lines.now result (count - result)) ≡ [] }
+    ensures last { 1 ≤ result → bit_at lines.now (result - 1) ≡ true }
+{
+    let mut past = count;
+    while past > 0 {
+        if past % 8 == 0 && lines[past / 8 - 1] == 0 {
+            past -= 8;
+        } else if bit_at(lines, past - 1) {
+            return past;
+        } else {
+            past -= 1;
+        }
+    }
+    0
+}
+
+/// How many 1s are at the end of the second line, up to fifteen, with its bits among so many arrivals after others.
+fn ones_before(bits: &[u8], lines: &[u8], past: usize, others: u64) -> u64
+    requires enough { (past ≤ 8 * length bits.now) × (past ≤ 8 * length lines.now) }
+    requires few { others ≤ 15 }
+    ensures { result ≡ min 15 (ones_after others (own Second (arrivals_from bits.now lines.now 0 past))) }
+{
+    let mut at = past;
+    let mut ones = 0;
+    while at > 0 && ones < IDLE_ONES {
+        at -= 1;
+        if bit_at(lines, at) {
+            if !bit_at(bits, at) {
+                return ones;
+            }
+            ones += 1;
+        }
+    }
+    if at > 0 {
+        return IDLE_ONES;
+    }
+    min(ones + others, IDLE_ONES)
 }

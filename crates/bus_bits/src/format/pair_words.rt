@@ -16,6 +16,21 @@ pub struct PairWords {
     pub second: u64,
 }
 
+impl PairWords {
+    /// The pairs of a number, from the least significant bits on, parted.
+    #[inline(always)]
+    pub fn of(pairs: u64) -> Self
+        ensures pairs { in_pairs (bits_of 64 pairs) ≡ zip (bits_of 32 result.first) (bits_of 32 result.second) }
+        ensures few { (result.first < 2 ^ 32) × (result.second < 2 ^ 32) }
+    {
+        let both = parted(pairs, 0);
+        PairWords {
+            first: both.first[0] & 0xffff_ffff,
+            second: both.second[0] & 0xffff_ffff,
+        }
+    }
+}
+
 /// The bits of sixteen octets of pairs, parted.
 #[derive(Clone, Copy)]
 pub(super) struct BothLines {

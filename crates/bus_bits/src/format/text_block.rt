@@ -21,15 +21,15 @@ pub struct TextBlock {
 
 /// A text as far as it is packed into a block.
 #[derive(Clone, Copy)]
-struct Packing {
+pub(super) struct Packing {
     /// How many octets of the text were taken.
-    taken: usize,
+    pub(super) taken: usize,
     /// How many octets of the block are full.
-    filled: usize,
+    pub(super) filled: usize,
     /// The bits that fill no octet yet, the first the lowest.
-    rest: u64,
+    pub(super) rest: u64,
     /// How many these are.
-    held: u32,
+    pub(super) held: u32,
 }
 
 impl TextBits {
@@ -66,7 +66,7 @@ impl TextBits {
 
 /// Stores the octet that is not full.
 #[inline(always)]
-fn close(block: &mut [u8], packing: Packing) -> TextBlock
+pub(super) fn close(block: &mut [u8], packing: Packing) -> TextBlock
     requires room { packing.filled < length block.old }
     requires few { 8 * length block.old < 2 ^ 64 }
     requires held { packing.held < 8 }
@@ -196,7 +196,7 @@ fn pass_spaces(text: &[u8], packing: Packing) -> Packing
 /// Puts the bits of as many octets of the text after those that a block has. Eight octets are stored, though fewer may
 /// be full.
 #[inline(always)]
-fn append_bits(block: &mut [u8], bits: u64, count: u32, packing: Packing) -> Packing
+pub(super) fn append_bits(block: &mut [u8], bits: u64, count: u32, packing: Packing) -> Packing
     requires room { packing.filled + 8 ≤ length block.old }
     requires held { packing.held < 8 }
     requires rest { packing.rest < 2 ^ packing.held }

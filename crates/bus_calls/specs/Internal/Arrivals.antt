@@ -3,10 +3,10 @@ use Rattle.std.specs.Prelude.{◌≡◌, ℕ, Bool, List, map}
 use Rattle.bus_bits.specs.Packed.{PairsAfter, arrival_head_fault}
 use Rattle.bus_fcs.specs.Check.{CheckView}
 use Rattle.bus_watch.specs.Watch.{Watch}
-use Rattle.bus_tap.specs.Arrival.{Arrival}
+use Rattle.bus_tap.specs.Arrival.{Arrival, arrival_of}
 use Rattle.bus_clocks.specs.Clocks.{IsAfterArrivals, bits_taken, two_clocks}
 use Rattle.bus_tap.specs.Rested.{IsRestAfter, RestState, rested}
-use Rattle.bus_calls.specs.Captures.{arrival_of, form_of_arrivals}
+use Rattle.bus_calls.specs.Captures.{form_of_arrivals}
 use Rattle.bus_calls.specs.Internal.Headed.{IsHeaded}
 use Rattle.bus_calls.specs.Internal.Kinds.{KindView}
 use Rattle.bus_calls.specs.declared.arrivals.ClockAnalyser.{ClockAnalyser}

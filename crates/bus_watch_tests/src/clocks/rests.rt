@@ -1,5 +1,6 @@
 //! A second line whose clock stops, brought to rest.
 
+use super::scans::{in_octets, traffic};
 use super::{Arrival, CALL, Turn, analyser, arrivals_in, push};
 use crate::expect::{holds, same};
 use bus_fcs::OctetCheck;
@@ -132,5 +133,42 @@ fn usual_silence(rt: HostRuntime) {
             place == 400,
             format_args!("place {place}"),
         );
+    }
+}
+
+/// Arrivals that pass at once leave the rule as it is after each of them alone, and bring no rest.
+fn check_passed(rt: &impl Abort, alloc: Global, arrivals: &[Arrival], most: u64, size: usize) {
+    let mut one_by_one = RestRule::new(most);
+    let mut passed = RestRule::new(most);
+    let mut rest = arrivals;
+    for _ in 0..arrivals.len() {
+        let many = passed.quiet().min(size.min(rest.len()) as u64) as usize;
+        let (some, behind) = rest.split_at(many.min(rest.len()));
+        for arrival in some {
+            holds(rt, !one_by_one.push(arrival.0, arrival.1), "no rest comes");
+        }
+        let (bits, lines) = in_octets(rt, alloc, some);
+        passed.pass(&bits, &lines, some.len());
+        rest = behind;
+        if let Some((next, behind)) = rest.split_first() {
+            let comes = one_by_one.push(next.0, next.1);
+            same(rt, passed.push(next.0, next.1), comes, "rest comes");
+            rest = behind;
+        }
+        same(rt, passed.silent(), one_by_one.silent(), "the silence");
+        same(rt, passed.ones(), one_by_one.ones(), "the ones");
+    }
+    holds(rt, rest.is_empty(), "all are taken");
+}
+
+/// Silences and sizes of every kind.
+#[test]
+fn many_pass(rt: HostRuntime) {
+    let alloc = rt.alloc();
+    let arrivals = traffic(&rt, alloc, 11);
+    for most in [0, 1, 2, 3, 15, 16, 17, 64, 400] {
+        for size in [1, 7, 8, 9, 64, 399, 3000] {
+            check_passed(&rt, alloc, &arrivals, most, size);
+        }
     }
 }

@@ -34,7 +34,7 @@ fn next(state: &mut u64) -> usize {
 }
 
 /// Parts and beginnings of parts of either line, as their clocks may bring them; the same seed gives the same list.
-fn traffic(rt: &impl Abort, alloc: Global, seed: u64) -> Vec<Arrival> {
+pub(super) fn traffic(rt: &impl Abort, alloc: Global, seed: u64) -> Vec<Arrival> {
     let mut arrivals = Vec::new(alloc);
     let mut state = seed;
     for _ in 0..ARRIVALS {
@@ -59,6 +59,21 @@ fn analyser(rt: &impl Abort, alloc: Global) -> TwoClockAnalyser<OctetCheck> {
     TwoClockAnalyser::new(alloc, dictionary, 5, 3).expect(rt, "an analyser")
 }
 
+/// Arrivals as `scan` takes them: their bits, and which of these are of the second line, the first of each octet lowest.
+pub(super) fn in_octets(rt: &impl Abort, alloc: Global, arrivals: &[Arrival]) -> (Vec<u8>, Vec<u8>) {
+    let (mut bits, mut lines) = (Vec::new(alloc), Vec::new(alloc));
+    for eight in arrivals.chunks(8) {
+        let (mut ones, mut seconds) = (0u8, 0u8);
+        for (place, arrival) in eight.iter().enumerate() {
+            ones += u8::from(arrival.1) << (place % 8) as u32;
+            seconds += u8::from(arrival.0 == Line::Second) << (place % 8) as u32;
+        }
+        bits.push(ones).expect(rt, "memory");
+        lines.push(seconds).expect(rt, "memory");
+    }
+    (bits, lines)
+}
+
 /// Calls of `scan` of `size` arrivals see what single arrivals that are pushed do, and leave the same open.
 fn check_scanned(rt: &impl Abort, alloc: Global, arrivals: &[Arrival], size: usize) -> String {
     let mut one_by_one = analyser(rt, alloc);
@@ -68,7 +83,8 @@ fn check_scanned(rt: &impl Abort, alloc: Global, arrivals: &[Arrival], size: usi
     for some in arrivals.chunks(size.max(1)) {
         let want = pushed(rt, alloc, &mut one_by_one, some);
         let mut text = String::new(alloc);
-        let taken = scanned.scan(some, &mut Writing, &mut text);
+        let (bits, lines) = in_octets(rt, alloc, some);
+        let taken = scanned.scan(&bits, &lines, some.len(), &mut Writing, &mut text);
         same(rt, taken, some.len(), &case);
         same(rt, text.as_str(), want.as_str(), &case);
         same(rt, scanned.usage(), one_by_one.usage(), &case);
@@ -92,5 +108,56 @@ fn scans_of_every_size(rt: HostRuntime) {
     }
     for word in ["missing", "stray", "abort", "idle", "answered"] {
         holds(&rt, text.contains(word), word);
+    }
+}
+
+/// How the lines take turns: a period of arrivals, and at which of these the second line's are.
+const TURNS: [&[bool]; 5] = [
+    &[false],
+    &[true],
+    &[false, true],
+    &[true, false],
+    &[false, true, false, true, false],
+];
+
+/// Calls of every kind of size see what single arrivals show, however the lines take turns.
+#[test]
+fn scans_of_turns(rt: HostRuntime) {
+    let alloc = rt.alloc();
+    for turns in TURNS {
+        let mut arrivals = Vec::new(alloc);
+        let all = traffic(&rt, alloc, 7);
+        // The last turn is one short, so that the lines change places.
+        for some in all.chunks(701) {
+            for (arrival, is_second) in some.iter().zip(turns.iter().cycle()) {
+                let line = if *is_second {
+                    Line::Second
+                } else {
+                    Line::First
+                };
+                arrivals.push((line, arrival.1)).expect(&rt, "memory");
+            }
+        }
+        for size in [1, 63, 64, 65, 511, 512, 513, ARRIVALS] {
+            let seen = check_scanned(&rt, alloc, &arrivals, size);
+            holds(&rt, !seen.is_empty(), "some are seen");
+        }
+    }
+}
+
+/// No more arrivals are taken than there are places.
+#[test]
+fn scans_to_the_last_place(rt: HostRuntime) {
+    let alloc = rt.alloc();
+    let dictionary = Dictionary::read(alloc, CALLS).expect(&rt, "a dictionary");
+    let origin = (1 << 60) - 100;
+    let mut analyser = TwoClockAnalyser::<OctetCheck>::new(alloc, dictionary, 5, origin).expect(
+        &rt,
+        "an analyser",
+    );
+    let mut text = String::new(alloc);
+    for want in [64, 36, 0] {
+        let taken = analyser.scan(&[0; 8], &[0xaa; 8], 64, &mut Writing, &mut text);
+        same(&rt, taken, want, "places are left");
     }
 }

@@ -1,6 +1,6 @@
-use Rattle.std.proofs.Common.{◌≡◌, ◌-◌, ◌^◌, ◌++◌, min, List, length, take, drop, subst, arith, MatchResult}
-use Rattle.std.proofs.lemmas.List.{length-take, length-drop, take-append-drop, drop_all}
-use Rattle.bus_tap.specs.Arrival.{Arrival}
+use Rattle.std.proofs.Common.{◌≡◌, ◌+◌, ◌-◌, ◌^◌, ◌++◌, ℕ, min, List, subst, sym, ap, ◌∙◌, arith, MatchResult}
+use Rattle.bus_tap.specs.Arrival.{Arrival, arrivals_from}
+use Rattle.bus_tap.proofs.ArrivalLemmas.{arrivals-more, arrivals-none, length-arrivals}
 use Rattle.bus_clocks.specs.Clocks.{bits_taken}
 use Rattle.bus_calls.specs.declared.arrivals.ClockAnalyser.{ClockAnalyser}
 use Rattle.bus_calls.specs.declared.run.CaptureRun.{CaptureRun}
@@ -15,31 +15,42 @@ returns-clause-taken g c = λ start b followed.
     let view = g.C.Check.check in
     let kind = arrivals_kind view in
     let n = c.scan-taken.result in
-    let xs = c.args.arrivals.now in
+    let bits = c.args.bits.now in
+    let lines = c.args.lines.now in
+    let count = c.args.count in
     let old = c.args.run.now.analyser in
-    let taken : n ≡ min (length xs) (2 ^ 60 - bits_taken old.analyser) = c.scan-taken.ensures.taken in
+    let taken : n ≡ min count (2 ^ 60 - bits_taken old.analyser) = c.scan-taken.ensures.taken in
     let now = g.W.Write.contents c.scan-taken.new.out in
     let new : CaptureRun (ClockAnalyser g.row.C.Denot) =
     record { analyser = record old { analyser = c.scan-taken.new.self }; reporter = c.scan-taken.new.observer } in
-    let told = told-behind view old new.analyser (take n xs) _ c.scan-taken.ensures.told in
+    let told = told-behind view old new.analyser (arrivals_from bits lines 0 n) _ c.scan-taken.ensures.told in
+    let here : 0 + n ≡ n = omega arith in
+    let all : n + (count - n) ≡ count = omega (arith, taken) in
+    let whole : arrivals_from bits lines 0 n ++ arrivals_from bits lines n (count - n)
+    ≡ arrivals_from bits lines 0 count =
+    ap (λ (i : ℕ). arrivals_from bits lines 0 n ++ arrivals_from bits lines i (count - n)) (sym here)
+    ∙ (sym (arrivals-more bits lines 0 n (count - n)) ∙ ap (arrivals_from bits lines 0) all) in
     subst (λ (ys : List Arrival). MatchResult c.scanned.result (λ _. WatchAfter kind start now new (b ++ ys))
-    (λ f. WatchStopsWith kind start now new (b ++ ys) f)) (take-append-drop n xs)
-    (told-scanned kind {v = new} {after = now} told c.laws.ensures (drop n xs) n (length xs) c.scanned.result
-    c.scanned.ensures.cut c.scanned.ensures.placed
-    (λ full. drop_all n xs full)
+    (λ f. WatchStopsWith kind start now new (b ++ ys) f)) whole
+    (told-scanned kind {v = new} {after = now} told c.laws.ensures (arrivals_from bits lines n (count - n)) n count
+    c.scanned.result c.scanned.ensures.cut c.scanned.ensures.placed
+    (λ full. let none : count - n ≡ 0 = omega (arith, full) in
+    ap (arrivals_from bits lines n) none ∙ arrivals-none bits lines n)
     (λ fewer. (
-      omega (arith, fewer, length-drop n xs),
-      omega (arith, fewer, told.sees.place, length-take n xs, taken),
+      omega (arith, fewer, length-arrivals bits lines n (count - n)),
+      omega (arith, fewer, told.sees.place, length-arrivals bits lines 0 n, taken),
     ))
-    (omega (arith, length-take n xs, taken, c.requires.places)) c.requires start b followed)
+    (omega (arith, length-arrivals bits lines 0 n, taken, c.requires.sound.places)) c.requires.sound start b followed)
 
 pub returns-clause-sound : goal.returns-clause-sound
 returns-clause-sound g c =
     let view = g.C.Check.check in
     let n = c.scan-taken.result in
-    let xs = c.args.arrivals.now in
+    let bits = c.args.bits.now in
+    let lines = c.args.lines.now in
     let old = c.args.run.now.analyser in
-    let taken : n ≡ min (length xs) (2 ^ 60 - bits_taken old.analyser) = c.scan-taken.ensures.taken in
+    let taken : n ≡ min c.args.count (2 ^ 60 - bits_taken old.analyser) = c.scan-taken.ensures.taken in
     told-sound (arrivals_kind view)
-    (told-behind view old (record old { analyser = c.scan-taken.new.self }) (take n xs) _ c.scan-taken.ensures.told)
-    (omega (arith, length-take n xs, taken, c.requires.places)) c.requires
+    (told-behind view old (record old { analyser = c.scan-taken.new.self }) (arrivals_from bits lines 0 n) _
+    c.scan-taken.ensures.told)
+    (omega (arith, length-arrivals bits lines 0 n, taken, c.requires.sound.places)) c.requires.sound

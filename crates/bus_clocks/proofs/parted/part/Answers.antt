@@ -1,59 +1,41 @@
-use Rattle.std.proofs.Common.{◌<◌, length, take, ap, arith, length-take}
-use Rattle.bus_clocks.proofs.FeedLemmas.{front-more, arrival_at}
-use Rattle.bus_clocks.proofs.PartsLemmas.{parts-first, parts-second}
-use Rattle.bus_clocks.proofs.RoomLemmas.{own-count}
-use Rattle.bus_clocks.proofs.parted.part.Goals.{in-First, in-Second}
+use Rattle.std.proofs.Common.{refl, sym, arith}
+use Rattle.bus_tap.specs.Arrival.{arrivals_from}
+use Rattle.bus_tap.proofs.ArrivalLemmas.{arrivals-more, arrivals-none, length-arrivals}
+use Rattle.bus_clocks.proofs.PartsLemmas.{parts-none}
 use Rattle.bus_clocks.proofs.parted.part.Goals as goal
 
-pub append-requires : goal.append-requires
-append-requires c =
-    let xs = c.args.arrivals.now in
-    let i = c.loop-arrival.arrival-index in
-    omega (
-      arith,
-      ap length c.loop-arrival.invariant.first,
-      own-count (take i xs),
-      length-take i xs,
-      c.loop-arrival-test.true,
-      c.requires,
-    )
+pub loop-taken-init : goal.loop-taken-init
+loop-taken-init c = record {
+  within = omega arith;
+  parts = rw (arrivals-none c.args.bits.now c.args.lines.now c.args.from)
+      (parts-none _ (sym c.new.ensures) (sym c.new-2.ensures) refl);
+}
 
-pub bounds-parted-count : goal.bounds-parted-count
-bounds-parted-count c =
-    let xs = c.args.arrivals.now in
-    let i = c.loop-arrival.arrival-index in
-    omega (
-      arith,
-      c.count-in-Second.ensures.value,
-      ap length c.loop-arrival.invariant.second,
-      own-count (take i xs),
-      length-take i xs,
-      c.loop-arrival-test.true,
-      c.requires,
-    )
+pub take-taken-requires-clause-parts : goal.take-taken-requires-clause-parts
+take-taken-requires-clause-parts c = (
+  arrivals_from c.args.bits.now c.args.lines.now c.args.from c.loop-taken.taken,
+  c.loop-taken.invariant.parts,
+  omega (
+    arith,
+    length-arrivals c.args.bits.now c.args.lines.now c.args.from c.loop-taken.taken,
+    c.loop-taken.invariant.within,
+    c.requires.few,
+  ),
+)
 
-pub append-requires-in-Second : goal.append-requires-in-Second
-append-requires-in-Second c =
-    let xs = c.args.arrivals.now in
-    let i = c.loop-arrival.arrival-index in
-    omega (
-      arith,
-      ap length c.loop-arrival.invariant.second,
-      own-count (take i xs),
-      length-take i xs,
-      c.loop-arrival-test.true,
-      c.requires,
-    )
-
-pub loop-arrival-preserved : goal.loop-arrival-preserved
-loop-arrival-preserved c =
-    let xs = c.args.arrivals.now in
-    let i = c.loop-arrival.arrival-index in
-    let room : length (take i xs) < 512 = omega (arith, length-take i xs, c.loop-arrival-test.true, c.requires) in
-    rw (front-more xs i c.loop-arrival-test.true) (elim c.match-arrival.branch [
-      | in-First w ↦ rw (w.parted-is) (parts-first (take i xs) c.loop-arrival.parted (arrival_at xs i) _ w.in-First.is
-          room c.loop-arrival.invariant w.append.ensures)
-      | in-Second w ↦ rw (w.parted-is) (parts-second (take i xs) c.loop-arrival.parted (arrival_at xs i) _
-          w.count-in-Second.result w.count.result w.in-Second.is room c.loop-arrival.invariant
-          w.count-in-Second.ensures.value w.count.ensures.value w.append-in-Second.ensures)
-    ])
+pub loop-taken-preserved : goal.loop-taken-preserved
+loop-taken-preserved c =
+    let bits = c.args.bits.now in
+    let lines = c.args.lines.now in
+    let taken = c.loop-taken.taken in
+    record {
+      within = omega (arith, c.take-taken.ensures.within.1, c.loop-taken.invariant.within);
+      parts = rw (arrivals-more bits lines c.args.from taken c.take-taken.result)
+          (c.take-taken.ensures.parts (arrivals_from bits lines c.args.from taken) c.loop-taken.invariant.parts
+          (omega (
+            arith,
+            length-arrivals bits lines c.args.from taken,
+            c.loop-taken.invariant.within,
+            c.requires.few,
+          )));
+    }

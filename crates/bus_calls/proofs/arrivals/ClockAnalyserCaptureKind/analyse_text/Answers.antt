@@ -1,33 +1,36 @@
-use Rattle.std.proofs.Common.{◌++◌, Err, Ok, refl, take}
+use Rattle.std.proofs.Common.{◌++◌, ◌/◌, ◌∙◌, Err, Ok, arith, take}
+use Rattle.std.proofs.lemmas.Grind.{common_steps}
 use Rattle.std.proofs.lemmas.Result.{err_from_is_err_and}
-use Rattle.bus_calls.proofs.ArrivalsLemmas.{symbols-taken, watched-behind}
+use Rattle.bus_bits.proofs.OctetLemmas.{least}
 use Rattle.bus_calls.proofs.SessionsTextLemmas.{mark-taken}
 use Rattle.bus_calls.proofs.arrivals.ClockAnalyserCaptureKind.analyse_text.Goals as goal
 
-pub returns-in_err-analyse_arrivals-clause-taken : goal.returns-in_err-analyse_arrivals-clause-taken
-returns-in_err-analyse_arrivals-clause-taken g c =
+pub analyse_quiet-requires-clause-quiet : goal.analyse_quiet-requires-clause-quiet
+analyse_quiet-requires-clause-quiet g c = λ xs ys after few.
+    c.quiet.ensures xs ys after
+    (grind (
+      arith,
+      common_steps,
+      few,
+      c.part-block.ensures.within,
+      c.part-block.ensures.len.0,
+      c.min-room.ensures ∙ least (c.quiet.result / 8) 128,
+    ))
+
+pub returns-in_err-analyse_quiet-clause-taken : goal.returns-in_err-analyse_quiet-clause-taken
+returns-in_err-analyse_quiet-clause-taken g c =
     let failed = err_from_is_err_and c.from_residual.result c.from_residual.ensures.1 in
-    rw (failed.1, failed.2) (λ start xs followed.
-    let behind = watched-behind g.C.Check.check refl refl followed.bits.bits in
-    let n = c.put_text-taken.result in
-    let put = c.put_text-taken.ensures.rests xs _ followed.clean
-    (record { after = followed.bits.rule; rested = refl }) in (
-      n,
-      c.put_text-taken.ensures.within,
-      mark-taken c.laws.ensures _ (xs ++ take n c.args.octets.now) (Err c.in_err-analyse_arrivals.field-0.0)
-          c.requires.places c.analyse_arrivals.ensures.same behind (put.0, refl)
-          (symbols-taken g.C.Check.check start _ c.analyse_arrivals.new.run (Err c.in_err-analyse_arrivals.field-0.0)
-          (rw (← c.analyse_arrivals.ensures.rule, ← c.as_slice.ensures) at put.1)
-          (c.in_err-analyse_arrivals.ensures.taken start _ behind)),
+    let next = c.part-block in
+    rw (failed.1, failed.2) (λ start xs followed. (
+      next.result.taken,
+      next.ensures.enough,
+      mark-taken c.laws.ensures _ (xs ++ take next.result.taken c.args.octets.now)
+          (Err c.in_err-analyse_quiet.field-0.0) c.requires.places c.analyse_quiet.ensures.same followed.bits.bits
+          (next.ensures.given xs followed.clean) (c.in_err-analyse_quiet.ensures.taken start _ followed.bits),
     ))
 
 pub returns-clause-taken : goal.returns-clause-taken
 returns-clause-taken g c = λ start xs followed.
-    let behind = watched-behind g.C.Check.check refl refl followed.bits.bits in
-    let put = c.put_text-taken.ensures.rests xs _ followed.clean
-    (record { after = followed.bits.rule; rested = refl }) in
-    mark-taken c.laws.ensures _ (xs ++ take c.put_text-taken.result c.args.octets.now) (Ok tt) c.requires.places
-    c.analyse_arrivals.ensures.same behind (put.0, refl)
-    (symbols-taken g.C.Check.check start _ c.analyse_arrivals.new.run (Ok tt)
-    (rw (← c.analyse_arrivals.ensures.rule, ← c.as_slice.ensures) at put.1)
-    (c.in_ok-analyse_arrivals.ensures.taken start _ behind))
+    mark-taken c.laws.ensures _ (xs ++ take c.part-block.result.taken c.args.octets.now) (Ok tt) c.requires.places
+    c.analyse_quiet.ensures.same followed.bits.bits (c.part-block.ensures.given xs followed.clean)
+    (c.in_ok-analyse_quiet.ensures.taken start _ followed.bits)

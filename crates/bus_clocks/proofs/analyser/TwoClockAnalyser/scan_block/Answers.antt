@@ -2,6 +2,8 @@ use Rattle.std.proofs.Common.{◌≡◌, ◌+◌, ◌-◌, ◌++◌, [], length,
 use Rattle.bus_watch.specs.Watch.{AdvancesWatchShown}
 use Rattle.bus_watch.proofs.FedLemmas.{leads-nil}
 use Rattle.bus_watch.proofs.PairScanLemmas.{leads-further}
+use Rattle.bus_tap.specs.Arrival.{arrivals_from}
+use Rattle.bus_tap.proofs.ArrivalLemmas.{length-arrivals}
 use Rattle.bus_clocks.specs.Clocks.{two_clocks}
 use Rattle.bus_clocks.specs.Internal.Parts.{beyond, upto}
 use Rattle.bus_clocks.proofs.PartsLemmas.{upto-beyond, upto-more}
@@ -22,11 +24,12 @@ loop-taken-init g c = record {
 
 pub scan_some-taken-requires-clause-parts : goal.scan_some-taken-requires-clause-parts
 scan_some-taken-requires-clause-parts g c =
-    let xs = c.args.block.now in
+    let xs = arrivals_from c.args.bits.now c.args.lines.now c.args.from c.args.count in
+    let size = length-arrivals c.args.bits.now c.args.lines.now c.args.from c.args.count in
     let t = c.loop-taken.taken in
     let before = c.loop-taken.invariant in
-    let sizes : length xs ≡ length (upto t xs) + length (beyond t xs) =
-    sym (ap length (upto-beyond t xs)) ∙ length-append (upto t xs) (beyond t xs) in (
+    let sizes : c.args.count ≡ length (upto t xs) + length (beyond t xs) =
+    sym size ∙ (sym (ap length (upto-beyond t xs)) ∙ length-append (upto t xs) (beyond t xs)) in (
       xs,
       c.part-parted.ensures,
       omega (arith, before.told.sees.place, c.requires.places, sizes),
@@ -36,7 +39,8 @@ scan_some-taken-requires-clause-parts g c =
 
 pub loop-taken-preserved : goal.loop-taken-preserved
 loop-taken-preserved g c =
-    let xs = c.args.block.now in
+    let xs = arrivals_from c.args.bits.now c.args.lines.now c.args.from c.args.count in
+    let size = length-arrivals c.args.bits.now c.args.lines.now c.args.from c.args.count in
     let t = c.loop-taken.taken in
     let r = c.scan_some-taken.result in
     let now = c.scan_some-taken.new in
@@ -62,14 +66,15 @@ loop-taken-preserved g c =
 
 pub follow-requires : goal.follow-requires
 follow-requires g c =
-    let xs = c.args.block.now in
+    let xs = arrivals_from c.args.bits.now c.args.lines.now c.args.from c.args.count in
+    let size = length-arrivals c.args.bits.now c.args.lines.now c.args.from c.args.count in
     let t = c.loop-taken.taken in
     let n = length c.part-parted.result.second in
     let before = c.loop-taken.invariant in
     let all : t ≡ n = omega (arith, before.within, c.loop-taken-test.false, c.count.ensures.value) in
-    let sizes : length xs ≡ length (upto t xs) + length (beyond n xs) =
-    sym (ap length (ap (λ k. upto k xs ++ beyond n xs) all ∙ upto-beyond n xs))
-    ∙ length-append (upto t xs) (beyond n xs) in
+    let sizes : c.args.count ≡ length (upto t xs) + length (beyond n xs) =
+    sym size ∙ (sym (ap length (ap (λ k. upto k xs ++ beyond n xs) all ∙ upto-beyond n xs))
+    ∙ length-append (upto t xs) (beyond n xs)) in
     record {
       parts = (
         xs,
@@ -82,7 +87,8 @@ follow-requires g c =
 
 pub returns-clause-told : goal.returns-clause-told
 returns-clause-told g c =
-    let xs = c.args.block.now in
+    let xs = arrivals_from c.args.bits.now c.args.lines.now c.args.from c.args.count in
+    let size = length-arrivals c.args.bits.now c.args.lines.now c.args.from c.args.count in
     let t = c.loop-taken.taken in
     let n = length c.part-parted.result.second in
     let now = c.follow.new in
@@ -100,14 +106,16 @@ returns-clause-told g c =
 
 pub returns-clause-left : goal.returns-clause-left
 returns-clause-left g c = λ more room.
-    let xs = c.args.block.now in
+    let xs = arrivals_from c.args.bits.now c.args.lines.now c.args.from c.args.count in
+    let size = length-arrivals c.args.bits.now c.args.lines.now c.args.from c.args.count in
     let t = c.loop-taken.taken in
     let n = length c.part-parted.result.second in
     let before = c.loop-taken.invariant in
     let all : t ≡ n = omega (arith, before.within, c.loop-taken-test.false, c.count.ensures.value) in
-    let sizes : length xs + more ≡ length (upto t xs) + (length (beyond n xs) + more) =
+    let sizes : c.args.count + more ≡ length (upto t xs) + (length (beyond n xs) + more) =
     omega (
       arith,
+      size,
       ap length (ap (λ k. upto k xs ++ beyond n xs) all ∙ upto-beyond n xs),
       length-append (upto t xs) (beyond n xs),
     ) in

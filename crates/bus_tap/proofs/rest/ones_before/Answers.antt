@@ -1,0 +1,48 @@
+use Rattle.std.proofs.Common.{◌≡◌, ◌+◌, ◌-◌, ℕ, sym, ap, ◌∙◌, arith}
+use Rattle.bus_line.specs.Internal.Run.{ones_after}
+use Rattle.bus_pairing.specs.declared.line.Line.TheVariants.{Second}
+use Rattle.bus_tap.specs.Arrival.{arrivals_from, own}
+use Rattle.bus_tap.proofs.ArrivalLemmas.{arrivals-none}
+use Rattle.bus_bits.proofs.OctetLemmas.{least}
+use Rattle.bus_tap.proofs.QuietLemmas.{ones-first, ones-one, ones-zero}
+use Rattle.bus_tap.proofs.rest.ones_before.Goals as goal
+
+pub returns-then-not-bit_at : goal.returns-then-not-bit_at
+returns-then-not-bit_at c =
+    let at = c.loop-at.at - 1 in
+    let next : at + 1 ≡ c.loop-at.at = omega (arith, c.loop-at-test.true) in
+    let none = rw next at (ones-zero c.args.others at c.args.bits.now c.args.lines.now
+    (sym c.bit_at.ensures ∙ c.if-bit_at.true) (sym c.bit_at-then-bit_at.ensures ∙ c.if-not-bit_at.true)) in
+    omega (arith, c.loop-at.invariant.ones, none, c.loop-at.invariant.few)
+
+pub loop-at-preserved-then-bit_at : goal.loop-at-preserved-then-bit_at
+loop-at-preserved-then-bit_at c =
+    let at = c.loop-at.at - 1 in
+    let next : at + 1 ≡ c.loop-at.at = omega (arith, c.loop-at-test.true) in
+    let one = rw next at (ones-one c.args.others at c.args.bits.now c.args.lines.now
+    (sym c.bit_at.ensures ∙ c.if-bit_at.true) (sym c.bit_at-then-bit_at.ensures ∙ c.if-not-bit_at.false)) in
+    record {
+      within = omega (arith, c.loop-at.invariant.within);
+      few = omega (arith, c.if-ones-lt-IDLE_ONES.true);
+      ones = omega (arith, c.loop-at.invariant.ones, one);
+    }
+
+pub loop-at-preserved : goal.loop-at-preserved
+loop-at-preserved c =
+    let at = c.loop-at.at - 1 in
+    let next : at + 1 ≡ c.loop-at.at = omega (arith, c.loop-at-test.true) in
+    let none = rw next at (ones-first c.args.others at c.args.bits.now c.args.lines.now
+    (sym c.bit_at.ensures ∙ c.if-bit_at.false)) in
+    record {
+      within = omega (arith, c.loop-at.invariant.within);
+      few = c.loop-at.invariant.few;
+      ones = c.loop-at.invariant.ones ∙ ap (λ (n : ℕ). n + c.loop-at.ones) none;
+    }
+
+pub returns : goal.returns
+returns c =
+    let here : c.loop-at.at ≡ 0 = omega (arith, c.if-at-gt0.false) in
+    let start : ones_after c.args.others (own Second (arrivals_from c.args.bits.now c.args.lines.now 0 c.loop-at.at))
+    ≡ c.args.others =
+    rw here (ap (λ ys. ones_after c.args.others (own Second ys)) (arrivals-none c.args.bits.now c.args.lines.now 0)) in
+    omega (arith, c.min.ensures ∙ least (c.loop-at.ones + c.args.others) 15, c.loop-at.invariant.ones, start)

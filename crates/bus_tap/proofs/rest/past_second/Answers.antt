@@ -1,0 +1,46 @@
+use Rattle.std.proofs.Common.{◌≡◌, ◌+◌, ◌-◌, suc, sym, ap, ◌∙◌, arith}
+use Rattle.bus_pairing.specs.declared.line.Line.TheVariants.{Second}
+use Rattle.bus_tap.specs.Arrival.{own}
+use Rattle.bus_tap.proofs.ArrivalLemmas.{arrivals-none}
+use Rattle.bus_tap.proofs.QuietLemmas.{none-more, octet-none}
+use Rattle.bus_tap.proofs.rest.past_second.Goals as goal
+
+pub loop-past-init : goal.loop-past-init
+loop-past-init c = record {
+  within = omega arith;
+  none = λ bits.
+      let none : c.args.count - c.args.count ≡ 0 = omega arith in
+      rw none (ap (own Second) (arrivals-none bits c.args.lines.now c.args.count));
+}
+
+pub loop-past-preserved-then-lines-past-eq0 : goal.loop-past-preserved-then-lines-past-eq0
+loop-past-preserved-then-lines-past-eq0 c =
+    let past = c.loop-past.past in
+    let before = c.loop-past.invariant in
+    record {
+      within = omega (arith, before.within);
+      none = λ bits.
+          let count : c.args.count - (past - 8) ≡ 8 + (c.args.count - past) =
+          omega (arith, before.within, c.loop-past-test.true, c.if-past-eq0.true) in
+          rw count (octet-none bits c.args.lines.now past (c.args.count - past) (omega (arith, c.loop-past-test.true))
+          c.if-past-eq0.true c.if-lines-past-eq0.true (before.none bits));
+    }
+
+pub loop-past-preserved : goal.loop-past-preserved
+loop-past-preserved c =
+    let past = c.loop-past.past in
+    let before = c.loop-past.invariant in
+    record {
+      within = omega (arith, before.within);
+      none = λ bits.
+          let count : c.args.count - (past - 1) ≡ suc (c.args.count - past) =
+          omega (arith, before.within, c.loop-past-test.true) in
+          let here : past - 1 + 1 ≡ past = omega (arith, c.loop-past-test.true) in
+          rw count (none-more bits c.args.lines.now (past - 1) (c.args.count - past)
+          (sym c.bit_at.ensures ∙ c.if-bit_at.false) (rw here (before.none bits)));
+    }
+
+pub returns-clause-behind : goal.returns-clause-behind
+returns-clause-behind c = λ bits.
+    let here : c.loop-past.past ≡ 0 = omega (arith, c.loop-past-test.false) in
+    rw here at (c.loop-past.invariant.none bits)
