@@ -48,7 +48,7 @@ fn texts_are_packed(rt: HostRuntime) {
         text.extend_from_slice(behind.as_bytes())
             .expect(&rt, "memory");
         for from in [0, 1, 2, 3, 5] {
-            let rest = &text[from..];
+            let (_, rest) = text.split_at(from.min(text.len()));
             let least = rest.len().min(430).saturating_sub(32);
             check_parted(&rt, rest, least);
         }
