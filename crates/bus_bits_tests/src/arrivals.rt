@@ -22,13 +22,13 @@ fn check_parted(rt: &impl Abort, text: &[u8], least: usize) {
     let (mut bits, mut lines) = ([0; 64], [0; 64]);
     let block = TextArrivals::part(text, &mut bits, &mut lines);
     let mut reader = TextArrivals::new();
-    let mut count = 0;
+    let mut count: usize = 0;
     for octet in &text[..block.taken.min(text.len())] {
         if let Some((bit, is_second)) = reader.step(*octet).expect(rt, "marks and spaces") {
             holds(rt, count < 512, "there is room");
             same(rt, bit_at(&bits, count.min(511)), bit, "a bit");
             same(rt, bit_at(&lines, count.min(511)), is_second, "a line");
-            count += 1;
+            count = count.saturating_add(1);
         }
     }
     same(rt, block.count, count, "as many");
@@ -48,7 +48,7 @@ fn texts_are_packed(rt: HostRuntime) {
         text.extend_from_slice(behind.as_bytes())
             .expect(&rt, "memory");
         for from in [0, 1, 2, 3, 5] {
-            let rest = &text[from..];
+            let (_, rest) = text.split_at(from.min(text.len()));
             let least = rest.len().min(430).saturating_sub(32);
             check_parted(&rt, rest, least);
         }

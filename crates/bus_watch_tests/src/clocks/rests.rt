@@ -148,7 +148,8 @@ fn check_passed(rt: &impl Abort, alloc: Global, arrivals: &[Arrival], most: u64,
             holds(rt, !one_by_one.push(arrival.0, arrival.1), "no rest comes");
         }
         let (bits, lines) = in_octets(rt, alloc, some);
-        passed.pass(&bits, &lines, some.len());
+        let held = bits.len().min(lines.len()).saturating_mul(8);
+        passed.pass(&bits, &lines, some.len().min(held));
         rest = behind;
         if let Some((next, behind)) = rest.split_first() {
             let comes = one_by_one.push(next.0, next.1);
