@@ -10,7 +10,10 @@ const PERIODS: usize = 40;
 /// Periods of texts, and what stands behind them.
 const TEXTS: [(&str, &str); 6] = [
     ("01oi", ""),
-    ("0i1i1i0o1i0i1o0i0i1i0i1i0i0i1i1i0i1i0o1o0i1i0i1i0i1i0i1i0i1i0i1i0i1i0i1i0i1i\n", ""),
+    (
+        "0i1i1i0o1i0i1o0i0i1i0i1i0i0i1i1i0i1i0o1o0i1i0i1i0i1i0i1i0i1i0i1i0i1i0i1i0i1i\n",
+        "",
+    ),
     ("0i\n", ""),
     ("oooo iiii\r\n0000\t1111", "x"),
     ("i1o0i1o0i1o0i1o0i1o0i1o0i1o0i1o\n", "2"),

@@ -60,7 +60,11 @@ fn analyser(rt: &impl Abort, alloc: Global) -> TwoClockAnalyser<OctetCheck> {
 }
 
 /// Arrivals as `scan` takes them: their bits, and which of these are of the second line, the first of each octet lowest.
-pub(super) fn in_octets(rt: &impl Abort, alloc: Global, arrivals: &[Arrival]) -> (Vec<u8>, Vec<u8>) {
+pub(super) fn in_octets(
+    rt: &impl Abort,
+    alloc: Global,
+    arrivals: &[Arrival],
+) -> (Vec<u8>, Vec<u8>) {
     let (mut bits, mut lines) = (Vec::new(alloc), Vec::new(alloc));
     for eight in arrivals.chunks(8) {
         let (mut ones, mut seconds) = (0u8, 0u8);
