@@ -39,7 +39,8 @@ space-no-arrival x space = grind (arith, nat_tests)
 
 -- ---- both blocks
 
-both-values : (xs : List ℕ) → map mark_arrival xs ≡ zip (map (λ x. (mark_arrival x).0) xs) (map (λ x. (mark_arrival x).1) xs)
+both-values : (xs : List ℕ) →
+    map mark_arrival xs ≡ zip (map (λ x. (mark_arrival x).0) xs) (map (λ x. (mark_arrival x).1) xs)
 both-values [] = refl
 both-values (x ∷ xs) = ap (λ (z : List (Bool × Bool)). mark_arrival x ∷ z) (both-values xs)
 

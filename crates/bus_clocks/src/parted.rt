@@ -46,7 +46,7 @@ pub(crate) fn part(bits: &[u8], lines: &[u8], from: usize, count: usize) -> Part
 }
 
 impl Parted {
-    /// Takes some of these arrivals, so many from one on: 64 where the lines take turns or the second is silent, and else
+    /// Takes some of these arrivals, so many from one on: 64 where the lines take turns or the second is silent, else
     /// one. Returns how many.
     #[inline(always)]
     fn take(&mut self, bits: &[u8], lines: &[u8], at: usize, count: usize) -> usize

@@ -66,7 +66,8 @@ impl<C: Check> TwoClockAnalyser<C> {
         requires places { bits_taken self.old + count ≤ most_places }
         requires room { L.has_room observer.old count }
         ensures told { AdvancesWatchShown (two_clocks C.check) self.old
-            (arrivals_from bits.now lines.now from count) self.new (λ ss. L.observes self.old.conversation.dictionary observer.old out.old ss observer.new out.new) }
+            (arrivals_from bits.now lines.now from count) self.new
+            (λ ss. L.observes self.old.conversation.dictionary observer.old out.old ss observer.new out.new) }
         ensures left { (more : ℕ) → L.has_room observer.old (count + more) → L.has_room observer.new more }
     {
         let parted = part(bits, lines, from, count);

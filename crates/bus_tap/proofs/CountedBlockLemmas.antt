@@ -1,6 +1,7 @@
 -- The levels that count in 64 samples are carries of a sum.
 use Rattle.std.proofs.Common.{◌≡◌, ℕ, zero, suc, ◌+◌, ◌-◌, ◌*◌, ◌/◌, ◌%◌, ◌^◌, ◌<◌, ◌≤◌, ◌==◌, ◌&&◌, not}
-use Rattle.std.proofs.Common.{Bool, true, false, if◌then◌else◌, List, ◌++◌, length, refl, sym, ap, ◌∙◌, arith, inl, inr, cond}
+use Rattle.std.proofs.Common.{Bool, true, false, if◌then◌else◌, List, ◌++◌, length, refl, sym, ap, ◌∙◌, arith, inl, inr}
+use Rattle.std.proofs.Common.{cond}
 use Rattle.std.proofs.Common.{length-append, get_or}
 use mir.Val.{bool_byte}
 use Rattle.std.specs.Bool.{beq}

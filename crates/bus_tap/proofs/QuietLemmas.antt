@@ -1,5 +1,6 @@
 -- The rule of rest, with many arrivals more.
-use Rattle.std.proofs.Common.{◌≡◌, ℕ, zero, suc, ◌+◌, ◌-◌, ◌*◌, ◌/◌, ◌%◌, ◌^◌, ◌<◌, ◌≤◌, ◌⊎◌, ◌==◌, ◌&&◌, min, ltb, Bool}
+use Rattle.std.proofs.Common.{◌≡◌, ℕ, zero, suc, ◌+◌, ◌-◌, ◌*◌, ◌/◌, ◌%◌, ◌^◌, ◌<◌, ◌≤◌, ◌⊎◌, ◌==◌, ◌&&◌, min, ltb}
+use Rattle.std.proofs.Common.{Bool}
 use Rattle.std.proofs.Common.{true, false, List, [], ◌∷◌, ◌++◌, length, refl, sym, ap, ◌∙◌, arith, inl, inr}
 use Rattle.std.proofs.Common.{append-nil, append_assoc, if◌then◌else◌}
 use Rattle.std.specs.Prelude.{slice_index}
@@ -153,7 +154,8 @@ pub ones-first : (k n : ℕ) (bits lines : List ℕ) → bit_at lines n ≡ fals
 ones-first k n bits lines is =
     let before = arrivals_from bits lines 0 n in
     ap (λ (ys : List Arrival). ones_after k (own Second ys)) (arrivals-last bits lines n)
-    ∙ rw is (ap (ones_after k) (own-append Second before ((First, bit_at bits n) ∷ []) ∙ append-nil (own Second before)))
+    ∙ rw is (ap (ones_after k) (own-append Second before ((First, bit_at bits n) ∷ [])
+    ∙ append-nil (own Second before)))
 
 pub ones-one : (k n : ℕ) (bits lines : List ℕ) → bit_at lines n ≡ true → bit_at bits n ≡ true →
     ones_after k (own Second (arrivals_from bits lines 0 (n + 1)))
@@ -161,7 +163,8 @@ pub ones-one : (k n : ℕ) (bits lines : List ℕ) → bit_at lines n ≡ true �
 ones-one k n bits lines is one =
     let before = arrivals_from bits lines 0 n in
     ap (λ (ys : List Arrival). ones_after k (own Second ys)) (arrivals-last bits lines n)
-    ∙ rw (is, one) (ap (ones_after k) (own-append Second before ((Second, true) ∷ [])) ∙ ones-more k (own Second before))
+    ∙ rw (is, one) (ap (ones_after k) (own-append Second before ((Second, true) ∷ []))
+    ∙ ones-more k (own Second before))
 
 pub ones-zero : (k n : ℕ) (bits lines : List ℕ) → bit_at lines n ≡ true → bit_at bits n ≡ false →
     ones_after k (own Second (arrivals_from bits lines 0 (n + 1))) ≡ 0

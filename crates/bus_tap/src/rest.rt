@@ -1,7 +1,7 @@
 //! Brings the second line to rest where its clock has stopped.
 
-ghost use Rattle.std.specs.Prelude.{◌≡◌, ◌+◌, ◌-◌, ◌*◌, ◌≤◌, ◌==◌, ◌&&◌, ◌++◌, ◌∷◌, [], ℕ, List, length, min, nat_lt, true};
-ghost use Rattle.std.specs.Prelude.{◌↔◌, IsSome, IfSome, if◌then◌else◌};
+ghost use Rattle.std.specs.Prelude.{◌≡◌, ◌+◌, ◌-◌, ◌*◌, ◌≤◌, ◌==◌, ◌&&◌, ◌++◌, ◌∷◌, [], ℕ, List, length, min, nat_lt};
+ghost use Rattle.std.specs.Prelude.{◌↔◌, IsSome, IfSome, if◌then◌else◌, true};
 ghost use Rattle.bus_tap.specs.Arrival.{Arrival, arrivals_from, own};
 ghost use Rattle.bus_tap.specs.Rested.{IsRestAfter, rested, fill};
 ghost use Rattle.bus_bits.specs.Bits.{bit_at};

@@ -163,7 +163,8 @@ fn part_many(text: &[u8], bits: &mut [u8], lines: &mut [u8], parting: Parting) -
 #[inline(always)]
 fn pass_spaces(text: &[u8], parting: Parting) -> Parting
     requires { parting.taken ≤ length text.now }
-    ensures parted { (bits lines : List ℕ) → AreParted text.now bits lines parting → AreParted text.now bits lines result }
+    ensures parted { (bits lines : List ℕ) → AreParted text.now bits lines parting →
+        AreParted text.now bits lines result }
     ensures more { parting.taken ≤ result.taken }
 {
     let mut now = parting;

@@ -59,7 +59,7 @@ fn analyser(rt: &impl Abort, alloc: Global) -> TwoClockAnalyser<OctetCheck> {
     TwoClockAnalyser::new(alloc, dictionary, 5, 3).expect(rt, "an analyser")
 }
 
-/// Arrivals as `scan` takes them: their bits, and which of these are of the second line, the first of each octet lowest.
+/// Arrivals as `scan` takes them: their bits, and which of these are of the second line, the first of an octet lowest.
 pub(super) fn in_octets(
     rt: &impl Abort,
     alloc: Global,

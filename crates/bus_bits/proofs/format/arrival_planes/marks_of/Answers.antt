@@ -4,7 +4,8 @@ use Rattle.std.proofs.lemmas.Simd.{mask_l-lt}
 use Rattle.std.specs.Simd.Lanes.{mask_l}
 use Rattle.bus_bits.specs.Octet.{bits_of}
 use Rattle.bus_bits.specs.Capture.{is_arrival, is_bit, mark_arrival}
-use Rattle.bus_bits.proofs.ArrivalPlanesLemmas.{first-is-no-second, mask-sum, one-is-first, second-zero-is, zero-is-first}
+use Rattle.bus_bits.proofs.ArrivalPlanesLemmas.{first-is-no-second, mask-sum, one-is-first, second-zero-is}
+use Rattle.bus_bits.proofs.ArrivalPlanesLemmas.{zero-is-first}
 use Rattle.bus_bits.proofs.TextMarksLemmas.{bits-mask}
 use Rattle.bus_bits.proofs.format.arrival_planes.marks_of.Goals as goal
 

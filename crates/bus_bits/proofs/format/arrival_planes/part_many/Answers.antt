@@ -1,4 +1,5 @@
-use Rattle.std.proofs.Common.{◌≡◌, ◌+◌, ◌-◌, ◌*◌, ◌%◌, ◌<◌, ◌≤◌, ◌^◌, ◌++◌, ℕ, Bool, List, length, take, drop, map, true}
+use Rattle.std.proofs.Common.{◌≡◌, ◌+◌, ◌-◌, ◌*◌, ◌%◌, ◌<◌, ◌≤◌, ◌^◌, ◌++◌, ℕ, Bool, List, length, take, drop, map}
+use Rattle.std.proofs.Common.{true}
 use Rattle.std.proofs.Common.{refl, ap, ◌∙◌, arith}
 use Rattle.std.specs.Int.{trailing_ones, w64}
 use Rattle.std.specs.List.{list_all}
@@ -68,7 +69,8 @@ append_bits-of_lines-requires-clause-few c =
 
 -- both are packed to the same place
 same-places : (f h g k n : ℕ) → 8 * f + h ≡ n → 8 * g + k ≡ n → h < 8 → k < 8 → (f ≡ g) × (h ≡ k)
-same-places f h g k n one other few fewer = (omega (arith, one, other, few, fewer), omega (arith, one, other, few, fewer))
+same-places f h g k n one other few fewer =
+    (omega (arith, one, other, few, fewer), omega (arith, one, other, few, fewer))
 
 pub returns-clause-parted : goal.returns-clause-parted
 returns-clause-parted c =

@@ -21,11 +21,13 @@ returns-then-marks-eq65535-clause-packed c =
     let marks = c.marks_of_sixteen-marks in
     let put = c.append_bits in
     let chunk = c.in-Some.ensures.cases in
-    packed-more is_bit (λ x. x == 49) text c.args.block.now put.new.block p put.result 16 (bits_of 16 marks.result.ones) c.requires.packed
+    packed-more is_bit (λ x. x == 49) text c.args.block.now put.new.block p put.result 16 (bits_of 16 marks.result.ones)
+    c.requires.packed
     put.ensures.taken chunk.enough
     (omega (arith, put.ensures.count, put.ensures.held, c.requires.packed.few, c.requires.room, put.ensures.len))
     put.ensures.held put.ensures.rest put.ensures.bits
-    (front-given is_bit (λ x. x == 49) os front 16 16 marks.result.ones (bits_of 16 marks.result.ones) chunk.same (omega arith)
+    (front-given is_bit (λ x. x == 49) os front 16 16 marks.result.ones (bits_of 16 marks.result.ones) chunk.same
+    (omega arith)
     marks.ensures.ones
     (all-front front 16 marks.result.bits (ap length chunk.same ∙ omega (arith, length-take 16 os, chunk.enough))
     c.if-marks-eq65535.true marks.ensures.bits) refl)
@@ -58,7 +60,8 @@ returns-clause-packed c =
     let mask : bit_and marks.result.ones (1 * 2 ^ count % 2 ^ 64 - 1) ≡ marks.result.ones % 2 ^ count =
     ap (λ (n : ℕ). bit_and marks.result.ones (n - 1)) (one_shl count 64 (omega (arith, few)))
     ∙ and_mask marks.result.ones count in
-    packed-more is_bit (λ x. x == 49) text c.args.block.now put.new.block p put.result count _ c.requires.packed put.ensures.taken
+    packed-more is_bit (λ x. x == 49) text c.args.block.now put.new.block p put.result count _ c.requires.packed
+    put.ensures.taken
     (omega (arith, few, chunk.enough))
     (omega (arith, put.ensures.count, put.ensures.held, c.requires.packed.few, c.requires.room, put.ensures.len, few))
     put.ensures.held put.ensures.rest put.ensures.bits

@@ -17,7 +17,8 @@ returns-clause-packed c =
     let half = c.append_bits-half in
     let put = c.append_bits in
     let chunk = c.in-Some.ensures.cases in
-    packed-more is_bit (λ x. x == 49) text c.args.block.now put.new.block p put.result 64 (bits_of 64 marks.result.ones) c.requires.packed
+    packed-more is_bit (λ x. x == 49) text c.args.block.now put.new.block p put.result 64 (bits_of 64 marks.result.ones)
+    c.requires.packed
     (omega (arith, half.ensures.taken, put.ensures.taken)) chunk.enough
     (omega (
       arith,
@@ -32,7 +33,8 @@ returns-clause-packed c =
     )) put.ensures.held put.ensures.rest
     (put.ensures.bits ∙ (ap (λ (z : List Bool). z ++ bits_of 32 (marks.result.ones / 4294967296)) half.ensures.bits
     ∙ bits-halves (packed_bits c.args.block.now p) marks.result.ones))
-    (front-given is_bit (λ x. x == 49) os front 64 64 marks.result.ones (bits_of 64 marks.result.ones) chunk.same (omega arith)
+    (front-given is_bit (λ x. x == 49) os front 64 64 marks.result.ones (bits_of 64 marks.result.ones) chunk.same
+    (omega arith)
     marks.ensures.ones
     (all-front front 64 marks.result.bits (ap length chunk.same ∙ omega (arith, length-take 64 os, chunk.enough))
     c.if-marks.false marks.ensures.bits) refl)

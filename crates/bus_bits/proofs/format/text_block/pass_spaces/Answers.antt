@@ -6,7 +6,8 @@ use Rattle.bus_bits.proofs.format.text_block.pass_spaces.Goals as goal
 
 pub loop-now-preserved : goal.loop-now-preserved
 loop-now-preserved c = record {
-  packed = λ block before. space-passed is_bit (λ x. x == 49) space-no-bit c.args.text.now block c.loop-now.now c.loop-now-test.true
+  packed = λ block before. space-passed is_bit (λ x. x == 49) space-no-bit c.args.text.now block
+      c.loop-now.now c.loop-now-test.true
       (sym c.is_skipped.ensures ∙ c.if-is_skipped.true) (c.loop-now.invariant.packed block before);
   filled = c.loop-now.invariant.filled;
   more = omega (arith, c.loop-now.invariant.more);

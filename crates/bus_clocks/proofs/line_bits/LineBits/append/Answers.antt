@@ -22,5 +22,6 @@ returns c =
     let few : n + c.args.count ≤ 512 = omega (arith, c.requires.room, length-from os 0 n, ap length c.self.view_is) in
     let here : 8 * (n / 8) + n % 8 ≡ n = omega arith in
     rw (← c.self.view_is, c.copy_from_slice.ensures.after, c.to_le_bytes.ensures, c.from.ensures)
-    (rw here at (bits-appended os (n / 8) (n % 8) c.args.count c.args.bits _ _ (omega (arith, few, c.self.invariant.long))
+    (rw here at (bits-appended os (n / 8) (n % 8) c.args.count c.args.bits _ _
+    (omega (arith, few, c.self.invariant.long))
     (omega arith) (omega (arith, c.requires.few)) c.requires.small refl refl))

@@ -15,7 +15,8 @@ pub returns-then-turns-clause-parts : goal.returns-then-turns-clause-parts
 returns-then-turns-clause-parts c = λ xs parts room.
     let here : 8 * (c.args.at / 8) ≡ c.args.at = omega (arith, c.if-at-eq0.true) in
     let zs = first-begins c.args.bits.now c.args.lines.now c.args.at c.eight_at-word.result c.eight_at-turns.result _ _
-    c.if-turns.true (rw here at c.eight_at-word.ensures) (rw here at c.eight_at-turns.ensures) c.of-pairs.ensures.pairs in
+    c.if-turns.true (rw here at c.eight_at-word.ensures) (rw here at c.eight_at-turns.ensures)
+    c.of-pairs.ensures.pairs in
     c.take_turns.ensures xs (arrivals_from c.args.bits.now c.args.lines.now c.args.at 64) parts
     (omega (arith, room, c.if-count-ge64.true)) zs.first zs.second zs.before
 

@@ -15,7 +15,10 @@ use Rattle.bus_tap.proofs.rest.RestRule.pass.Goals as goal
 -- those up to the last bit of the second line, and then those of the first line alone
 module _ (r : RestState) (bits lines : List ℕ) (xs : List Arrival) (past count silent : ℕ) where
   last-of : IsRestAfter r xs → bit_at lines (past - 1) ≡ true → past - 1 + 1 ≡ past →
-      IsRestAfter (record r { silent = 0; ones = min 15 (ones_after r.ones (own Second (arrivals_from bits lines 0 past))) })
+      IsRestAfter (record r {
+        silent = 0;
+        ones = min 15 (ones_after r.ones (own Second (arrivals_from bits lines 0 past)));
+      })
       (xs ++ arrivals_from bits lines 0 past)
   last-of after second next =
       let zs = arrivals_from bits lines 0 (past - 1) in
@@ -37,7 +40,8 @@ module _ (r : RestState) (bits lines : List ℕ) (xs : List Arrival) (past count
       let front = xs ++ arrivals_from bits lines 0 past in
       let same : silent ≡ min r.most (r.silent + length behind) =
       is ∙ ap (λ (n : ℕ). min r.most (r.silent + n)) (sym (length-arrivals bits lines past (count - past))) in
-      rw (whole, ← append_assoc xs (arrivals_from bits lines 0 past) behind, same) (after-firsts r front behind after alone)
+      rw (whole, ← append_assoc xs (arrivals_from bits lines 0 past) behind, same)
+      (after-firsts r front behind after alone)
 
 pub returns-clause-after : goal.returns-clause-after
 returns-clause-after c = λ xs after.

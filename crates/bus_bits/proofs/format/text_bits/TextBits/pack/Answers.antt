@@ -4,4 +4,7 @@ use Rattle.bus_bits.proofs.TextBlockLemmas.{packed-none}
 use Rattle.bus_bits.proofs.format.text_bits.TextBits.pack.Goals as goal
 
 pub loop-now-init : goal.loop-now-init
-loop-now-init c = record { packed = packed-none is_bit (λ x. x == 49) c.args.text.now c.args.block.now c.requires.some; len = refl }
+loop-now-init c = record {
+  packed = packed-none is_bit (λ x. x == 49) c.args.text.now c.args.block.now c.requires.some;
+  len = refl;
+}
