@@ -7,7 +7,6 @@ example may read what another wrote. The program and the scripts are on the path
 
 import os
 import re
-import signal
 import subprocess
 from dataclasses import dataclass
 from itertools import takewhile
@@ -15,6 +14,7 @@ from pathlib import Path
 from typing import FrozenSet, Iterator, List, Tuple
 
 from needs import Skipped, needs
+from shells import run_in_shell
 
 TOP = Path(__file__).resolve().parent.parent
 
@@ -118,24 +118,9 @@ def furnish(folder: Path) -> None:
 
 
 def run_of(program: Path, example: Example, folder: Path) -> Tuple[bytes, int]:
-    """All that a run of it writes, and its status; where it does not end in time, its shell and the programs of that
-    are killed."""
+    """All that a run of it writes, and its status."""
     path = f"{program.parent}:{TOP / 'scripts'}:{os.environ.get('PATH', os.defpath)}"
-    with subprocess.Popen(
-        example.command,
-        shell=True,
-        cwd=folder,
-        env={"PATH": path, "LC_ALL": "C", "HOME": str(folder)},
-        stdin=subprocess.DEVNULL,
-        stdout=subprocess.PIPE,
-        stderr=subprocess.STDOUT,
-        start_new_session=True,
-    ) as shell:
-        try:
-            return shell.communicate(timeout=SECONDS)[0], shell.returncode
-        except subprocess.TimeoutExpired:
-            os.killpg(shell.pid, signal.SIGKILL)
-            raise
+    return run_in_shell(example.command, folder, {"PATH": path, "LC_ALL": "C", "HOME": str(folder)}, SECONDS)
 
 
 def problems_of_example(program: Path, example: Example, folder: Path) -> List[str]:

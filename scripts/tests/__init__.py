@@ -3,5 +3,5 @@
 import sys
 from pathlib import Path
 
-# What they share with the tests of the whole repository: needs.py.
+# What they share with the tests of the whole repository: needs.py and shells.py.
 sys.path.append(str(Path(__file__).resolve().parent.parent.parent / "tests"))

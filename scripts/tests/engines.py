@@ -9,7 +9,6 @@ import os
 import random
 import re
 import shutil
-import signal
 import socket
 import subprocess
 import time
@@ -18,6 +17,7 @@ from pathlib import Path
 from typing import Callable, Dict, Iterator, List, NamedTuple, Optional, Sequence
 
 from needs import Skipped, needs, told_of
+from shells import run_in_shell
 from tests.case import SCRIPTS, SECONDS, TOP, Run, Test, Word, listed, packed
 from tests.parts import dirty_line
 
@@ -71,20 +71,7 @@ def write_scripts(text: str, folder: Path) -> None:
 
 def run_step(step: Step, folder: Path, environment: Environment) -> List[str]:
     """What is wrong with a run of a command; a command whose output is not shown may write what it likes."""
-    with subprocess.Popen(
-        ["sh", "-c", step.command],
-        cwd=folder,
-        env=environment,
-        stdin=subprocess.DEVNULL,
-        stdout=subprocess.PIPE,
-        stderr=subprocess.STDOUT,
-        start_new_session=True,
-    ) as shell:
-        try:
-            wrote = shell.communicate(timeout=SECONDS)[0].decode(errors="replace")
-        except subprocess.TimeoutExpired:
-            os.killpg(shell.pid, signal.SIGKILL)
-            raise
+    wrote = run_in_shell(step.command, folder, environment, SECONDS)[0].decode(errors="replace")
     return [] if step.shown in (None, wrote) else [f"{step.command}: the page has {step.shown!r}, it wrote {wrote!r}"]
 
 
