@@ -121,11 +121,15 @@ static int take_mark(struct line *l, uint8_t mark) {
     return 1;
 }
 
-/* Reads the head of a packed capture, and how many bits or pairs it counts; 0 where it is no good head. */
-static int read_head(const char *magic, uint64_t *left) {
+/* Whether the capture is packed, as the first word says; then its head is read, and how many bits or pairs it counts.
+ * -1 where that is no good head. Makes the table. */
+static int read_form(int argc, char **argv, const char *magic, uint64_t *left) {
     uint8_t head[16];
-    if (fread(head, 1, 16, stdin) != 16 || memcmp(head, magic, 8) != 0)
+    make_table();
+    if (argc < 2 || strcmp(argv[1], "packed") != 0)
         return 0;
+    if (fread(head, 1, 16, stdin) != 16 || memcmp(head, magic, 8) != 0)
+        return -1;
     for (int i = 7; i >= 0; i--)
         *left = *left << 8 | head[8 + i];
     return 1;

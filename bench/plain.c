@@ -8,11 +8,10 @@ static struct line line;
 
 int main(int argc, char **argv) {
     static uint8_t buffer[65536];
-    int packed = argc > 1 && strcmp(argv[1], "packed") == 0;
     uint64_t left = 0;
+    int packed = read_form(argc, argv, "TS2BITS1", &left);
     size_t got;
-    make_table();
-    if (packed && !read_head("TS2BITS1", &left))
+    if (packed < 0)
         return 2;
     while ((got = fread(buffer, 1, sizeof buffer, stdin)) > 0)
         for (size_t i = 0; i < got; i++) {

@@ -86,13 +86,12 @@ static int take_text(const uint8_t *marks, size_t got) {
 
 int main(int argc, char **argv) {
     static uint8_t buffer[65536];
-    int packed = argc > 1 && strcmp(argv[1], "packed") == 0;
     uint64_t left = 0;
+    int packed = read_form(argc, argv, "TS2BITS1", &left);
     size_t got;
-    make_table();
-    make_steps();
-    if (packed && !read_head("TS2BITS1", &left))
+    if (packed < 0)
         return 2;
+    make_steps();
     while ((got = fread(buffer, 1, sizeof buffer, stdin)) > 0) {
         if (!packed && take_text(buffer, got) != 0)
             return 2;

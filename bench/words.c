@@ -514,14 +514,13 @@ static int take_text(void) {
 }
 
 int main(int argc, char **argv) {
-    int packed = argc > 1 && strcmp(argv[1], "packed") == 0;
     uint64_t left = 0;
-    make_table();
+    int packed = read_form(argc, argv, "TS2BITS1", &left);
+    if (packed < 0)
+        return 2;
     make_fours();
     make_digits();
     filled = KEPT;
     origin = 0 - (uint64_t)KEPT * 8;
-    if (packed && !read_head("TS2BITS1", &left))
-        return 2;
     return packed ? take_packed(left) : take_text();
 }
