@@ -15,7 +15,7 @@ use Rattle.std.proofs.Math.Nat.{div-eq_of_lt}
 use Rattle.std.proofs.Math.Seq.{take-append-add}
 use Rattle.bus_bits.specs.Bits.{bits_from}
 use Rattle.bus_bits.specs.Octet.{bits_of, bits_of_octets}
-use Rattle.bus_bits.specs.Capture.{fault_by, is_bit, is_space, marks_by}
+use Rattle.bus_bits.specs.Capture.{fault_by, is_space, marks_by}
 use Rattle.bus_bits.specs.Internal.Packs.{IsPackedBy, packed_bits}
 use Rattle.bus_bits.specs.declared.format.text_block.Packing.{Packing}
 use Rattle.bus_bits.proofs.BitLemmas.{bits-in, bits-more}
@@ -218,26 +218,28 @@ front-given is_mark value os front k count ones given same few is all are ys cle
     text-given is_mark value os (take count os) count given (marks_text is_mark (take count os) marks)
     (all_kept is_mark (take count os) marks) bits ys clean
 
-unmarked : (n : ℕ) (xs : List ℕ) → bits_of 16 n ≡ map is_bit xs → bit_at n 0 ≡ 0 → is_bit (get_or xs 0 0) ≡ false
+unmarked : (is_mark : ℕ → Bool) (k n : ℕ) (xs : List ℕ) → 1 ≤ k → bits_of k n ≡ map is_mark xs → bit_at n 0 ≡ 0 →
+    is_mark (get_or xs 0 0) ≡ false
 unfolding bits_of
-unmarked n [] is unset = refl
-unmarked n (x ∷ xs) is unset =
-    let zero : n % 2 ≡ 0 = omega (arith, unset) in
-    sym (ap (λ (z : List Bool). get_or z 0 true) is) ∙ rw zero refl
+unmarked is_mark zero n xs long is unset = absurd (omega (arith, long))
+unmarked is_mark (suc k) n [] long is unset = absurd (omega (arith, ap length is))
+unmarked is_mark (suc k) n (x ∷ xs) long is unset =
+    let even : n % 2 ≡ 0 = omega (arith, unset) in
+    sym (ap (λ (z : List Bool). get_or z 0 true) is) ∙ rw even refl
 
--- the octet at which no mark is 1 is no bit
-pub first-none : (text front : List ℕ) (at n : ℕ) → at < length text →
-    front ≡ take 16 (take (length text - at) (drop at text)) → bits_of 16 n ≡ map is_bit front
-    → bit_at n 0 ≡ 0 → is_bit (slice_index text at) ≡ false
-first-none text front at n inside same is none =
+-- the octet at which no mark is 1 is no mark
+pub first-none : (is_mark : ℕ → Bool) (k : ℕ) (text front : List ℕ) (at n : ℕ) → at < length text → 1 ≤ k →
+    front ≡ take k (take (length text - at) (drop at text)) → bits_of k n ≡ map is_mark front
+    → bit_at n 0 ≡ 0 → is_mark (slice_index text at) ≡ false
+first-none is_mark k text front at n inside long same is none =
     let some : 0 < length text - at = omega (arith, inside) in
     let place : at + 0 ≡ at = omega arith in
     let item : get_or front 0 0 ≡ slice_index text at =
     ap (λ (os : List ℕ). get_or os 0 0) same
-    ∙ (get_or-take 16 (take (length text - at) (drop at text)) 0 0 (omega arith)
+    ∙ (get_or-take k (take (length text - at) (drop at text)) 0 0 (omega (arith, long))
     ∙ (get_or-take (length text - at) (drop at text) 0 0 some
     ∙ (get_or-drop at text 0 0 ∙ ap (slice_index text) place))) in
-    ap is_bit (sym item) ∙ unmarked n front is none
+    ap is_mark (sym item) ∙ unmarked is_mark k n front long is none
 
 -- two halves are the whole
 pub bits-halves : (block : List Bool) (n : ℕ) → (block ++ bits_of 32 (bit_and n 4294967295))

@@ -101,11 +101,11 @@ EightIn n xs = EightBy is_bit n xs
 abbrev pub EightPairsIn : ℕ → List ℕ → Type 0
 EightPairsIn n xs = EightBy is_pair n xs
 
--- after the first `taken` octets fewer than sixteen follow, or one that is neither a bit nor skipped
-abbrev pub TextEnds : List ℕ → ℕ → Type 0
-TextEnds xs taken =
-    (length xs < taken + 16)
-    ⊎ ((is_bit (slice_index xs taken) ≡ false) × (is_space (slice_index xs taken) ≡ false))
+-- after the first `taken` octets fewer than `n` follow, or one that is no mark and no space
+abbrev pub TextEnds : (ℕ → Bool) → ℕ → List ℕ → ℕ → Type 0
+TextEnds is_mark n xs taken =
+    (length xs < taken + n)
+    ⊎ ((is_mark (slice_index xs taken) ≡ false) × (is_space (slice_index xs taken) ≡ false))
 
 -- text: a `0` or `1` is a bit
 abbrev pub text_capture : List ℕ → Capture

@@ -1,7 +1,7 @@
 //! Brings the second line to rest where its clock has stopped.
 
 ghost use Rattle.std.specs.Prelude.{◌≡◌, ◌+◌, ◌-◌, ◌*◌, ◌≤◌, ◌==◌, ◌&&◌, ◌++◌, ◌∷◌, [], ℕ, List, length, min, nat_lt};
-ghost use Rattle.std.specs.Prelude.{◌↔◌, IsSome, IfSome, if◌then◌else◌, true};
+ghost use Rattle.std.specs.Prelude.{◌↔◌, ◌^◌, IsSome, IfSome, if◌then◌else◌, true};
 ghost use Rattle.bus_tap.specs.Arrival.{Arrival, arrivals_from, own};
 ghost use Rattle.bus_tap.specs.Rested.{IsRestAfter, rested, fill};
 ghost use Rattle.bus_bits.specs.Bits.{bit_at};
@@ -104,8 +104,11 @@ impl RestRule {
 
     /// How many arrivals, whatever they are, do not bring the second line to rest.
     pub fn quiet(&self) -> u64
-        ensures { (xs ys : List Arrival) → IsRestAfter self.now xs → length ys ≤ result →
+        ensures rested { (xs ys : List Arrival) → IsRestAfter self.now xs → length ys ≤ result →
             rested self.now.most (xs ++ ys) ≡ rested self.now.most xs ++ ys }
+        ensures never { self.now.most ≡ 0 → result ≡ 2 ^ 64 - 1 }
+        ensures least { self.now.most ≤ result + 1
+            + (if self.now.silent == self.now.most then 0 else self.now.silent) }
     {
         if self.most == 0 {
             return u64::MAX;

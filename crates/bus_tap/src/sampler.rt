@@ -3,7 +3,7 @@
 ghost use Rattle.std.specs.Prelude.{◌≡◌, ◌+◌, ◌≤◌, ◌/◌, ◌%◌, ◌==◌, ◌&&◌, ◌++◌, ◌∷◌, [], List, ℕ};
 ghost use Rattle.std.specs.Prelude.{if◌then◌else◌, length, not, Some, None};
 ghost use Rattle.bus_pairing.specs.declared.line.Line.TheVariants.{First};
-ghost use Rattle.std.specs.Prelude.{IsTrue};
+ghost use Rattle.std.specs.Prelude.{IsTrue, ◌↔◌};
 ghost use Rattle.bus_tap.specs.Blocks.{HasLevels, IsBlockOf};
 ghost use Rattle.bus_tap.specs.Internal.Counts.{AreCounted, CountsLine, HadCounted, HasCounted};
 ghost use Rattle.bus_tap.specs.Internal.Held.{held_state, next_state, held_clock, held_data, no_edges, AreHeldAt};
@@ -34,7 +34,7 @@ impl Edges {
     /// Whether no bit arrives.
     #[inline(always)]
     pub fn is_none(&self) -> bool
-        ensures { IsTrue result → self.now ≡ no_edges }
+        ensures { IsTrue result ↔ self.now ≡ no_edges }
     {
         self.first.is_none() && self.second.is_none()
     }

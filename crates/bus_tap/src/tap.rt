@@ -230,7 +230,7 @@ impl Tap {
     /// two samples, and with room for 64 samples more.
     #[inline(always)]
     pub fn takes_blocks(&self) -> bool
-        ensures { IsTrue result → TakesBlocks self.now }
+        ensures { IsTrue result ↔ TakesBlocks self.now }
     {
         self.hold <= 1 && self.samples <= MOST - 64 && self.sampler.is_some()
     }

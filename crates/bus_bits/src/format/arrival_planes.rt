@@ -1,10 +1,12 @@
 //! Text captures of arrivals packed into two blocks: the bits that arrive, and which of these are of the second line.
 
-ghost use Rattle.std.specs.Prelude.{◌≡◌, ◌+◌, ◌*◌, ◌≤◌, ◌<◌, ◌==◌, ◌^◌, ℕ, List, ◌++◌, length, map, take, zip, None};
+ghost use Rattle.std.specs.Prelude.{◌≡◌, ◌+◌, ◌*◌, ◌≤◌, ◌<◌, ◌==◌, ◌^◌, ◌⊎◌, ℕ, List, false, ◌++◌, length, map};
+ghost use Rattle.std.specs.Prelude.{slice_index, take, zip, None};
 ghost use Rattle.std.specs.Simd.Lanes.{mask_l};
 ghost use Rattle.bus_bits.specs.Bits.{bits_from};
 ghost use Rattle.bus_bits.specs.Octet.{bits_of};
-ghost use Rattle.bus_bits.specs.Capture.{is_arrival, mark_arrival, text_arrivals, text_arrivals_fault};
+ghost use Rattle.bus_bits.specs.Capture.{TextEnds, is_arrival, is_space, mark_arrival, text_arrivals};
+ghost use Rattle.bus_bits.specs.Capture.{text_arrivals_fault};
 ghost use Rattle.bus_bits.specs.Internal.Packs.{AreParted, bits_of_both, lines_of_both};
 
 use super::text_arrivals::TextArrivals;
@@ -53,6 +55,7 @@ impl TextArrivals {
             (text_arrivals_fault (xs ++ take result.taken text.now) ≡ None)
             × (text_arrivals (xs ++ take result.taken text.now) ≡ text_arrivals xs
             ++ zip (bits_from bits.new 0 result.count) (bits_from lines.new 0 result.count)) }
+        ensures most { (8 * length bits.new < result.count + 80) ⊎ TextEnds is_arrival 32 text.now result.taken }
         ensures len { (length bits.new ≡ length bits.old) × (length lines.new ≡ length lines.old) }
     {
         let mut now = Parting {
@@ -80,6 +83,7 @@ fn close_both(bits: &mut [u8], lines: &mut [u8], parting: Parting) -> TextBlock
     requires same { length bits.old ≡ length lines.old }
     requires few { 8 * length bits.old < 2 ^ 64 }
     ensures within { result.count ≤ 8 * length bits.new }
+    ensures count { result.count ≡ 8 * parting.filled + parting.held }
     ensures taken { result.taken ≡ parting.taken }
     ensures given { (text : List ℕ) → AreParted text bits.old lines.old parting → (xs : List ℕ) →
         text_arrivals_fault xs ≡ None →
@@ -126,6 +130,7 @@ fn part_line(text: &[u8], bits: &mut [u8], lines: &mut [u8], parting: Parting) -
     requires room { parting.filled + 10 ≤ length bits.old }
     ensures parted { AreParted text.now bits.new lines.new result }
     ensures more { parting.taken ≤ result.taken }
+    ensures most { result.taken ≡ parting.taken → TextEnds is_arrival 32 text.now result.taken }
     ensures len { (length bits.new ≡ length bits.old) × (length lines.new ≡ length lines.old) }
 {
     let parting = part_many(text, bits, lines, parting);
@@ -140,6 +145,8 @@ fn part_many(text: &[u8], bits: &mut [u8], lines: &mut [u8], parting: Parting) -
     requires room { parting.filled + 10 ≤ length bits.old }
     ensures parted { AreParted text.now bits.new lines.new result }
     ensures more { parting.taken ≤ result.taken }
+    ensures most { result.taken ≡ parting.taken →
+        (length text.now < result.taken + 32) ⊎ (is_arrival (slice_index text.now result.taken) ≡ false) }
     ensures len { (length bits.new ≡ length bits.old) × (length lines.new ≡ length lines.old) }
 {
     let Some(front) = text[parting.taken..].first_chunk() else {
@@ -166,6 +173,7 @@ fn pass_spaces(text: &[u8], parting: Parting) -> Parting
     ensures parted { (bits lines : List ℕ) → AreParted text.now bits lines parting →
         AreParted text.now bits lines result }
     ensures more { parting.taken ≤ result.taken }
+    ensures most { result.taken < length text.now → is_space (slice_index text.now result.taken) ≡ false }
 {
     let mut now = parting;
     while now.taken < text.len() && is_skipped(text[now.taken]) {

@@ -44,7 +44,7 @@ impl TextBits {
         ensures given { (xs : List ℕ) → text_fault xs ≡ None →
             (text_fault (xs ++ take result.taken text.now) ≡ None)
             × (text_bits (xs ++ take result.taken text.now) ≡ text_bits xs ++ bits_from block.new 0 result.count) }
-        ensures most { (8 * length block.new < result.count + 176) ⊎ TextEnds text.now result.taken }
+        ensures most { (8 * length block.new < result.count + 176) ⊎ TextEnds is_bit 16 text.now result.taken }
         ensures len { length block.new ≡ length block.old }
     {
         let mut now = Packing {
@@ -91,7 +91,7 @@ fn pack_some(text: &[u8], block: &mut [u8], packing: Packing) -> Packing
     requires room { packing.filled + 22 ≤ length block.old }
     ensures packed { IsPacked text.now block.new result }
     ensures more { packing.taken ≤ result.taken }
-    ensures most { result.taken ≡ packing.taken → TextEnds text.now result.taken }
+    ensures most { result.taken ≡ packing.taken → TextEnds is_bit 16 text.now result.taken }
     ensures len { length block.new ≡ length block.old }
 {
     let long = pack_sixty_four(text, block, packing);
@@ -109,7 +109,7 @@ fn pack_short_lines(text: &[u8], block: &mut [u8], packing: Packing) -> Packing
     requires room { packing.filled + 14 ≤ length block.old }
     ensures packed { IsPacked text.now block.new result }
     ensures more { packing.taken ≤ result.taken }
-    ensures most { result.taken ≡ packing.taken → TextEnds text.now result.taken }
+    ensures most { result.taken ≡ packing.taken → TextEnds is_bit 16 text.now result.taken }
     ensures len { length block.new ≡ length block.old }
 {
     let first = pack_line(text, block, packing);
@@ -126,7 +126,7 @@ fn pack_line(text: &[u8], block: &mut [u8], packing: Packing) -> Packing
     ensures packed { IsPacked text.now block.new result }
     ensures room { result.filled ≤ packing.filled + 2 }
     ensures more { packing.taken ≤ result.taken }
-    ensures most { result.taken ≡ packing.taken → TextEnds text.now result.taken }
+    ensures most { result.taken ≡ packing.taken → TextEnds is_bit 16 text.now result.taken }
     ensures len { length block.new ≡ length block.old }
 {
     let packing = pack_sixteen(text, block, packing);

@@ -116,7 +116,7 @@ fn rows_of_rest(rt: HostRuntime) {
     }
 }
 
-/// The silence that suits a cabinet.
+/// The silence that suits a cabinet, and what is left of it. A line that rests is quiet for as long as another.
 #[test]
 fn usual_silence(rt: HostRuntime) {
     let mut rule = RestRule::new(RestRule::SILENCE);
@@ -133,7 +133,10 @@ fn usual_silence(rt: HostRuntime) {
             place == 400,
             format_args!("place {place}"),
         );
+        let left = if place < 400 { 399 - place } else { 399 };
+        same(&rt, rule.quiet(), left, format_args!("quiet at {place}"));
     }
+    same(&rt, RestRule::new(0).quiet(), u64::MAX, "no rest");
 }
 
 /// Arrivals that pass at once leave the rule as it is after each of them alone, and bring no rest.

@@ -54,13 +54,21 @@ fn all_is_logged(rt: HostRuntime) {
     for (report, line) in log.reports().iter().zip(lines) {
         same(&rt, report.line, line, "the line of a report");
     }
+    same(&rt, done.usage.history_len, 2, "how many frames are kept");
+}
+
+/// An analyser after a run tells both frames, and the steps of both lines.
+#[test]
+fn all_is_told(rt: HostRuntime) {
+    let alloc = rt.alloc();
+    let mut log = PairLog::new(alloc, 3).expect(&rt, "a log");
+    let done = run(&rt, alloc, 2, 100, &mut log).expect(&rt, "a run");
     same(
         &rt,
         done.analyser.usage(),
         done.usage,
         "the usage of the analyser",
     );
-    same(&rt, done.usage.history_len, 2, "how many frames are kept");
     same(
         &rt,
         done.analyser.history_len(),

@@ -159,8 +159,10 @@ fn rows_of_samples(rt: HostRuntime) {
             let mut sampler = Sampler::new(row.hold, sample_of(first));
             for digit in samples {
                 let edges = sampler.sample(sample_of(digit));
+                let before = text.len();
                 mark!(&rt, text, edges.first, "1", "0");
                 mark!(&rt, text, edges.second, "i", "o");
+                same(&rt, edges.is_none(), text.len() == before, "no bit");
             }
         }
         let case = format_args!("{} with {}", row.samples, row.hold);

@@ -1,7 +1,6 @@
 use Rattle.std.proofs.Common.{◌≡◌, ◌+◌, ◌-◌, ◌*◌, ◌%◌, ◌<◌, ◌≤◌, ◌^◌, ◌++◌, ℕ, Bool, List, length, take, drop, map}
-use Rattle.std.proofs.Common.{true}
-use Rattle.std.proofs.Common.{refl, ap, ◌∙◌, arith}
-use Rattle.std.specs.Int.{trailing_ones, w64}
+use Rattle.std.proofs.Common.{true, inr, refl, sym, ap, slice_index, ◌∙◌, arith}
+use Rattle.std.specs.Int.{bit_at, trailing_ones, w64}
 use Rattle.std.specs.List.{list_all}
 use Rattle.std.specs.Prelude.{bit_and}
 use Rattle.std.proofs.lemmas.List.{length-drop, length-take}
@@ -12,7 +11,7 @@ use Rattle.bus_bits.specs.Capture.{is_arrival, mark_arrival}
 use Rattle.bus_bits.specs.Internal.Packs.{IsPackedBy, bits_of_both, lines_of_both, packed_bits}
 use Rattle.bus_bits.specs.declared.format.text_block.Packing.{Packing}
 use Rattle.bus_bits.proofs.OctetLemmas.{bits-low}
-use Rattle.bus_bits.proofs.TextBlockLemmas.{front-given, front-marks, ones-few, packed-more}
+use Rattle.bus_bits.proofs.TextBlockLemmas.{first-none, front-given, front-marks, ones-few, packed-more}
 use Rattle.bus_bits.proofs.format.arrival_planes.part_many.Goals as goal
 
 -- no more than 32 of 32 marks are ones in a row
@@ -112,3 +111,19 @@ returns-clause-parted c =
           ))
           others.ensures.held others.ensures.rest second.bits marks.ensures.lines all);
     }
+
+pub returns-clause-most : goal.returns-clause-most
+returns-clause-most c = λ none.
+    let p = c.args.parting in
+    let text = c.args.text.now in
+    let marks = c.marks_of-marks in
+    let chunk = c.in-Some.ensures.cases in
+    let ones = bit_at-trailing_ones w64 marks.result.marks (omega (arith, marks.ensures.few.2)) in
+    let taken = ap (λ (q : Packing). q.taken) c.bits_of.ensures in
+    let count : trailing_ones w64 marks.result.marks ≡ 0 =
+    omega (arith, none, taken, c.append_bits-next.ensures.taken, c.trailing_ones-count.ensures) in
+    let some : p.taken < length text =
+    omega (arith, chunk.enough, length-take (length text - p.taken) (drop p.taken text), length-drop p.taken text) in
+    inr (ap (λ n. is_arrival (slice_index text n)) none
+    ∙ first-none is_arrival 32 text c.in-Some.front.now p.taken marks.result.marks some (omega arith) chunk.same
+    marks.ensures.marks (ap (bit_at marks.result.marks) (sym count) ∙ ones.1))

@@ -93,5 +93,6 @@ returns-clause-most c = λ none.
     let some : p.taken < length text =
     omega (arith, chunk.enough, length-take (length text - p.taken) (drop p.taken text), length-drop p.taken text) in
     inr (ap (λ n. is_bit (slice_index text n)) none
-    ∙ first-none text c.in-Some.front.now p.taken marks.result.bits some chunk.same marks.ensures.bits
+    ∙ first-none is_bit 16 text c.in-Some.front.now p.taken marks.result.bits some (omega arith) chunk.same
+    marks.ensures.bits
     (ap (bit_at marks.result.bits) (sym count) ∙ ones.1))

@@ -7,7 +7,7 @@ use Rattle.bus_calls.proofs.arrivals.ClockAnalyserCaptureKind.analyse_text.Goals
 
 pub analyse_quiet-requires-clause-quiet : goal.analyse_quiet-requires-clause-quiet
 analyse_quiet-requires-clause-quiet g c = λ xs ys after few.
-    c.quiet.ensures xs ys after
+    c.quiet.ensures.rested xs ys after
     (grind (
       arith,
       common_steps,

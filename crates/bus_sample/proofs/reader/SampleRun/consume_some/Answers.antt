@@ -77,7 +77,7 @@ pub returns-then-is_none-clause-taken : goal.returns-then-is_none-clause-taken
 returns-then-is_none-clause-taken g c = λ sample is start ss taken.
     let self = c.args.self.now in
     let w = g.W.Write.contents c.args.w.now in
-    let none : bits_of_edges c.in-Ok.taken.edges ≡ [] = ap bits_of_edges (c.if-is_none.ensures refl) in
+    let none : bits_of_edges c.in-Ok.taken.edges ≡ [] = ap bits_of_edges (c.if-is_none.ensures.0 refl) in
     let marked : HasMarked start w self.marks (arrivals self.options ss ++ bits_of_edges c.in-Ok.taken.edges) =
     subst (λ xs. HasMarked start w self.marks (arrivals self.options ss ++ xs)) (sym none)
     (rw (append-nil (arrivals self.options ss)) taken.marks) in

@@ -19,5 +19,5 @@ returns-then-is_none-clause-taken c =
       rw both
           (advances-further c.args.self.now c.consume_held-edges.new.self c.pass-then-is_none.new.self _ _ [] []
           (subst (λ e. AdvancesTap c.args.self.now (replicate stood s) (bits_of_edges e) c.consume_held-edges.new.self)
-          (c.if-is_none.ensures refl) c.consume_held-edges.ensures.taken) c.pass-then-is_none.ensures),
+          (c.if-is_none.ensures.0 refl) c.consume_held-edges.ensures.taken) c.pass-then-is_none.ensures),
     )

@@ -30,7 +30,7 @@ loop-taken-preserved c = record {
       c.loop-taken.invariant.advances
       (subst
       (λ e. AdvancesTap c.loop-taken.self (c.args.sample ∷ []) (bits_of_edges e) c.step-edges.new.self)
-      (c.if-not-is_none.ensures refl) c.step-edges.ensures));
+      (c.if-not-is_none.ensures.0 refl) c.step-edges.ensures));
 }
 
 pub returns-clause-taken : goal.returns-clause-taken
