@@ -91,8 +91,10 @@ export function canRun() {
   return typeof WebAssembly === "object" && WebAssembly.validate(module);
 }
 
-/** @param {Uint8Array} module @returns {Promise<Library>} */
-export async function libraryOf(module) {
-  const { instance } = await WebAssembly.instantiate(module, {});
-  return new Library(instance);
+/**
+ * The library of a module, at once: for the promise of one Node 20 can wait for ever, with its compiler waiting for it.
+ * @param {Uint8Array} module
+ */
+export function libraryOf(module) {
+  return new Library(new WebAssembly.Instance(new WebAssembly.Module(module)));
 }

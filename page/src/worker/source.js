@@ -120,7 +120,7 @@ async function readOnce(job, heard) {
   if (job.form === "listing") return readListing(job, heard);
   if (!job.engine) throw new Fault("this browser cannot decode captures: it lacks 64-bit memory for WebAssembly");
   const kind = kindOf(job);
-  const library = await libraryOf(job.engine);
+  const library = libraryOf(job.engine);
   const { bits, decoder, sink } = roadOf(kind, library, job.entries);
   const told = { notes: /** @type {string[]} */ ([]), warnings: /** @type {Warning[]} */ ([]) };
   try {
