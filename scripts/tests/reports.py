@@ -145,7 +145,7 @@ def refuses_other_lines(_: Path) -> List[str]:
     return [] if (got.returncode, got.stderr.decode()) == (2, told) else [f"{got.returncode}: {got.stderr!r}"]
 
 
-# What `port1 list --arrivals` says of the example of four wires, by how it was made (recordings.py).
+# What `port1 list --arrivals` says of the example of four wires, by how it was made (cabinets.py).
 FOUR_WIRES = """1 0 15 idle
 1 48 89 frame 108300fde5 station 16 type 0 call
 1 97 112 idle

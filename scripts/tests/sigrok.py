@@ -1,6 +1,5 @@
 """The decoder for PulseView and sigrok-cli, in the real sigrok-cli, on recordings made sample by sample."""
 
-import json
 import os
 import random
 import re
@@ -8,186 +7,14 @@ import subprocess
 from pathlib import Path
 from typing import List, NamedTuple, Sequence, Tuple
 
-from needs import Skipped, needs
+from needs import needs
 from table.vectors import VECTORS
-from tests.case import CALL, DICTIONARY, REPLY, SCRIPTS, SECONDS, TOP, WINDOWS
-from tests.case import Run, Word, listed, plain, random_bits
+from tests.annotated import ANSWERS, BESIDE_FRAMES, CONTROLLER, DECODER, REPLY_TIMES, Shown, annotations, built
+from tests.annotated import differences, expected, input_words, shown_of, side_of, sigrok
+from tests.case import CALL, DICTIONARY, REPLY, SCRIPTS, SECONDS, TOP, WINDOWS, Run, plain
+from tests.waves import CHANNELS, RATE, REST, SECOND, Wave, encoded, recording, traffic, wave
 
 RUNS: List[Run] = []
-
-DECODER = TOP / "bindings" / "sigrok"
-
-ARCHIVE = TOP / "crates" / "port1_c" / "out" / "libport1_c.a"
-
-# Samples a second of the recordings: a sample is a microsecond. What the rate of the line is does not matter.
-RATE = 1_000_000
-
-# The channels of a recording, in the order of the bits of a sample.
-CHANNELS = "txc=0:txd=1"
-SECOND = ":rxc=2:rxd=3"
-
-PIECES = ("frame", "damaged", "overlong", "abort", "idle")
-
-
-class Wave(NamedTuple):
-    """A line as it is recorded: its bits, and when the clock rises in each."""
-
-    bits: str
-    rises: List[int]  # samples
-    change: int  # how many samples before a rise the data takes the value of its bit
-
-
-def wave(bits: str, period: int = 6, begin: int = 8, change: int = 3, drift: int = 0) -> Wave:
-    """Bits of a steady clock. With a drift it makes one sample more every so many bits."""
-    rises = [begin + period * place + (place // drift if drift else 0) for place in range(len(bits))]
-    return Wave(bits, rises, change)
-
-
-def levels(line: Wave, count: int) -> Tuple[bytearray, bytearray]:
-    """Clock and data of a line, sample by sample. The clock falls two samples after it rose; the line ends at 1."""
-    clock, data = bytearray(count), bytearray(b"\1" * count)
-    begins = [rise - line.change for rise in line.rises] + [line.rises[-1] + 2]
-    for place, rise in enumerate(line.rises):
-        clock[rise : rise + 2] = b"\1\1"
-        width = begins[place + 1] - begins[place]
-        data[begins[place] : begins[place + 1]] = bytes([int(line.bits[place])]) * width
-    return clock, data
-
-
-def recording(first: Wave, second: Wave, inverted_clock: bool = False) -> bytes:
-    """A recording of raw samples, an octet each: clock and data of the first line, then those of the second."""
-    count = max(first.rises[-1], second.rises[-1]) + 4
-    columns = [*levels(first, count), *levels(second, count)]
-    turned = 0b0101 if inverted_clock else 0
-    return bytes((a | b << 1 | c << 2 | d << 3) ^ turned for a, b, c, d in zip(*columns))
-
-
-REST = Wave("1", [8], 3)
-
-
-def built(folder: Path) -> Path:
-    """The folder of decoders with this one in it, made by the Makefile."""
-    needs("sigrok-cli", "cc", "make")
-    if not ARCHIVE.exists():
-        raise Skipped(f"no {ARCHIVE.relative_to(TOP)}; `make` builds it")
-    made = folder / "decoders"
-    words: List[Word] = ["make", "-s", "-C", DECODER, f"OUT={made / 'nema_port1'}"]
-    subprocess.run(words, check=True, capture_output=True, timeout=SECONDS)
-    return made
-
-
-def sigrok(decoders: Path, words: Sequence[Word], **settings: str) -> subprocess.CompletedProcess:
-    environment = {**os.environ, "SIGROKDECODE_DIR": str(decoders), **settings}
-    environment["PYTHONDONTWRITEBYTECODE"] = "1"
-    return subprocess.run(["sigrok-cli", *words], capture_output=True, text=True, env=environment, timeout=SECONDS)
-
-
-class Shown(NamedTuple):
-    """An annotation: its samples, its row and its longest text."""
-
-    begin: int
-    end: int
-    row: str
-    text: str
-
-
-# The rows of a line, and that of reply times.
-CONTROLLER, ANSWERS, REPLY_TIMES = "Controller", "Answers", "Reply times"
-BESIDE_FRAMES = ": damage and idle"
-
-
-def input_words(folder: Path, samples: bytes) -> List[Word]:
-    path = folder / "tap.bin"
-    path.write_bytes(samples)
-    return ["-i", path, "-I", f"binary:numchannels=4:samplerate={RATE}"]
-
-
-def annotations(folder: Path, samples: bytes, options: str) -> List[Shown]:
-    """What the decoder shows of a recording."""
-    words = [*input_words(folder, samples), "-P", f"nema_port1:{options}", "-A", "nema_port1"]
-    got = sigrok(built(folder), [*words, "--protocol-decoder-jsontrace"])
-    if got.stderr:
-        raise OSError(got.stderr)
-    # Each annotation is an event of its begin and one of its end. Times are microseconds, which samples are here.
-    events = json.loads(got.stdout)["traceEvents"]
-    pairs = zip(events[::2], events[1::2])
-    return [Shown(int(begin["ts"]), int(end["ts"]), begin["tid"], begin["name"]) for begin, end in pairs]
-
-
-def expected(line: Wave, dictionary: str, side: str) -> List[Shown]:
-    """What is to be shown of a line, by the listing of its bits and the samples of its edges."""
-    options = ["--dict", dictionary] if dictionary else []
-    return shown_of(listed(line.bits.encode(), ["--bits", *options]).stdout.decode(), line, side)
-
-
-def shown_of(listing: str, line: Wave, side: str) -> List[Shown]:
-    """What is to be shown of a line with this listing."""
-    shown = []
-    for report in listing.splitlines():
-        first, past, text = report.split(" ", 2)
-        kind = text.split()[0]
-        if kind in PIECES:
-            # The fifteenth one tells that the line is idle, so no bit past it is there yet.
-            end = line.rises[int(past) - 1 if kind == "idle" else int(past)]
-            row = side if kind == "frame" else side + BESIDE_FRAMES
-            shown.append(Shown(line.rises[int(first)], end, row, text))
-    return shown
-
-
-def differences(got: Sequence[Shown], wanted: Sequence[Shown]) -> List[str]:
-    """The first place where they differ."""
-    if list(got) == list(wanted):
-        return []
-    at = next((at for at, pair in enumerate(zip(got, wanted)) if pair[0] != pair[1]), min(len(got), len(wanted)))
-    return [f"{len(got)} shown, {len(wanted)} wanted; number {at}: {got[at : at + 2]}, wanted {wanted[at : at + 2]}"]
-
-
-def side_of(shown: Sequence[Shown], side: str) -> List[Shown]:
-    return [one for one in shown if one.row.startswith(side)]
-
-
-def encoded(texts: Sequence[str]) -> List[str]:
-    """The bits of each line of text, by `port1 encode`."""
-    words = [os.environ["PORT1"], "encode"]
-    text = "".join(f"{text}\n" for text in texts)
-    got = subprocess.run(words, input=text, capture_output=True, text=True, check=True, timeout=SECONDS)
-    return got.stdout.split()
-
-
-TEXTS = [
-    "frame 108300",
-    "frame 108380",
-    "frame ff8309",
-    "frame 11830001",
-    "frame 108342aabbcc",
-    "frame 1073",
-    "frame 1083",
-    "frame 1022334455",
-    "flag",
-    "idle",
-]
-
-
-FLAG = "01111110"
-
-
-def damaged(generator: random.Random, bits: str) -> str:
-    """Bits with a fault: one turned, one lost, an abort in place of the end, five ones before a flag, or noise."""
-    at = generator.randrange(len(bits))
-    kind = generator.randrange(5)
-    if kind == 0:
-        return bits[:at] + "10"[int(bits[at])] + bits[at + 1 :]
-    if kind == 1:
-        return bits[:at] + bits[at + 1 :]
-    if kind == 2:
-        return bits + "0" * 40 + "1" * 5 + FLAG
-    return bits[:at] + "1" * 7 if kind == 3 else random_bits(generator, 60)
-
-
-def traffic(generator: random.Random, pieces: int) -> str:
-    """The bits of a line with all kinds of pieces, a fifth of them with faults."""
-    bits = encoded([generator.choice(TEXTS) for _ in range(pieces)])
-    return "".join(damaged(generator, piece) if generator.random() < 0.2 else piece for piece in bits)
 
 
 def dictionary_in(folder: Path, text: str) -> str:
