@@ -10,8 +10,6 @@ from needs import Skipped, needs
 from tests.case import SECONDS, TOP, Word, listed
 from tests.waves import RATE, Wave
 
-DECODER = TOP / "bindings" / "sigrok"
-
 ARCHIVE = TOP / "crates" / "port1_c" / "out" / "libport1_c.a"
 
 PIECES = ("frame", "damaged", "overlong", "abort", "idle")
@@ -23,7 +21,7 @@ def built(folder: Path) -> Path:
     if not ARCHIVE.exists():
         raise Skipped(f"no {ARCHIVE.relative_to(TOP)}; `make` builds it")
     made = folder / "decoders"
-    words: List[Word] = ["make", "-s", "-C", DECODER, f"OUT={made / 'nema_port1'}"]
+    words: List[Word] = ["make", "-s", "-C", TOP / "bindings/sigrok", f"OUT={made / 'nema_port1'}"]
     subprocess.run(words, check=True, capture_output=True, timeout=SECONDS)
     return made
 
