@@ -5,7 +5,12 @@ pub mod ApartLemmas
 pub mod HeadlineLemmas
 pub mod LineBitsLemmas
 pub mod PartsLemmas
+pub mod TurnsLemmas
+pub mod MiddleLemmas
 pub mod StepsLemmas
+pub mod SilentLemmas
+pub mod OpeningLemmas
+pub mod ScannedLemmas
 pub mod StretchLemmas
 pub mod FeedLemmas
 pub mod RunLemmas

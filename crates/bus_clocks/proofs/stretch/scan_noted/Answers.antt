@@ -3,7 +3,7 @@ use Rattle.std.proofs.lemmas.List.{length-drop, length-take}
 use Rattle.bus_bits.specs.Bits.{bits_from}
 use Rattle.bus_bits.proofs.BitLemmas.{length-from}
 use Rattle.bus_line.specs.After.{due_of}
-use Rattle.bus_clocks.proofs.StretchLemmas.{opening-scanned}
+use Rattle.bus_clocks.proofs.OpeningLemmas.{opening-scanned}
 use Rattle.bus_clocks.proofs.stretch.scan_noted.Goals as goal
 
 pub note_bits-requires-clause-opening : goal.note_bits-requires-clause-opening

@@ -7,7 +7,7 @@ use Rattle.bus_watch.proofs.FedLemmas.{leads-nil}
 use Rattle.bus_clocks.specs.Clocks.{ClockState, two_clocks}
 use Rattle.bus_clocks.specs.Internal.ClockView.{clock_state}
 use Rattle.bus_clocks.specs.Internal.Parts.{Parts, beyond}
-use Rattle.bus_clocks.proofs.PartsLemmas.{is-rest, rest-bits, rest-none}
+use Rattle.bus_clocks.proofs.MiddleLemmas.{is-rest, rest-bits, rest-none}
 use Rattle.bus_clocks.proofs.RoomLemmas.{own-count}
 use Rattle.bus_clocks.proofs.StretchLemmas.{arrivals-keep_up, leads-followed}
 use Rattle.bus_clocks.proofs.analyser.TwoClockAnalyser.follow.Given.{Over}

@@ -10,10 +10,12 @@ use Rattle.bus_watch.proofs.DecodesLemmas.{keeps_up-room}
 use Rattle.bus_clocks.specs.Clocks.{ClockState, two_clocks}
 use Rattle.bus_clocks.specs.Internal.ClockView.{clock_state}
 use Rattle.bus_clocks.specs.Internal.Parts.{Parts, beyond, upto}
-use Rattle.bus_clocks.proofs.PartsLemmas.{count-beyond, is-stretch, stretch-firsts}
+use Rattle.bus_clocks.proofs.MiddleLemmas.{is-stretch, stretch-firsts}
+use Rattle.bus_clocks.proofs.PartsLemmas.{count-beyond}
 use Rattle.bus_clocks.proofs.PushLemmas.{whole-located}
 use Rattle.bus_clocks.proofs.RoomLemmas.{own-count}
-use Rattle.bus_clocks.proofs.StretchLemmas.{arrivals-keep_up, leads-scanned, scanned-of, whole-scanned}
+use Rattle.bus_clocks.proofs.ScannedLemmas.{scanned-of, whole-scanned}
+use Rattle.bus_clocks.proofs.StretchLemmas.{arrivals-keep_up, leads-scanned}
 use Rattle.bus_clocks.proofs.analyser.TwoClockAnalyser.scan_some.Given.{Over}
 use Rattle.bus_clocks.proofs.analyser.TwoClockAnalyser.scan_some.Goals as goal
 

@@ -1,6 +1,7 @@
 use Rattle.std.proofs.Common.{◌≡◌, ◌*◌, ◌/◌, arith}
 use Rattle.bus_tap.specs.Arrival.{arrivals_from}
-use Rattle.bus_clocks.proofs.PartsLemmas.{arrivals-one, first-begins, second-begins, silent-from}
+use Rattle.bus_clocks.proofs.PartsLemmas.{arrivals-one}
+use Rattle.bus_clocks.proofs.TurnsLemmas.{first-begins, second-begins, silent-from}
 use Rattle.bus_clocks.proofs.parted.Parted.take.Goals as goal
 
 pub returns-then-turns-eq0-clause-parts : goal.returns-then-turns-eq0-clause-parts

@@ -6,7 +6,8 @@ use Rattle.bus_bits.specs.Octet.{bits_of}
 use Rattle.bus_bits.proofs.OctetLemmas.{length-bits}
 use Rattle.bus_pairing.specs.declared.line.Line.TheVariants.{First, Second}
 use Rattle.bus_tap.specs.Arrival.{own}
-use Rattle.bus_clocks.proofs.PartsLemmas.{get-beside, get-same, parts-more}
+use Rattle.bus_clocks.proofs.PartsLemmas.{get-beside, get-same}
+use Rattle.bus_clocks.proofs.TurnsLemmas.{parts-more}
 use Rattle.bus_clocks.proofs.RoomLemmas.{own-count}
 use Rattle.bus_clocks.proofs.parted.Parted.take_turns.Goals as goal
 
