@@ -15,7 +15,7 @@ from typing import Callable, Dict, Iterator, List, NamedTuple, Sequence, Tuple
 import browser
 from paged import TOP, address_of, opened, read_file
 
-sys.path.insert(0, str(TOP / "scripts" / "tests"))
+sys.path.insert(0, str(TOP / "scripts" / "tests" / "simulated"))
 
 from failing_bus import CONTROL, FLAG, RATE, frame_bits
 

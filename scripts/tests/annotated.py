@@ -8,7 +8,7 @@ from typing import List, NamedTuple, Sequence
 
 from needs import Skipped, needs
 from tests.case import SECONDS, TOP, Word, listed
-from tests.waves import RATE, Wave
+from tests.simulated.waves import RATE, Wave
 
 ARCHIVE = TOP / "crates" / "port1_c" / "out" / "libport1_c.a"
 

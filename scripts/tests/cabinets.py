@@ -13,8 +13,8 @@ from tests.recordings import CHANNELS, SCRIPT
 
 try:
     import numpy as np
-    from tests import cabinet
-    from tests.cabinet import Cabinet, Recorded, arrivals_of, recorded_of
+    from tests.simulated import cabinet
+    from tests.simulated.cabinet import Cabinet, Recorded, arrivals_of, recorded_of
 except ModuleNotFoundError:
     pass  # Each test that needs numpy then says so.
 

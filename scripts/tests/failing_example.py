@@ -5,7 +5,7 @@ from pathlib import Path
 from typing import List
 
 from tests.case import TOP, Run, listed, ran
-from tests.failing_bus import RATE, ROUNDS, failing_bus
+from tests.simulated.failing_bus import RATE, ROUNDS, failing_bus
 from tests.listings import EXAMPLE, differing, objects_of, timed
 from tests.summaries import quantile, sentences_of, summary_of, table_of
 
@@ -17,7 +17,7 @@ EXAMPLE_DICTIONARY = (TOP / "examples" / "port1-failure.toml").read_text(encodin
 def example_is_generated(_: Path) -> List[str]:
     """The example is what its generator makes."""
     same = EXAMPLE.read_text(encoding="ascii") == failing_bus().text()
-    return [] if same else [f"{EXAMPLE} is not what scripts/tests/failing_bus.py makes"]
+    return [] if same else [f"{EXAMPLE} is not what scripts/tests/simulated/failing_bus.py makes"]
 
 
 def near(text: str, bits: int) -> bool:

@@ -136,7 +136,7 @@ def arrivals_of_cabinets() -> Iterator[Tuple[str, str]]:
     """The arrivals of an example, and of cabinets whose clocks differ."""
     yield "two-clocks", plain((TOP / "examples" / "two-clocks.arrivals").read_text(encoding="ascii"))
     needs_module("numpy")
-    from tests.cabinet import Cabinet, arrivals_of, recorded_of  # which needs the module
+    from tests.simulated.cabinet import Cabinet, arrivals_of, recorded_of  # which needs the module
 
     for seed, (ppm, gated) in enumerate([(80, True), (-150, False)]):
         yield f"{ppm} ppm", arrivals_of(recorded_of(Cabinet(seed=seed, ppm=ppm, gated=gated, polls=3)))

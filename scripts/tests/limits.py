@@ -8,7 +8,7 @@ from pathlib import Path
 from typing import Dict, List, NamedTuple
 
 from tests.case import Run, Test, listed, ran
-from tests.failing_bus import CONTROL, RATE, ROUND, ROUNDS, Line, frame_bits
+from tests.simulated.failing_bus import CONTROL, RATE, ROUND, ROUNDS, Line, frame_bits
 
 DICTIONARY = """version = 2
 [[frame]]

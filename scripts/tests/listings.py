@@ -9,7 +9,7 @@ from pathlib import Path
 from typing import Any, Dict, Iterator, List, Sequence, Tuple
 
 from tests.case import SCRIPTS, SECONDS, TOP, Run, listed, ran
-from tests.failing_bus import failing_bus
+from tests.simulated.failing_bus import failing_bus
 
 EXAMPLE = TOP / "examples" / "port1-failure.bits"
 

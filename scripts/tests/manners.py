@@ -92,7 +92,7 @@ MODULES: Dict[str, List[str]] = {
 }
 
 # What the tests of the other modules share.
-SHARED = {"__init__", "annotated", "cabinet", "case", "failing_bus", "python_texts", "watched", "waves"}
+SHARED = {"__init__", "annotated", "case", "python_texts", "watched"}
 
 
 def every_script_is_tested(_: Path) -> List[str]:

@@ -12,7 +12,7 @@ from table.vectors import VECTORS
 from tests.annotated import ANSWERS, BESIDE_FRAMES, CONTROLLER, REPLY_TIMES, Shown, annotations, built
 from tests.annotated import differences, expected, input_words, shown_of, side_of, sigrok
 from tests.case import CALL, DICTIONARY, REPLY, SCRIPTS, SECONDS, TOP, WINDOWS, Run, Word, listed, plain
-from tests.waves import CHANNELS, RATE, REST, SECOND, Wave, encoded, recording, traffic, wave
+from tests.simulated.waves import CHANNELS, RATE, REST, SECOND, Wave, encoded, recording, traffic, wave
 
 RUNS: List[Run] = []
 

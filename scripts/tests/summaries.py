@@ -8,7 +8,7 @@ from pathlib import Path
 from typing import Dict, List, Sequence, Tuple
 
 from tests.case import Run, ran
-from tests.failing_bus import RATE
+from tests.simulated.failing_bus import RATE
 from tests.listings import RATE_USAGE, Listing, bad_line, differing, good_listing
 
 MORE_USAGE = " [--dictionary FILE] [--bits BITS] [--begin TIME] [--json]"

@@ -8,8 +8,8 @@ from needs import needs_module
 from tests.case import Run, listed, ran
 
 try:
-    from tests import cabinet
-    from tests.cabinet import FLAG, RATE, Cabinet, recorded_from
+    from tests.simulated import cabinet
+    from tests.simulated.cabinet import FLAG, RATE, Cabinet, recorded_from
 except ModuleNotFoundError:
     pass  # Each test that needs numpy then says so.
 

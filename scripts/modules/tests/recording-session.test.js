@@ -20,7 +20,7 @@ const WRITE = `
 import zipfile
 from pathlib import Path
 sys.path[:0] = [sys.argv[1], sys.argv[1].replace('scripts', 'tests')]
-from tests import cabinet
+from tests.simulated import cabinet
 folder = Path(json.load(sys.stdin))
 made = cabinet.Cabinet(3, 80, True, 4_000_000, polls=4, whole=True)
 samples = cabinet.recorded_of(made).samples

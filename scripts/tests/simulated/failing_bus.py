@@ -1,7 +1,7 @@
 #!/usr/bin/env python3
 """Half a second of a bus on which three things are wrong: examples/port1-failure.bits, and what is true of it.
 
-    scripts/tests/failing_bus.py > examples/port1-failure.bits
+    scripts/tests/simulated/failing_bus.py > examples/port1-failure.bits
 
 Each 20 ms the controller sends a command to each of three stations. Station 16 answers in time; five of its commands in
 a row are destroyed on the way. Station 1 never answers. Station 2 answers some of its commands late.
