@@ -92,7 +92,8 @@ export function canRun() {
 }
 
 /**
- * The library of a module, at once: for the promise of one Node 20 can wait for ever, with its compiler waiting for it.
+ * Compiles the library synchronously: Node 20 can deadlock with its own compiler while it waits for the promise of
+ * `WebAssembly.instantiate` alone.
  * @param {Uint8Array} module
  */
 export function libraryOf(module) {
