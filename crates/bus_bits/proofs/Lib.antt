@@ -6,6 +6,7 @@ pub mod EightBitsOfNineLemmas
 pub mod FrontLemmas
 pub mod GatherLemmas
 pub mod OctetLemmas
+pub mod OneMoreLemmas
 pub mod PackedLemmas
 pub mod PairWordsLemmas
 pub mod PairsLemmas

@@ -9,7 +9,7 @@ use Rattle.std.proofs.lemmas.List.{append-nil, take_all, take-append-le}
 use Rattle.std.proofs.lemmas.Grind.{common_steps}
 use Rattle.std.proofs.lemmas.Bool.Decides.{nat_tests}
 use Rattle.bus_line.specs.Line.{Call, gain}
-use Rattle.bus_line.specs.Internal.EncoderState.{EncoderState}
+use Rattle.bus_line.specs.EncoderState.{EncoderState}
 use Rattle.bus_line.specs.Encoding.{AfterCalls}
 use Rattle.bus_calls.specs.Lines.{ended_lines, open_line}
 use Rattle.bus_calls.specs.Encode.{Asked, and_then, one_asked, line_asked, line_call, text_line, asked_behind}

@@ -9,7 +9,7 @@ use Rattle.hex.specs.declared.error.FromHexError.{FromHexError}
 use Rattle.hex.proofs.HexLemmas.{decode_of-ok}
 use Rattle.bus_line.specs.BitSink.{BitSinkView}
 use Rattle.bus_line.specs.Line.{Call, Flag, Idle, Frame, added, gain}
-use Rattle.bus_line.specs.Internal.EncoderState.{EncoderState}
+use Rattle.bus_line.specs.EncoderState.{EncoderState}
 use Rattle.bus_line.specs.Encoding.{AfterCalls, Calls, HasBadLength, Refused}
 use Rattle.bus_line.specs.declared.fault.EncodeFault.{EncodeFault}
 use Rattle.bus_line.specs.declared.fault.EncodeFault.TheVariants.{Ended, LengthRange, Sink}

@@ -12,9 +12,9 @@ use Rattle.bus_line.specs.Shown.{kind_with, reported}
 use Rattle.bus_line.specs.declared.event.EventKind.{EventKind}
 use Rattle.bus_line.specs.declared.event.EventKind.TheVariants as event
 use Rattle.bus_line.specs.After.{After, AdvancesWith, due_of}
-use Rattle.bus_line.specs.Internal.LineState.{LineState}
+use Rattle.bus_line.specs.LineState.{LineState}
 use Rattle.bus_line.specs.declared.event.Event.{Event}
-use Rattle.bus_watch.specs.Internal.Decodes.{Stands}
+use Rattle.bus_watch.specs.Decodes.{Stands}
 use Rattle.bus_tap.specs.Arrival.{decides}
 use Rattle.bus_clocks.specs.Internal.Stretch.{Opens}
 use Rattle.bus_tap.proofs.ArrivedLemmas.{IsNear, report-near}

@@ -5,7 +5,7 @@ use Rattle.std.specs.Option.{option_map, option_to_list}
 use Rattle.bus_fcs.specs.Check.{CheckView}
 use Rattle.bus_line.specs.After.{After}
 use Rattle.bus_line.specs.Laws.{DueIsIt, FrameIsSpelled}
-use Rattle.bus_line.specs.Internal.LineState.{LineState}
+use Rattle.bus_line.specs.LineState.{LineState}
 use Rattle.bus_line.specs.Shown.{reported}
 use Rattle.bus_line.specs.declared.event.Event.{Event}
 use Rattle.bus_dictionary.specs.Dictionary.{longest_of}
@@ -14,7 +14,7 @@ use Rattle.bus_pairing.specs.Seen.{SeenReport, seen}
 use Rattle.bus_pairing.specs.Conversation.{ConversationState, AdvancesConversation, IsWhole}
 use Rattle.bus_pairing.specs.declared.line.Line.TheVariants.{First, Second}
 use Rattle.bus_pairing.proofs.SeenLemmas.{seen-more}
-use Rattle.bus_watch.specs.Internal.Decodes.{line_reports_of}
+use Rattle.bus_watch.specs.Decodes.{line_reports_of}
 use Rattle.bus_watch.proofs.AnalyserViewLemmas.{whole}
 use Rattle.bus_tap.specs.Arrival.{Arrival, arrived}
 use Rattle.bus_tap.specs.Laws.{ArrivalsGrow}

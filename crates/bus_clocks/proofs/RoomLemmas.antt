@@ -17,7 +17,7 @@ use Rattle.bus_tap.specs.Arrival.{Arrival, own, at_places, decides, arrived}
 use Rattle.bus_clocks.specs.Clocks.{ClockState, IsAfterArrivals, arrival_reports}
 use Rattle.bus_tap.specs.Laws.{ArrivalsGrow}
 use Rattle.bus_tap.proofs.ArrivedLemmas.{decides-first, decides-second}
-use Rattle.bus_tap.proofs.ArrivalLemmas.{one-by-one}
+use Rattle.bus_bits.proofs.OneMoreLemmas.{one-by-one}
 use Rattle.bus_clocks.proofs.SumLemmas.{sum-arrived}
 
 -- an arrival decides one report at most

@@ -14,7 +14,7 @@ use Rattle.bus_line.specs.Shown.{reported}
 use Rattle.bus_line.specs.declared.consumed.Consumed.{Consumed}
 use Rattle.bus_line.specs.declared.event.EventKind.TheVariants as event
 use Rattle.bus_line.specs.After.{After, AdvancesWith, due_of}
-use Rattle.bus_line.specs.Internal.LineState.{LineState}
+use Rattle.bus_line.specs.LineState.{LineState}
 use Rattle.bus_line.specs.declared.event.Event.{Event}
 use Rattle.bus_pairing.specs.Conversation.{IsWhole}
 use Rattle.bus_pairing.specs.declared.line.Line.TheVariants.{First, Second}

@@ -11,14 +11,14 @@ use Rattle.bus_line.specs.Laws.{OneMore, ReportsAre, ReportsGrow, DueWithin, Due
 use Rattle.bus_line.specs.Laws.{AssembledWithin}
 use Rattle.bus_line.specs.Shown.{reported}
 use Rattle.bus_line.specs.declared.event.EventKind.TheVariants as event
-use Rattle.bus_line.specs.Internal.LineState.{LineState}
+use Rattle.bus_line.specs.LineState.{LineState}
 use Rattle.bus_line.specs.declared.event.Event.{Event}
 use Rattle.bus_dictionary.specs.Dictionary.{longest_of}
 use Rattle.bus_pairing.specs.LineReport.{LineReport, line_report}
 use Rattle.bus_pairing.specs.Seen.{SeenReport, seen}
 use Rattle.bus_pairing.specs.Conversation.{ConversationState, ConversationAfter}
 use Rattle.bus_pairing.specs.declared.line.Line.TheVariants.{First, Second}
-use Rattle.bus_watch.specs.Internal.Decodes.{DecodesMany, KeepsUp, line_reports_of}
+use Rattle.bus_watch.specs.Decodes.{DecodesMany, KeepsUp, line_reports_of}
 use Rattle.bus_watch.specs.Watch.{AdvancesWatchShown}
 use Rattle.bus_watch.proofs.AnalyserViewLemmas.{whole}
 use Rattle.bus_watch.proofs.PairLemmas.{few-option}

@@ -12,7 +12,8 @@ use Rattle.bus_pairing.specs.declared.line.Line.{Line}
 use Rattle.bus_pairing.specs.declared.line.Line.TheVariants.{First, Second}
 use Rattle.bus_tap.specs.Arrival.{Arrival, own, at_places, decides, arrived}
 use Rattle.bus_tap.specs.Laws.{ArrivalsGrow}
-use Rattle.bus_tap.proofs.ArrivalLemmas.{own-append, one-by-one}
+use Rattle.bus_bits.proofs.OneMoreLemmas.{one-by-one}
+use Rattle.bus_tap.proofs.ArrivalLemmas.{own-append}
 use Rattle.bus_tap.proofs.ArrivedLemmas.{decides-first, decides-second}
 
 -- of a number that a report has whatever its places

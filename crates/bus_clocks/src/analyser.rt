@@ -15,7 +15,7 @@ ghost use Rattle.bus_line.specs.Shown.{reported};
 ghost use Rattle.bus_line.specs.After.{After};
 ghost use Rattle.bus_pairing.specs.Conversation.{HasRoom, IsWhole};
 ghost use Rattle.bus_pairing.specs.Shown.{begun_span};
-ghost use Rattle.bus_watch.specs.Internal.Decodes.{line_reports_of, told_on};
+ghost use Rattle.bus_watch.specs.Decodes.{line_reports_of, told_on};
 ghost use Rattle.bus_pairing.specs.declared.line.Line.TheVariants.{First, Second};
 
 use crate::laws::{any_cut_of_arrivals, arrivals_are};

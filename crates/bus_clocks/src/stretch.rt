@@ -3,7 +3,7 @@
 ghost use Rattle.std.specs.Prelude.{◌≡◌, ◌+◌, ◌-◌, ◌<◌, ◌≤◌, ℕ, List, Bool, Some, length};
 ghost use Rattle.bus_bits.specs.Limits.{most_places};
 ghost use Rattle.bus_line.specs.After.{After};
-ghost use Rattle.bus_watch.specs.Internal.Decodes.{Stands};
+ghost use Rattle.bus_watch.specs.Decodes.{Stands};
 ghost use Rattle.bus_clocks.specs.Internal.Stretch.{NotesMany, Opens, TakesNoted, place_after};
 
 use crate::parted::Parted;

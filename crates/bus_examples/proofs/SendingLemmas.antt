@@ -4,7 +4,7 @@ use Rattle.std.proofs.Common.{Err, IsErrAnd, inl, inr, refl, arith, length-take}
 use Rattle.std.proofs.lemmas.Bool.{cases_lt}
 use Rattle.bus_line.specs.BitSink.{BitSinkView}
 use Rattle.bus_line.specs.Line.{Call, Frame, added, gain}
-use Rattle.bus_line.specs.Internal.EncoderState.{EncoderState}
+use Rattle.bus_line.specs.EncoderState.{EncoderState}
 use Rattle.bus_line.specs.Encoding.{AfterCalls, Calls, Refused}
 use Rattle.bus_line.specs.declared.fault.EncodeFault.{EncodeFault}
 use Rattle.bus_line.specs.declared.fault.EncodeFault.TheVariants.{Ended, LengthRange, Sink}

@@ -11,7 +11,7 @@ use Rattle.bus_bits.proofs.OctetLemmas.{number-bits}
 use Rattle.bus_fcs.specs.Check.{CheckView}
 use Rattle.bus_line.specs.Report.{moved}
 use Rattle.bus_line.specs.Due.{current, placed}
-use Rattle.bus_line.specs.Internal.LineState.{LineState}
+use Rattle.bus_line.specs.LineState.{LineState}
 use Rattle.bus_line.specs.Internal.Tracks.{HasTaken, Tracks}
 use Rattle.bus_line.specs.After.{After}
 use Rattle.bus_line.specs.Internal.Settled.{HasNoStop, IsWord, IsStop}

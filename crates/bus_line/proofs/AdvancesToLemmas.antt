@@ -15,7 +15,7 @@ use Rattle.bus_line.specs.Shown.{reported}
 use Rattle.bus_line.specs.declared.event.Event.{Event}
 use Rattle.bus_line.specs.Due.{current, placed}
 use Rattle.bus_line.specs.After.{AdvancesWith, After, DecideNothing, Decides, due_of}
-use Rattle.bus_line.specs.Internal.LineState.{LineState}
+use Rattle.bus_line.specs.LineState.{LineState}
 use Rattle.bus_line.specs.Internal.AdvancesTo.{ConsumesBits, DecidesLast, AdvancesTo, AdvancesToStop}
 use Rattle.bus_line.specs.Internal.Settled.{HasNoStop}
 use Rattle.bus_line.specs.Internal.Tracks.{HasTaken, Tracks}

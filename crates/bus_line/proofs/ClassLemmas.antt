@@ -11,12 +11,12 @@ use Rattle.std.proofs.lemmas.Bool.Decides.{nat_tests}
 use Rattle.bus_bits.specs.Octet.{octets, bits_of_octets}
 use Rattle.bus_fcs.specs.FrameCheck.{Good, is_good}
 use Rattle.bus_fcs.specs.Check.{CheckView}
-use Rattle.bus_line.specs.Internal.Run.{ones_after, ones_at_end, data_so_far}
+use Rattle.bus_line.specs.Run.{ones_after, ones_at_end, data_so_far}
 use Rattle.bus_line.specs.Mark.{flag, IsFlag}
 use Rattle.bus_line.specs.Report.{Frame, Damaged, Overlong, class_of_data}
 use Rattle.bus_line.specs.declared.cause.Cause.TheVariants.{Unstuffed, Short, Unaligned, Fcs}
 use Rattle.bus_line.specs.Due.{FlagAt, current, class_of, class_of_read}
-use Rattle.bus_line.specs.Internal.LineState.{LineState}
+use Rattle.bus_line.specs.LineState.{LineState}
 use Rattle.bus_line.specs.Internal.Tracks.{settled_data, Holds, HoldsFor, Tracks}
 use Rattle.bus_line.proofs.RunLemmas.{IsLow, low-unspelled, ones_after-more}
 use Rattle.bus_line.proofs.MarkLemmas.{stands-bit, last_mark-flag}

@@ -10,7 +10,7 @@ use Rattle.bus_bits.proofs.BitLemmas.{bits-more, length-from}
 use Rattle.bus_fcs.specs.Check.{CheckView}
 use Rattle.bus_line.specs.Report.{Report, moved}
 use Rattle.bus_line.specs.Due.{due_at, placed, reports}
-use Rattle.bus_line.specs.Internal.LineState.{LineState}
+use Rattle.bus_line.specs.LineState.{LineState}
 use Rattle.bus_line.specs.After.{Advances, After, DecideNothing, Decides}
 use Rattle.bus_line.proofs.DueMoreLemmas.{placed-more, reports-append}
 

@@ -6,7 +6,7 @@ use Rattle.std.proofs.lemmas.List.{append_assoc, length-append, length_push, len
 use Rattle.std.proofs.lemmas.List.{drop_at, take-append-drop, get_or_push, drop_more}
 use Rattle.std.proofs.lemmas.Bool.{cases_lt, false_from_ne_true, cond-false, both_ways, true≢false}
 use Rattle.bus_line.specs.Spelling.{ones}
-use Rattle.bus_line.specs.Internal.Run.{ones_after, ones_at_end}
+use Rattle.bus_line.specs.Run.{ones_after, ones_at_end}
 use Rattle.bus_line.proofs.RunLemmas.{ones_after-more}
 use Rattle.bus_line.specs.Mark.{flag, StandsAt, StartsRun, IsFlag, IsAbort, IsMark}
 use Rattle.bus_line.specs.Report.{Abort, Idle, Report}

@@ -15,8 +15,8 @@ use Rattle.bus_line.specs.Internal.Flags.{flags, EndsInFlag}
 use Rattle.bus_line.specs.Report.{Kind, moved}
 use Rattle.bus_line.specs.Due.{Mark, FlagAt, current, due_at, placed, piece_report, class_of}
 use Rattle.bus_line.specs.After.{After}
-use Rattle.bus_line.specs.Internal.Run.{ones_at_end}
-use Rattle.bus_line.specs.Internal.LineState.{LineState}
+use Rattle.bus_line.specs.Run.{ones_at_end}
+use Rattle.bus_line.specs.LineState.{LineState}
 use Rattle.bus_line.specs.Internal.Tracks.{Holds, HoldsFor, Counts, Tracks, padded, settled_data}
 use Rattle.bus_line.specs.Internal.Settled.{HasNoStop}
 use Rattle.bus_line.proofs.DueMoreLemmas.{placed-more}

@@ -12,7 +12,7 @@ use Rattle.std.proofs.lemmas.Bool.{eqb-true, ltb-true}
 use Rattle.std.proofs.lemmas.List.Sums.{sum_by-append}
 use Rattle.bus_bits.specs.Octet.{octets}
 use Rattle.bus_line.specs.Spelling.{unspelled}
-use Rattle.bus_line.specs.Internal.Run.{ones_at_end, data_so_far}
+use Rattle.bus_line.specs.Run.{ones_at_end, data_so_far}
 use Rattle.bus_line.specs.Report.{Report, Frame, Damaged, Overlong, Abort, class_of_data}
 use Rattle.bus_line.specs.Due.{Mark, NoMark, FlagAt, AbortAt, current, class_of, class_of_read, piece_report, due_at}
 use Rattle.bus_line.specs.Due.{reports, places}

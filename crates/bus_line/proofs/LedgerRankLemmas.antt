@@ -7,7 +7,7 @@ use Rattle.std.proofs.lemmas.List.{length_push, length-take}
 use Rattle.std.proofs.lemmas.Bool.{cases_lt, cases_Bool, leb-true, le-leb, lt-leb, lt-ltb, and_left, and_right}
 use Rattle.std.proofs.lemmas.Bool.{and_from, and_parts, eqb-true}
 use Rattle.std.proofs.Math.Bool.{and_assoc}
-use Rattle.bus_line.specs.Internal.Run.{ones_at_end, data_so_far}
+use Rattle.bus_line.specs.Run.{ones_at_end, data_so_far}
 use Rattle.bus_line.proofs.RunLemmas.{data_after-more}
 use Rattle.bus_line.specs.Due.{Mark, NoMark, FlagAt, AbortAt, last_mark, places, current, begun_by}
 use Rattle.bus_line.specs.Ledger.{is_settled, belongs, is_inserted, rank_under, is_stored, stored, assembled}
@@ -22,7 +22,7 @@ use Rattle.std.specs.Prelude.{nat_le, nat_lt, if◌then◌else◌}
 use Rattle.std.proofs.lemmas.Bool.Decides.{nat_tests}
 use Rattle.bus_bits.specs.Octet.{octets}
 use Rattle.bus_fcs.specs.Check.{CheckView}
-use Rattle.bus_line.specs.Internal.LineState.{LineState}
+use Rattle.bus_line.specs.LineState.{LineState}
 use Rattle.bus_line.specs.Internal.Tracks.{first_of, settled_data, HoldsFor}
 use Rattle.bus_line.specs.After.{After}
 use Rattle.bus_line.proofs.WholeLemmas.{length-octets}

@@ -7,7 +7,7 @@ use Rattle.std.proofs.lemmas.List.{append_assoc, append-nil, length-append, leng
 use Rattle.std.proofs.Math.Seq.{drop-append_seam, take-append_seam}
 use Rattle.std.proofs.lemmas.List.Elements.{All-head, All-tail}
 use Rattle.bus_line.specs.Spelling.{ones, IsSpelledBy, ends, short, five}
-use Rattle.bus_line.specs.Internal.Run.{ones_after, ones_at_end}
+use Rattle.bus_line.specs.Run.{ones_after, ones_at_end}
 use Rattle.bus_line.specs.Mark.{flag}
 use Rattle.bus_line.specs.Internal.Flags.{EndsInFlag}
 use Rattle.bus_line.proofs.FlagLemmas.{flag-last, flag-length, run-here}

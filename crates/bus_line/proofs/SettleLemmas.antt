@@ -14,7 +14,7 @@ use Rattle.bus_bits.specs.declared.spent.Spent.{Spent}
 use Rattle.bus_fcs.specs.Check.{CheckView}
 use Rattle.bus_line.specs.Due.{FlagAt, current}
 use Rattle.bus_line.specs.Ledger.{is_settled, is_inserted, assembled, stored}
-use Rattle.bus_line.specs.Internal.LineState.{LineState}
+use Rattle.bus_line.specs.LineState.{LineState}
 use Rattle.bus_line.specs.Internal.LineView.{settles_from}
 use Rattle.bus_line.specs.Internal.Tracks.{first_of, settled_data, HoldsFor, Counts, Tracks}
 use Rattle.bus_line.specs.After.{After}

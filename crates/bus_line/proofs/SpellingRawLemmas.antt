@@ -7,7 +7,7 @@ use Rattle.std.proofs.lemmas.List.{drop_more, take_more, get_or-drop, get_or-rep
 use Rattle.std.proofs.lemmas.Bool.{cases_lt, false_from_ne_true, cases_Bool, le-leb, lt-leb, lt-ltb, both_ways}
 use Rattle.std.proofs.lemmas.Bool.{and_left, and_right, and_from, and_parts, not-true, not_from_false, eq-eqb, eqb-true}
 use Rattle.bus_line.specs.Spelling.{ones}
-use Rattle.bus_line.specs.Internal.Run.{ones_after, ones_at_end}
+use Rattle.bus_line.specs.Run.{ones_after, ones_at_end}
 use Rattle.bus_line.proofs.RunLemmas.{HasZeroSix, IsLow, low-from}
 use Rattle.bus_line.specs.Mark.{flag, StandsAt, IsFlag, IsMark}
 use Rattle.bus_line.specs.Due.{is_abort, FlagAt, AbortAt, last_mark, current}

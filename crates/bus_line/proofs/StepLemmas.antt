@@ -11,10 +11,10 @@ use Rattle.bus_bits.specs.Octet.{number}
 use Rattle.bus_line.proofs.WordLemmas.{none_number}
 use Rattle.bus_bits.specs.declared.spent.Spent.{Spent}
 use Rattle.bus_fcs.specs.Check.{CheckView}
-use Rattle.bus_line.specs.Internal.Run.{ones_at_end, data_so_far, ones_after}
+use Rattle.bus_line.specs.Run.{ones_at_end, data_so_far, ones_after}
 use Rattle.bus_line.specs.Due.{Mark, NoMark, FlagAt, AbortAt, current, piece_report}
 use Rattle.bus_line.specs.Ledger.{is_settled, belongs, is_inserted, assembled, stored}
-use Rattle.bus_line.specs.Internal.LineState.{LineState}
+use Rattle.bus_line.specs.LineState.{LineState}
 use Rattle.bus_line.specs.Internal.AdvancesTo.{closed_piece}
 use Rattle.bus_line.specs.Internal.LineView.{settles_from}
 use Rattle.bus_line.specs.Internal.Tracks.{first_of, settled_data, padded, Holds, HoldsFor, Counts, HasTaken, Tracks}

@@ -24,7 +24,7 @@ use Rattle.bus_line.specs.declared.decoder_words.DecoderWords.{DecoderWords}
 use Rattle.bus_line.specs.Internal.TimeFill.{AreFlags, SkipsOnes}
 use Rattle.bus_line.specs.Internal.Settled.{HasNoStop, IsStop, IsWord, data_in_word}
 use Rattle.bus_line.proofs.SettledDataLemmas.{six, six-ones, six-shr}
-use Rattle.bus_line.specs.Internal.LineState.{LineState}
+use Rattle.bus_line.specs.LineState.{LineState}
 use Rattle.bus_line.specs.Internal.Tracks.{padded, HasTaken}
 use Rattle.bus_line.proofs.WordLemmas.{last-below, word-made}
 use Rattle.bus_line.proofs.AdvanceLemmas.{no_stop-before, no_stop-placed, no_stop-after}

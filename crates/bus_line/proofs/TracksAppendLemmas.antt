@@ -12,7 +12,7 @@ use Rattle.bus_bits.specs.declared.spent.Spent.{Spent}
 use Rattle.bus_bits.proofs.OctetLemmas.{number-append, number-bits, number-lt, length-bits, octets-push, octets-append}
 use Rattle.bus_bits.proofs.CaptureLemmas.{take_past}
 use Rattle.bus_fcs.specs.Check.{CheckView}
-use Rattle.bus_line.specs.Internal.LineState.{LineState}
+use Rattle.bus_line.specs.LineState.{LineState}
 use Rattle.bus_line.specs.Internal.LineView.{settles_from}
 use Rattle.bus_line.specs.Internal.Tracks.{Holds}
 use Rattle.bus_line.specs.Internal.Settled.{AppendsBits, HoldsOctets, StoresOctets, more_within, octets_more}

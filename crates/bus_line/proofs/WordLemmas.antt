@@ -12,7 +12,7 @@ use Rattle.bus_bits.specs.Octet.{number}
 use Rattle.bus_bits.proofs.OctetLemmas.{number-cons, number-lt, number-append, same_number}
 use Rattle.bus_line.specs.Spelling.{ones}
 use Rattle.bus_line.specs.Mark.{StandsAt}
-use Rattle.bus_line.specs.Internal.Run.{ones_at_end}
+use Rattle.bus_line.specs.Run.{ones_at_end}
 use Rattle.bus_line.specs.Ledger.{is_inserted}
 use Rattle.bus_line.specs.Internal.Tracks.{padded}
 use Rattle.bus_line.specs.Internal.Settled.{IsWord}

@@ -7,7 +7,7 @@ use Rattle.bus_line.specs.Due.{current, due_at, placed}
 use Rattle.bus_line.specs.Report.{Report, moved}
 use Rattle.bus_line.specs.Shown.{reported}
 use Rattle.bus_line.specs.declared.event.Event.{Event}
-use Rattle.bus_line.specs.Internal.LineState.{LineState}
+use Rattle.bus_line.specs.LineState.{LineState}
 use Rattle.bus_line.specs.declared.piece.Piece.{Piece}
 use Rattle.bus_line.specs.declared.piece.Piece.TheVariants as piece
 use Rattle.bus_line.specs.Internal.Tracks.{Tracks}

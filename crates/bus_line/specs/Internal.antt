@@ -1,6 +1,4 @@
 -- What proofs and private functions speak of: the state behind a contract, and what holds of it between two steps.
-pub mod Run
-pub mod LineState
 pub mod LineView
 pub mod Settled
 pub mod Flags
@@ -8,7 +6,6 @@ pub mod TimeFill
 pub mod AdvancesTo
 pub mod EndedMark
 pub mod Inserting
-pub mod EncoderState
 pub mod EncoderView
 pub mod Tracks
 pub mod StuffingWriter

@@ -1,7 +1,7 @@
 -- A decoder's words, and the decoder that they make with a check and octets beside them.
 use Rattle.std.specs.Prelude.{◌≢◌, ◌==◌, ℕ, ◌+◌, ◌-◌, ◌*◌, ◌≤◌, ◌<◌, ◌^◌, List, length, Option, Some, None}
 use Rattle.std.specs.Prelude.{if◌then◌else◌}
-pub use Rattle.bus_line.specs.Internal.LineState.{LineState}
+pub use Rattle.bus_line.specs.LineState.{LineState}
 use Rattle.bus_bits.specs.Limits.{most_places}
 use Rattle.bus_line.specs.declared.decoder_words.DecoderWords.{DecoderWords}
 

@@ -49,7 +49,7 @@ pub struct LineDecoder<C: Check> {
 }
 
 impl<C: Check> Model for LineDecoder<C> {
-    ghost use Rattle.bus_line.specs.Internal.LineState.{LineState};
+    ghost use Rattle.bus_line.specs.LineState.{LineState};
 
     ghost Value = { LineState C };
 
@@ -62,7 +62,7 @@ impl<C: Check> Model for LineDecoder<C> {
 
 impl<C: Check> LineDecoder<C> {
     ghost use Rattle.bus_line.specs.contracts.decoder.LineDecoder.{the_row};
-    ghost use Rattle.bus_line.specs.Internal.LineState.{LineState};
+    ghost use Rattle.bus_line.specs.LineState.{LineState};
     ghost use Rattle.bus_line.specs.After.{AddsReport, AdvancesWith, After, Pushed, ShowsHeld, FitsFrame, due_of};
     ghost use Rattle.bus_line.specs.Shown.{report_option, reported};
 

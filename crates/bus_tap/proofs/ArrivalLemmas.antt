@@ -1,6 +1,6 @@
 -- More arrivals: the bits of each line, and their places.
 use Rattle.std.proofs.Common.{◌≡◌, ℕ, zero, suc, ◌+◌, ◌<◌, ◌≤◌, Bool, List, [], ◌∷◌, ◌++◌, length, map, zip, refl, sym}
-use Rattle.std.proofs.Common.{ap, ◌∙◌, subst, arith, append-nil, append_assoc}
+use Rattle.std.proofs.Common.{ap, ◌∙◌, arith}
 use Rattle.std.proofs.lemmas.List.{map-append}
 use Rattle.bus_bits.specs.Bits.{bit_at, bits_from}
 use Rattle.bus_bits.proofs.BitLemmas.{bits-more, length-from}
@@ -38,17 +38,6 @@ before-within k [] = omega arith
 before-within k ((First, bit) ∷ xs) = omega (arith, before-within k xs)
 before-within zero ((Second, bit) ∷ xs) = omega arith
 before-within (suc k) ((Second, bit) ∷ xs) = before-within k xs
-
--- what holds of no arrivals, and stays with one more, holds of all
-from-front : (P : List Arrival → Type 0) → ((xs : List Arrival) (x : Arrival) → P xs → P (xs ++ x ∷ [])) →
-    (before after : List Arrival) → P before → P (before ++ after)
-from-front P step before [] holds = subst P (sym (append-nil before)) holds
-from-front P step before (x ∷ after) holds =
-    subst P (append_assoc before (x ∷ []) after) (from-front P step (before ++ x ∷ []) after (step before x holds))
-
-pub one-by-one : (P : List Arrival → Type 0) → P [] → ((xs : List Arrival) (x : Arrival) → P xs → P (xs ++ x ∷ [])) →
-    (xs : List Arrival) → P xs
-one-by-one P none step xs = from-front P step [] xs none
 
 -- ---- those of two rows of octets
 

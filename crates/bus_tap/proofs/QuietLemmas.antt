@@ -6,7 +6,7 @@ use Rattle.std.proofs.Common.{append-nil, append_assoc, if◌then◌else◌}
 use Rattle.std.specs.Prelude.{slice_index}
 use Rattle.std.proofs.lemmas.Bool.Decides.{nat_tests}
 use Rattle.bus_bits.specs.Bits.{bit_at}
-use Rattle.bus_line.specs.Internal.Run.{ones_after}
+use Rattle.bus_line.specs.Run.{ones_after}
 use Rattle.bus_pairing.specs.declared.line.Line.TheVariants.{First, Second}
 use Rattle.bus_tap.specs.Arrival.{Arrival, arrivals_from, own}
 use Rattle.bus_tap.specs.Rested.{rested, silence, RestState, IsRestAfter}

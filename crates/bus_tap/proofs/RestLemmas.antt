@@ -1,15 +1,19 @@
 -- The rule of rest, with one arrival more.
-use Rattle.std.proofs.Common.{◌≡◌, ℕ, suc, ◌+◌, ◌-◌, ◌<◌, ◌≤◌, ◌==◌, ◌&&◌, not, min, ltb, leb, Bool, true, false, List}
-use Rattle.std.proofs.Common.{[], ◌∷◌, ◌++◌, length, take, drop, refl, sym, ap, ◌∙◌, arith, append-nil, length-append}
-use Rattle.std.proofs.Common.{if◌then◌else◌, inl, inr}
-use Rattle.std.proofs.lemmas.List.{take-append-le}
+use Rattle.std.proofs.Common.{◌≡◌, ℕ, zero, suc, ◌+◌, ◌-◌, ◌<◌, ◌≤◌, ◌==◌, ◌&&◌, not, min, ltb, leb, Bool, true, false}
+use Rattle.std.proofs.Common.{List, [], ◌∷◌, ◌++◌, length, take, drop, refl, sym, ap, ◌∙◌, arith, append-nil}
+use Rattle.std.proofs.Common.{length-append, append_assoc, if◌then◌else◌, inl, inr}
+use Rattle.std.specs.List.{list_all}
+use Rattle.std.proofs.lemmas.List.{take-append-le, drop-append-le, length-drop, nil_from_length}
+use Rattle.std.proofs.lemmas.List.Folds.{list_all-append}
 use Rattle.std.proofs.lemmas.Bool.{cases_lt}
 use Rattle.std.proofs.lemmas.Bool.Decides.{nat_tests}
-use Rattle.bus_line.specs.Internal.Run.{ones_after}
+use Rattle.bus_bits.proofs.OneMoreLemmas.{one-by-one}
+use Rattle.bus_line.specs.Run.{ones_after}
+use Rattle.bus_line.specs.Spelling.{ones}
 use Rattle.bus_pairing.specs.declared.line.Line.TheVariants.{First, Second}
 use Rattle.bus_tap.specs.Arrival.{Arrival, own, firsts_before}
 use Rattle.bus_tap.specs.Rested.{rests, silence, comes_to_rest, fill, rested, RestState, IsRestAfter}
-use Rattle.bus_tap.proofs.ArrivalLemmas.{own-append, before-append, before-now, before-within, one-by-one}
+use Rattle.bus_tap.proofs.ArrivalLemmas.{own-append, before-append, before-now, before-within}
 use Rattle.bus_tap.proofs.EachLemmas.{each-more, alone-front, alone-last, upto-last}
 
 pub rested-more : (most : ℕ) (xs : List Arrival) (x : Arrival) (is : Bool) → comes_to_rest most (xs ++ x ∷ []) ≡ is →
@@ -36,6 +40,57 @@ pub ones-none : (k : ℕ) (b : List Bool) → ones_after k (b ++ false ∷ []) �
 ones-none k [] = refl
 ones-none k (true ∷ b) = ones-none (suc k) b
 ones-none k (false ∷ b) = ones-none 0 b
+
+-- the last k bits, of which those before the first are 1s
+abbrev last : ℕ → List Bool → List Bool
+last k b = drop (length b + (15 - k)) (ones 15 ++ b)
+
+last-more : (k : ℕ) (b : List Bool) (bit : Bool) → suc k ≤ 15 → last (suc k) (b ++ bit ∷ []) ≡ last k b ++ bit ∷ []
+last-more k b bit few =
+    let from = length b + (15 - k) in
+    let here : length (b ++ bit ∷ []) + (15 - suc k) ≡ from = omega (arith, length-append b (bit ∷ []), few) in
+    rw (here, ← append_assoc (ones 15) b (bit ∷ []))
+    (drop-append-le from (ones 15 ++ b) (bit ∷ []) (omega (arith, length-append (ones 15) b)))
+
+last-none : (b : List Bool) → last 0 b ≡ []
+last-none b =
+    nil_from_length (last 0 b)
+    (omega (arith, length-drop (length b + (15 - 0)) (ones 15 ++ b), length-append (ones 15) b))
+
+dropped : (n : ℕ) (b : List Bool) → list_all (λ bit. bit) b ≡ true → list_all (λ bit. bit) (drop n b) ≡ true
+dropped zero b all = all
+dropped (suc n) [] all = refl
+dropped (suc n) (true ∷ b) all = dropped n b all
+dropped (suc n) (false ∷ b) all = absurd (cc)
+
+-- they are 1s just where so many stand at the end
+abbrev LastOnes : List Bool → Type 0
+LastOnes b = (k : ℕ) → k ≤ 15 → list_all (λ bit. bit) (last k b) ≡ leb k (ones_after 15 b)
+
+last-ones : (b : List Bool) → LastOnes b
+last-ones =
+    one-by-one LastOnes (λ k few. dropped (0 + (15 - k)) (ones 15 ++ []) refl ∙ sym (within k 15 few)) one-more
+  where
+    within : (k n : ℕ) → k ≤ n → leb k n ≡ true
+    within k n few = grind (arith, nat_tests, few)
+
+    more : (j : ℕ) (b : List Bool) (bit : Bool) → LastOnes b → suc j ≤ 15 →
+        (list_all (λ bit. bit) (last j b) && (bit && true)) ≡ leb (suc j) (ones_after 15 (b ++ bit ∷ []))
+    more j b true before few = rw (ones-more 15 b, before j (omega (arith, few))) (grind (arith, nat_tests))
+    more j b false before few = rw (ones-none 15 b) (grind (arith, nat_tests))
+
+    one-more : (b : List Bool) (bit : Bool) → LastOnes b → LastOnes (b ++ bit ∷ [])
+    one-more b bit before zero few =
+        ap (list_all (λ bit. bit)) (last-none (b ++ bit ∷ []))
+        ∙ sym (within 0 (ones_after 15 (b ++ bit ∷ [])) (omega arith))
+    one-more b bit before (suc j) few =
+        ap (list_all (λ bit. bit)) (last-more j b bit few)
+        ∙ (list_all-append (λ bit. bit) (last j b) (bit ∷ []) ∙ more j b bit before few)
+
+rests-ones : (b : List Bool) → rests b ≡ leb 15 (ones_after 15 b)
+rests-ones b =
+    let here : length b + (15 - 15) ≡ length b = omega arith in
+    rw here at (last-ones b 15 (omega arith))
 
 -- silence
 module _ (xs : List Arrival) (bit : Bool) where
@@ -89,12 +144,14 @@ pub comes-first : (r : RestState) (xs : List Arrival) (bit : Bool) → IsRestAft
     ≡ (ltb r.silent r.most && ((r.silent + 1 == r.most) && ltb r.ones 15))
 comes-first r xs bit after within =
     let ys = xs ++ (First, bit) ∷ [] in
-    ap (λ b. ltb 0 r.most && ((silence ys == r.most) && not (rests b))) (first-same xs bit)
+    let is_rest = λ (x : Bool). ltb 0 r.most && ((silence ys == r.most) && not x) in
+    ap (λ b. is_rest (rests b)) (first-same xs bit)
+    ∙ (ap is_rest (rests-ones (own Second xs))
     ∙ same-test r.most r.silent (silence ys) (ones_after 15 (own Second xs)) r.ones after.ones within
     (λ fewer.
     let some = has-bits (own Second xs) fewer in
     let next = silence-first xs bit some in
-    (omega (arith, after.silent some, next), omega (arith, next)))
+    (omega (arith, after.silent some, next), omega (arith, next))))
   where
     has-bits : (b : List Bool) → ones_after 15 b < 15 → 1 ≤ length b
     has-bits [] fewer = absurd (omega (arith, fewer))

@@ -2,17 +2,18 @@
 --
 -- Stations that drive their clock only while they send leave a piece open where one breaks off, until another sends.
 -- With this rule it ends in an abort and an idle line, as on a line that rests at 1 while its clock runs.
-use Rattle.std.specs.Prelude.{◌≡◌, ℕ, suc, ◌-◌, ◌≤◌, ◌==◌, ◌&&◌, not, nat_lt, nat_le, min, Bool, true, false, List, []}
-use Rattle.std.specs.Prelude.{◌++◌, length, take, drop, replicate}
-use Rattle.std.specs.List.{flat_map}
+use Rattle.std.specs.Prelude.{◌≡◌, ℕ, suc, ◌-◌, ◌≤◌, ◌==◌, ◌&&◌, not, nat_lt, min, Bool, true, false, List, [], ◌++◌}
+use Rattle.std.specs.Prelude.{length, take, drop, replicate}
+use Rattle.std.specs.List.{flat_map, list_all}
 use Rattle.bus_line.specs.Due.{places}
-use Rattle.bus_line.specs.Internal.Run.{ones_after}
+use Rattle.bus_line.specs.Run.{ones_after}
+use Rattle.bus_line.specs.Spelling.{ones}
 use Rattle.bus_pairing.specs.declared.line.Line.TheVariants.{First, Second}
 use Rattle.bus_tap.specs.Arrival.{Arrival, own, firsts_before}
 
--- a line rests where its last fifteen bits are 1s; before its first bit it rests as well, as after fifteen 1s
+-- a line rests where its last fifteen bits are 1s, of which those before its first bit count as 1s
 abbrev pub rests : List Bool → Bool
-rests b = nat_le 15 (ones_after 15 b)
+rests b = list_all (λ bit. bit) (drop (length b) (ones 15 ++ b))
 
 -- how many bits of the first line came after the last of the second
 abbrev pub silence : List Arrival → ℕ

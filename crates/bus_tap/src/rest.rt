@@ -5,7 +5,7 @@ ghost use Rattle.std.specs.Prelude.{◌↔◌, ◌^◌, IsSome, IfSome, if◌the
 ghost use Rattle.bus_tap.specs.Arrival.{Arrival, arrivals_from, own};
 ghost use Rattle.bus_tap.specs.Rested.{IsRestAfter, rested, fill};
 ghost use Rattle.bus_bits.specs.Bits.{bit_at};
-ghost use Rattle.bus_line.specs.Internal.Run.{ones_after};
+ghost use Rattle.bus_line.specs.Run.{ones_after};
 ghost use Rattle.bus_pairing.specs.declared.line.Line.TheVariants.{Second};
 
 use bus_bits::bit_at;

@@ -167,6 +167,7 @@ impl Tap {
         ensures fits { self.new.samples ≤ most_places }
         ensures taken { IfOk result (λ t. (t.samples ≤ count) × (1 ≤ count → 1 ≤ t.samples)
             × AdvancesTap self.old (replicate t.samples sample) (bits_of_edges t.edges) self.new) }
+        ensures all { IfOk result (λ t. bits_of_edges t.edges ≡ [] → t.samples ≡ count) }
     {
         if count > MOST || self.samples > MOST - count {
             return Err(SampleLimit);
@@ -203,6 +204,7 @@ impl Tap {
         requires { self.old.samples + count ≤ most_places }
         ensures some { (result.samples ≤ count) × (1 ≤ count → 1 ≤ result.samples) }
         ensures taken { AdvancesTap self.old (replicate result.samples sample) (bits_of_edges result.edges) self.new }
+        ensures all { bits_of_edges result.edges ≡ [] → result.samples ≡ count }
     {
         for taken in 0..count {
             if self.is_settled(sample) {

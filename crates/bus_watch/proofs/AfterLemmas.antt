@@ -6,14 +6,14 @@ use Rattle.bus_fcs.specs.Check.{CheckView}
 use Rattle.bus_line.specs.Report.{Report}
 use Rattle.bus_line.specs.Due.{reports, placed}
 use Rattle.bus_line.specs.Ledger.{IsLedger as IsLineLedger}
-use Rattle.bus_line.specs.Internal.LineState.{LineState}
+use Rattle.bus_line.specs.LineState.{LineState}
 use Rattle.bus_line.specs.After.{Advances}
 use Rattle.bus_dictionary.specs.Dictionary.{longest_of}
 use Rattle.bus_pairing.specs.LineReport.{LineReport, line_report}
 use Rattle.bus_pairing.specs.Seen.{SeenReport, seen_of, seen}
 use Rattle.bus_pairing.specs.declared.line.Line.{Line}
 use Rattle.bus_pairing.specs.Conversation.{ConversationState, ConversationAfter}
-use Rattle.bus_watch.specs.Internal.Decodes.{Decodes}
+use Rattle.bus_watch.specs.Decodes.{Decodes}
 use Rattle.bus_watch.specs.After.{AnalyserState, IsAfter}
 use Rattle.bus_pairing.specs.Ledger.{IsAnalyserLedger}
 use Rattle.bus_pairing.proofs.SeenLemmas.{seen-more}

@@ -1,12 +1,13 @@
 -- What is seen, as laws say it.
 use Rattle.std.proofs.Common.{◌≡◌, ℕ, suc, ◌+◌, ◌<◌, ◌==◌, Bool, true, false, List, [], ◌∷◌, ◌++◌, length, Option, Some}
-use Rattle.std.proofs.Common.{None, refl, sym, ap, ◌∙◌, arith, map, get_or, subst, append_assoc, append-nil}
+use Rattle.std.proofs.Common.{None, refl, sym, ap, ◌∙◌, arith, map, get_or, append-nil}
 use Rattle.std.specs.List.{filter_map, cons_option, find, All}
 use Rattle.std.specs.Option.{option_or, option_map, option_to_list}
 use Rattle.std.proofs.lemmas.List.{map-append, append_cancel_left}
 use Rattle.std.proofs.lemmas.List.Elements.{filter_map-append, All-map, Contains-get_or}
 use Rattle.std.proofs.lemmas.Bool.{ne_eqb, eq-eqb}
 use Rattle.std.proofs.lemmas.List.Folds.{find-append}
+use Rattle.bus_bits.proofs.OneMoreLemmas.{one-by-one}
 use Rattle.bus_fcs.specs.Check.{CheckView}
 use Rattle.bus_line.specs.Report.{Report, Kind, Frame, Damaged, Overlong, Abort, Idle, due, due_by, moved}
 use Rattle.bus_line.specs.Laws.{OneMore, DueIsIt}
@@ -23,18 +24,6 @@ use Rattle.bus_pairing.specs.declared.verdict.Verdict.{Verdict}
 use Rattle.bus_pairing.proofs.LedgerLemmas.{DueBelow}
 use Rattle.bus_pairing.proofs.SeenLemmas.{seen-more}
 use Rattle.bus_watch.proofs.MergedLemmas.{bit-adds}
-
--- what holds of no reports, and stays with one more, holds of all
-from-front : (P : List LineReport → Type 0) → ((rs : List LineReport) (r : LineReport) → P rs → P (rs ++ r ∷ [])) →
-    (before after : List LineReport) → P before → P (before ++ after)
-from-front P step before [] holds = subst P (sym (append-nil before)) holds
-from-front P step before (r ∷ after) holds =
-    subst P (append_assoc before (r ∷ []) after) (from-front P step (before ++ r ∷ []) after (step before r holds))
-
-pub one-by-one : (P : List LineReport → Type 0) → P [] →
-    ((rs : List LineReport) (r : LineReport) → P rs → P (rs ++ r ∷ [])) →
-    (rs : List LineReport) → P rs
-one-by-one P none step rs = from-front P step [] rs none
 
 pub seen-reports : (d : List FrameType) (rs : List LineReport) → map report_in (seen d rs) ≡ rs
 seen-reports d rs =

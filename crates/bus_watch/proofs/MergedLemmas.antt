@@ -11,7 +11,7 @@ use Rattle.bus_line.specs.Due.{reports, placed, places, due_at}
 use Rattle.bus_line.specs.Laws.{DueStays, OneMore, ReportsGrow}
 use Rattle.bus_pairing.specs.LineReport.{LineReport, line_report, firsts, seconds, line_reports_at, merged, is_line}
 use Rattle.bus_pairing.specs.LineReport.{of_side}
-use Rattle.bus_watch.specs.Internal.Decodes.{line_reports_of}
+use Rattle.bus_watch.specs.Decodes.{line_reports_of}
 use Rattle.bus_line.proofs.DueMoreLemmas.{map-option}
 use Rattle.bus_pairing.specs.declared.line.Line.{Line}
 use Rattle.bus_pairing.specs.declared.line.Line.TheVariants.{First, Second}

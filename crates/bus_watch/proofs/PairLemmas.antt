@@ -15,13 +15,13 @@ use Rattle.bus_line.specs.Report.{Report, due, moved}
 use Rattle.bus_line.specs.Due.{reports, placed, places, due_at}
 use Rattle.bus_line.specs.Laws.{DueStays, DueIsIt, FramesStored, StoredPaid, AssembledWithin}
 use Rattle.bus_line.specs.Ledger.{octet_count, copied, stored, IsLedger as IsLineLedger}
-use Rattle.bus_line.specs.Internal.LineState.{LineState}
+use Rattle.bus_line.specs.LineState.{LineState}
 use Rattle.bus_dictionary.specs.Entry.{FrameType}
 use Rattle.bus_dictionary.specs.Dictionary.{longest_of}
 use Rattle.bus_pairing.specs.LineReport.{LineReport, line_report, firsts, seconds, line_reports_at, merged}
 use Rattle.bus_pairing.specs.Seen.{SeenReport, report_in, seen, all_seen_at}
 use Rattle.bus_pairing.specs.Conversation.{ConversationState, HasRoom}
-use Rattle.bus_watch.specs.Internal.Decodes.{Decodes, line_reports_of}
+use Rattle.bus_watch.specs.Decodes.{Decodes, line_reports_of}
 use Rattle.bus_pairing.specs.Ledger.{steps, handled, handled_of, copied_of, total, sum_of_steps, IsAnalyserLedger}
 use Rattle.bus_pairing.specs.Ledger.{IsPairLedger}
 use Rattle.bus_watch.specs.Pairs.{PairState, IsAfterPairs, pair_reports, seen_after_pairs}

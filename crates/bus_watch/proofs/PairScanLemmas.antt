@@ -16,7 +16,7 @@ use Rattle.bus_pairing.specs.LineReport.{LineReport, line_report, firsts, second
 use Rattle.bus_pairing.specs.Seen.{SeenReport, seen}
 use Rattle.bus_pairing.specs.Ledger.{copied_of}
 use Rattle.bus_pairing.specs.Conversation.{ConversationState, ConversationAfter}
-use Rattle.bus_watch.specs.Internal.Decodes.{Decodes, DecodesMany, KeepsUp, line_reports_of}
+use Rattle.bus_watch.specs.Decodes.{Decodes, DecodesMany, KeepsUp, line_reports_of}
 use Rattle.bus_watch.specs.Pairs.{PairState, IsAfterPairs, AdvancesPairs, pair_reports, two_lines}
 use Rattle.bus_watch.specs.Watch.{AdvancesWatchShown, Watch}
 use Rattle.bus_watch.proofs.FedLemmas.{leads-more, leads-nil}

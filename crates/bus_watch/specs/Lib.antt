@@ -1,4 +1,5 @@
 pub mod Cut
+pub mod Decodes
 pub mod Watch
 pub mod After
 pub mod Pairs

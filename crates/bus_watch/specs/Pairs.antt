@@ -1,7 +1,7 @@
 -- The lists of pairs of bits after which an analyser of two lines may stand, and what more pairs do.
 use Rattle.std.specs.Prelude.{◌≡◌, Bool, List}
 use Rattle.bus_fcs.specs.Check.{CheckView}
-use Rattle.bus_line.specs.Internal.LineState.{LineState}
+use Rattle.bus_line.specs.LineState.{LineState}
 use Rattle.bus_line.specs.After.{After}
 use Rattle.bus_dictionary.specs.Dictionary.{longest_of}
 use Rattle.bus_pairing.specs.LineReport.{LineReport, firsts, seconds, merged}

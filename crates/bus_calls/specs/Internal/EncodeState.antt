@@ -2,7 +2,7 @@
 use Rattle.std.specs.Prelude.{◌≡◌, ℕ, ◌≤◌, List, ◌++◌, length, take, Option, Some, None, Result, Ok, Err}
 use Rattle.std.specs.Io.KnownBytes.{Appends, IsAtEnd}
 use Rattle.bus_line.specs.Line.{Call, Flag, Idle, Frame}
-use Rattle.bus_line.specs.Internal.EncoderState.{EncoderState}
+use Rattle.bus_line.specs.EncoderState.{EncoderState}
 use Rattle.bus_line.specs.Encoding.{AfterCalls}
 use Rattle.bus_calls.specs.Lines.{ended_lines, open_line}
 use Rattle.bus_calls.specs.Encode.{Asked, text_line, asked_behind, asked_so_far, asked_in_all, encode_text}

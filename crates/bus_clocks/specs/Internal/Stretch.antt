@@ -6,7 +6,7 @@ use Rattle.bus_bits.specs.Bits.{bits_from}
 use Rattle.bus_fcs.specs.Check.{CheckView}
 use Rattle.bus_line.specs.After.{AdvancesWith, After, due_of}
 use Rattle.bus_line.specs.Due.{begun}
-use Rattle.bus_line.specs.Internal.LineState.{LineState}
+use Rattle.bus_line.specs.LineState.{LineState}
 use Rattle.bus_line.specs.Shown.{reported}
 use Rattle.bus_line.specs.declared.consumed.Consumed.{Consumed}
 use Rattle.bus_line.specs.declared.event.Event.{Event}

@@ -11,7 +11,7 @@ use Rattle.bus_line.specs.Words.{first_in}
 use Rattle.bus_line.specs.declared.decoder_words.DecoderWords.{DecoderWords}
 use Rattle.bus_line.specs.declared.event.Event.{Event}
 use Rattle.bus_line.specs.declared.event.EventKind.{EventKind}
-use Rattle.bus_line.specs.Internal.LineState.{LineState}
+use Rattle.bus_line.specs.LineState.{LineState}
 use Rattle.bus_line.specs.Internal.Settled.{HasNoStop}
 use Rattle.bus_line.specs.Internal.Tracks.{Tracks, first_of}
 

@@ -1,6 +1,6 @@
 -- A decoder's fields, as they are seen, and their bounds.
 use Rattle.std.specs.Prelude.{ℕ, ◌+◌, ◌^◌, Option, Some, None}
-use Rattle.bus_line.specs.Internal.LineState.{LineState}
+use Rattle.bus_line.specs.LineState.{LineState}
 use Rattle.bus_line.specs.Words.{IsDecoder, state}
 use Rattle.bus_line.specs.declared.decoder.LineDecoder.TheInside.{Inside}
 

@@ -3,9 +3,9 @@ use Rattle.std.specs.Prelude.{◌≡◌, ◌≢◌, ℕ, zero, suc, ◌+◌, ◌
 use Rattle.std.specs.Prelude.{◌∷◌, ◌++◌, length, take, drop, min, if◌then◌else◌}
 use Rattle.bus_bits.specs.Octet.{number}
 use Rattle.bus_fcs.specs.Check.{CheckView}
-use Rattle.bus_line.specs.Internal.Run.{ones_at_end}
+use Rattle.bus_line.specs.Run.{ones_at_end}
 use Rattle.bus_line.specs.Due.{current}
-use Rattle.bus_line.specs.Internal.LineState.{LineState}
+use Rattle.bus_line.specs.LineState.{LineState}
 use Rattle.bus_line.specs.Internal.LineView.{settles_from}
 use Rattle.bus_line.specs.Internal.Tracks.{HasTaken, Holds, HoldsFor, Counts, first_of, padded}
 

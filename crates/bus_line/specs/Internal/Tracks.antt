@@ -3,10 +3,10 @@ use Rattle.std.specs.Prelude.{◌≡◌, ℕ, ◌+◌, ◌-◌, ◌*◌, ◌/◌
 use Rattle.std.specs.Prelude.{slice_range, Option, Some, None}
 use Rattle.bus_bits.specs.Octet.{number, octets}
 use Rattle.bus_fcs.specs.Check.{CheckView}
-use Rattle.bus_line.specs.Internal.Run.{data_so_far}
+use Rattle.bus_line.specs.Run.{data_so_far}
 use Rattle.bus_line.specs.Due.{Mark, NoMark, FlagAt, AbortAt}
 use Rattle.bus_line.specs.Ledger.{assembled, stored}
-use Rattle.bus_line.specs.Internal.LineState.{LineState}
+use Rattle.bus_line.specs.LineState.{LineState}
 
 -- where the piece of the last mark begins, if that is a flag
 abbrev pub first_of : ℕ → Mark → Option ℕ

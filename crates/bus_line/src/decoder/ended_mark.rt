@@ -3,7 +3,7 @@
 ghost use Rattle.std.specs.Prelude.{◌≡◌, ◌<◌, List, Bool, [], ◌∷◌, ◌++◌, length, drop};
 ghost use Rattle.bus_bits.specs.Octet.{number};
 ghost use Rattle.bus_line.specs.Internal.EndedMark.{HasEnded};
-ghost use Rattle.bus_line.specs.Internal.Run.{ones_at_end};
+ghost use Rattle.bus_line.specs.Run.{ones_at_end};
 ghost use Rattle.bus_line.specs.Internal.Tracks.{padded};
 
 /// What the newest bit ends.

@@ -37,7 +37,7 @@ impl DecoderWords {
     ghost use Rattle.bus_line.specs.Words.{IsDecoder, AreDecoderWords, state};
     ghost use Rattle.bus_line.specs.After.{AdvancesWith};
     ghost use Rattle.bus_line.specs.Internal.AdvancesTo.{ConsumesBits, AdvancesToStop};
-    ghost use Rattle.bus_line.specs.Internal.LineState.{LineState};
+    ghost use Rattle.bus_line.specs.LineState.{LineState};
     ghost use Rattle.bus_line.specs.Internal.Settled.{AppendsBits};
 
     /// Takes a bit as [`LineDecoder::push`](crate::LineDecoder::push) does, with the octets of the piece and their

@@ -164,3 +164,16 @@ fn taps_that_take_blocks(rt: HostRuntime) {
         same(&rt, tap.takes_blocks(), hold < 2, "a sample");
     }
 }
+
+/// A run is taken whole where it brings no bit, and else up to the sample that brings one.
+#[test]
+fn runs_of_samples(rt: HostRuntime) {
+    for hold in 0..4u32 {
+        let mut tap = Tap::new(hold, 2);
+        let low = tap.consume(0, 9).expect(&rt, "few samples");
+        same(&rt, low.samples, 9, "no bit");
+        let high = tap.consume(1, 9).expect(&rt, "few samples");
+        same(&rt, high.samples, u64::from(hold) + 1, "a clock that rises");
+        holds(&rt, !high.edges.is_none(), "its bit");
+    }
+}

@@ -2,7 +2,7 @@ use Rattle.std.proofs.Common.{◌≡◌, ◌+◌, ◌-◌, ◌++◌, ℕ, length
 use Rattle.std.specs.Option.{is_some, option_to_list}
 use Rattle.bus_bits.specs.Bits.{bits_from}
 use Rattle.bus_bits.proofs.BitLemmas.{length-from}
-use Rattle.bus_watch.specs.Internal.Decodes.{newest, told_on}
+use Rattle.bus_watch.specs.Decodes.{newest, told_on}
 use Rattle.bus_watch.proofs.DecodesLemmas.{bits-met, bits-none, decodes-nothing, decodes-more, keeps_up-more}
 use Rattle.bus_watch.proofs.DecodesLemmas.{keeps_up-room}
 use Rattle.bus_watch.proofs.decode.observe_bits.Goals as goal

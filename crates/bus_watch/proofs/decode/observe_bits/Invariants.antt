@@ -1,6 +1,6 @@
 use Rattle.std.proofs.Common.{◌-◌, ◌+◌, ◌≤◌, ℕ}
 use Rattle.bus_bits.specs.Bits.{bits_from}
-use Rattle.bus_watch.specs.Internal.Decodes.{DecodesMany, KeepsUp}
+use Rattle.bus_watch.specs.Decodes.{DecodesMany, KeepsUp}
 use Rattle.bus_watch.proofs.decode.observe_bits.Given as goal
 
 -- the bits so far were taken, and what is seen at them was told

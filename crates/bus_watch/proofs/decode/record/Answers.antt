@@ -7,7 +7,7 @@ use Rattle.bus_line.specs.Shown.{reported}
 use Rattle.bus_pairing.specs.LineReport.{line_report}
 use Rattle.bus_pairing.specs.Conversation.{AdvancesConversation}
 use Rattle.bus_pairing.specs.Shown.{found_on}
-use Rattle.bus_watch.specs.Internal.Decodes.{told_on}
+use Rattle.bus_watch.specs.Decodes.{told_on}
 use Rattle.bus_watch.proofs.AfterLemmas.{decodes-some}
 use Rattle.bus_watch.proofs.AnalyserViewLemmas.{whole}
 use Rattle.bus_watch.proofs.decode.record.Goals as goal

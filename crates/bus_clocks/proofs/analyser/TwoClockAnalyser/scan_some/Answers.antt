@@ -4,7 +4,7 @@ use Rattle.bus_bits.proofs.BitLemmas.{length-from}
 use Rattle.bus_pairing.specs.Seen.{SeenReport}
 use Rattle.bus_pairing.specs.declared.line.Line.TheVariants.{First, Second}
 use Rattle.bus_tap.specs.Arrival.{Arrival, own}
-use Rattle.bus_watch.specs.Internal.Decodes.{DecodesMany, told_on}
+use Rattle.bus_watch.specs.Decodes.{DecodesMany, told_on}
 use Rattle.bus_watch.specs.Watch.{AdvancesWatchShown}
 use Rattle.bus_watch.proofs.DecodesLemmas.{keeps_up-room}
 use Rattle.bus_clocks.specs.Clocks.{ClockState, two_clocks}

@@ -7,7 +7,7 @@ use Rattle.bus_line.specs.After.{After}
 use Rattle.bus_line.specs.Due.{current}
 use Rattle.bus_line.specs.Words.{first_in, state}
 use Rattle.bus_line.specs.Internal.AdvancesTo.{ConsumesBits}
-use Rattle.bus_line.specs.Internal.LineState.{LineState}
+use Rattle.bus_line.specs.LineState.{LineState}
 use Rattle.bus_line.specs.Internal.LineView.{settles_from}
 use Rattle.bus_line.specs.Internal.Settled.{HasNoStop, data_in_word}
 use Rattle.bus_line.specs.Internal.Tracks.{Tracks}

@@ -1,7 +1,7 @@
 use Rattle.std.proofs.Common.{◌≡◌, ◌+◌, ◌-◌, ◌∷◌, ◌++◌, [], ℕ, List, true, min, length, refl, sym, ap, ◌∙◌}
 use Rattle.std.proofs.Common.{arith, append_assoc, append-nil}
 use Rattle.bus_bits.specs.Bits.{bit_at}
-use Rattle.bus_line.specs.Internal.Run.{ones_after}
+use Rattle.bus_line.specs.Run.{ones_after}
 use Rattle.bus_pairing.specs.declared.line.Line.TheVariants.{Second}
 use Rattle.bus_tap.specs.Arrival.{Arrival, arrivals_from, own}
 use Rattle.bus_tap.specs.Internal.RestView.{rest_state}

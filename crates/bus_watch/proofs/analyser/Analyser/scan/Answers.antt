@@ -5,7 +5,7 @@ use Rattle.bus_dictionary.specs.Dictionary.{longest_of}
 use Rattle.bus_pairing.specs.Seen.{SeenReport}
 use Rattle.bus_watch.specs.After.{AnalyserState, one_line}
 use Rattle.bus_watch.specs.Internal.AnalyserView.{analyser_state}
-use Rattle.bus_watch.specs.Internal.Decodes.{DecodesMany}
+use Rattle.bus_watch.specs.Decodes.{DecodesMany}
 use Rattle.bus_watch.specs.Watch.{AdvancesWatchShown}
 use Rattle.bus_watch.proofs.DecodesLemmas.{leads-decoded, line-keeps_up}
 use Rattle.bus_watch.proofs.analyser.Analyser.scan.Goals as goal

@@ -5,7 +5,7 @@ use Rattle.bus_bits.specs.Bits.{bits_from}
 use Rattle.bus_bits.proofs.BitLemmas.{length-from}
 use Rattle.bus_pairing.specs.LineReport.{seconds}
 use Rattle.bus_pairing.specs.Seen.{SeenReport}
-use Rattle.bus_watch.specs.Internal.Decodes.{newest, told_on}
+use Rattle.bus_watch.specs.Decodes.{newest, told_on}
 use Rattle.bus_watch.specs.Internal.PairView.{pair_state}
 use Rattle.bus_watch.specs.Pairs.{PairState, two_lines}
 use Rattle.bus_watch.specs.Watch.{AdvancesWatchShown}
