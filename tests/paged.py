@@ -282,6 +282,26 @@ REPORTED = [
 ]
 
 
+def report_of(page: Path, folder: str, words: Sequence[str], title: str, listing: str) -> Path:
+    """A report that list-to-page makes of a listing."""
+    report = Path(folder, "report.html")
+    command = [str(TOP / "scripts" / "list-to-page"), f"--page={page}", *words, title]
+    report.write_bytes(subprocess.run(command, input=listing.encode(), stdout=subprocess.PIPE, check=True).stdout)
+    return report
+
+
+def problems_of_bare_report(page: Path, name: str) -> List[str]:
+    """Whether a report of a listing alone has its title once: its bar names no file."""
+    engine_of(page)
+    bench()
+    with tempfile.TemporaryDirectory(prefix="port1-") as folder:
+        report = report_of(page, folder, [], "Cabinet 7", "1 8 49 frame 108300fde5 station 16 type 0 call\n")
+        with opened(name, report.as_uri()) as session:
+            session.wait_until("/ lines in /.test(document.getElementById('status').textContent)")
+            shown = [text_of(session, "#title"), text_of(session, "#facts li")]
+            return [] if shown == ["Cabinet 7", "0.000 s"] else [f"the bar begins with {shown}"]
+
+
 def problems_of_report(page: Path, name: str) -> List[str]:
     """Whether a report shows what the page does, and what it is of, and prints."""
     engine_of(page)
@@ -289,13 +309,11 @@ def problems_of_report(page: Path, name: str) -> List[str]:
     capture, dictionary = (TOP / "examples" / f"port1-failure.{form}" for form in ("bits", "toml"))
     wanted, _ = program_lists(text_job("", capture.read_text(), 2, dictionary.read_text()))
     with tempfile.TemporaryDirectory(prefix="port1-") as folder:
-        report, notes = Path(folder, "report.html"), Path(folder, "notes")
+        notes = Path(folder, "notes")
         notes.write_text(NOTES)
-        words = [f"--page={page}", f"--dictionary={dictionary}", f"--recording={capture}", f"--notes={notes}"]
         begin = "--begin=2026-11-27T03:00:00-05:00"
-        words += ["--bits=9999999", begin]
-        command = [str(TOP / "scripts" / "list-to-page"), *words, "Cabinet <7> & more"]
-        report.write_bytes(subprocess.run(command, input=wanted.encode(), stdout=subprocess.PIPE, check=True).stdout)
+        words = [f"--dictionary={dictionary}", f"--recording={capture}", f"--notes={notes}", "--bits=9999999", begin]
+        report = report_of(page, folder, words, "Cabinet <7> & more", wanted)
         with opened(name, report.as_uri()) as session:
             session.wait_until("/ lines in /.test(document.getElementById('status').textContent)")
             problems = [] if shown_text(session) == wanted else ["the listing is not the one that was given"]
@@ -349,5 +367,6 @@ def tests_of(page: Path) -> Iterator[Test]:
             ("a file that grows", problems_of_growth),
             ("four wires", problems_of_wires),
             ("a report", problems_of_report),
+            ("a report of a listing alone", problems_of_bare_report),
         ]:
             yield Test(f"{name}: {what}", partial(problems, page, name))

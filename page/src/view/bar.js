@@ -16,7 +16,7 @@ export class Bar {
   /**
    * @param {{ first: number, past: number, isOfTwo: boolean }} summary
    * @param {{ rate: number, form: string }} job
-   * @param {{ name: string, date: string, hasDictionary: boolean }} file
+   * @param {{ name: string, date: string, hasDictionary: boolean }} file whose name and date may be empty
    */
   show(summary, job, { name, date, hasDictionary }) {
     /** @param {string} text */
@@ -24,7 +24,7 @@ export class Bar {
     const chip = fact("");
     chip.append(this.chip);
     element("facts").replaceChildren(
-      fact(name, "name"),
+      ...(name ? [fact(name, "name")] : []),
       fact(`${((summary.past - summary.first) / job.rate).toFixed(3)} s`),
       fact(`${grouped(job.rate)} bits/s, ${summary.isOfTwo ? "two lines" : "one line"}`),
       ...(date ? [fact(date, "date")] : []),

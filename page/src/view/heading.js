@@ -60,13 +60,12 @@ export class Heading {
    * The bar and the title of a report.
    * @param {Summary} summary
    * @param {Embedded} job
-   * @param {string} name
    * @param {Clock} clock
    */
-  showReport(summary, job, name, { begin }) {
+  showReport(summary, job, { begin }) {
     const { recording, title, command } = /** @type {Report} */ (this.about);
     const date = begin || (recording?.date ?? "");
-    this.bar.show(summary, job, { name: recording?.name ?? name, date, hasDictionary: false });
+    this.bar.show(summary, job, { name: recording?.name ?? "", date, hasDictionary: false });
     element("title").textContent = title;
     element("command").textContent = command;
   }

@@ -342,7 +342,7 @@ class Page {
     element("result").hidden = false;
     this.state("result");
     element("draft").disabled = false;
-    this.showWords(summary, job, name);
+    this.showWords(summary, job);
     this.replies.reset(summary.replies, job.rate, summary.verdict.isLateJudged);
     await this.navigation.reset(summary, this.clock, isSame);
     const lasted = ((performance.now() - began) / 1000).toFixed(1);
@@ -353,9 +353,8 @@ class Page {
    * All that is said of a file in words.
    * @param {Summary} summary
    * @param {Asked|Embedded} job
-   * @param {string} name
    */
-  showWords(summary, job, name) {
+  showWords(summary, job) {
     const { verdict, findings, warnings } = summary;
     const isReport = Boolean(element("listing-data"));
     fillList(element("notes"), [...summary.notes, ...(isReport ? this.about.notes ?? [] : [])]);
@@ -368,7 +367,7 @@ class Page {
     showTable(summary.table, findings);
     showDamage(summary.damage, summary.damaged);
     this.offerDraft(verdict, job);
-    if (isReport) this.heading.showReport(summary, /** @type {Embedded} */ (job), name, this.clock);
+    if (isReport) this.heading.showReport(summary, /** @type {Embedded} */ (job), this.clock);
     else this.heading.showFile(summary, /** @type {Asked} */ (job), this.clock, this.incident);
     element("warnings-head").hidden = warnings.length === 0;
   }
