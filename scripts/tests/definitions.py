@@ -21,8 +21,8 @@ HEAD = "usage: by-definition [-h] COMMAND ...\nby-definition: error: "
 
 LIST_HEAD = (
     "usage: by-definition list [-h] [--dict TEXT | --dictionary FILE] [--bits]\n"
-    "                          [--two] [--origin N] [--station N] [--type N]\n"
-    "                          [--kind K]\nby-definition list: error: "
+    "                          [--two | --arrivals] [--rest N] [--origin N]\n"
+    "                          [--station N] [--type N] [--kind K]\nby-definition list: error: "
 )
 
 # Counted by hand: 40 bits of data in 5 octets, one frame of six steps.

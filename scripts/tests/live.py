@@ -1,8 +1,11 @@
 """The scripts beside a recording that goes on: signals, and how soon what comes in goes out."""
 
+import fcntl
 import os
 import signal
 import subprocess
+import sys
+import termios
 import threading
 import time
 from pathlib import Path
@@ -53,14 +56,20 @@ def started(name: str, words: Sequence[str]) -> "subprocess.Popen[bytes]":
     return subprocess.Popen([SCRIPTS / name, *words], env=environment, bufsize=0, **pipes)
 
 
+def unread(child: "subprocess.Popen[bytes]") -> int:
+    """How many octets wait in the pipe that a child reads."""
+    assert child.stdin is not None
+    return int.from_bytes(fcntl.ioctl(child.stdin, termios.FIONREAD, bytes(4)), sys.byteorder)
+
+
 def await_read(child: "subprocess.Popen[bytes]") -> None:
-    """Waits until a child has read all that was written, and reads again: until it sleeps, and nothing waits."""
+    """Waits until a child has read all that was written, and reads again: until nothing waits, and it sleeps."""
     deadline = time.monotonic() + BEGIN
     rest = 0.0
     while rest < 0.2 and time.monotonic() < deadline:
         before = Path(f"/proc/{child.pid}/io").read_text()
         time.sleep(0.1)
-        is_still = before == Path(f"/proc/{child.pid}/io").read_text() and "rchar: 0" not in before
+        is_still = unread(child) == 0 and before == Path(f"/proc/{child.pid}/io").read_text()
         rest = rest + 0.1 if is_still else 0.0
 
 
