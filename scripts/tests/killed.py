@@ -10,7 +10,7 @@ from pathlib import Path
 from typing import IO, List, Sequence
 
 from tests.case import SCRIPTS, SECONDS, Run
-from tests.watched import RATE, Cabinet, Fault, child_of, judged
+from tests.watched import RATE, Cabinet, Fault, child_of, judged, read_until
 
 RUNS: List[Run] = []
 
@@ -53,8 +53,8 @@ def undecided(folder: Path) -> List[str]:
     cabinet = Cabinet(folder, [Fault(RATE // 10, 2 * RATE, "silent", 2)])
     bits, _ = cabinet.simulator(0, RATE).communicate(timeout=SECONDS)
     watch = cabinet.watch(subprocess.PIPE, 0)
-    assert watch.stdin is not None and watch.stdout is not None
-    watch.stdout.readline()  # it has begun
+    assert watch.stdin is not None
+    read_until(watch, "start")
     time.sleep(1)
     port1 = child_of(watch)
     os.kill(port1, signal.SIGSTOP)

@@ -22,6 +22,7 @@ from tests.watched import (
     child_of,
     disk_of,
     judged,
+    read_until,
     schedule,
     watched_with_kills,
 )
@@ -69,7 +70,8 @@ def stalls(folder: Path) -> List[str]:
     """In real time: a `port1` held up, a source that stalls, a dictionary read again: no faults of the cabinet."""
     cabinet = Cabinet(folder, [], speed="1")
     source, watch = cabinet.start(0, 60 * RATE)
-    time.sleep(3)
+    told = read_until(watch, "start")
+    time.sleep(1.5)
     watch.send_signal(signal.SIGHUP)
     time.sleep(1.5)
     port1 = child_of(watch)
@@ -82,7 +84,7 @@ def stalls(folder: Path) -> List[str]:
     out, err = watch.communicate(timeout=SECONDS)
     source.kill()
     source.communicate()
-    events = [json.loads(line)["event"] for line in out.decode().splitlines()]
+    events = [json.loads(line)["event"] for line in (told + out).decode().splitlines()]
     wanted = ["start", "dictionary", "input stalled", "input goes on", "end"]
     return [] if events == wanted and watch.returncode == 0 and not err else [f"{events}, {watch.returncode}, {err!r}"]
 
@@ -91,7 +93,7 @@ def port1_is_killed(folder: Path) -> List[str]:
     """Where `port1` ends, one line says so, with status 2, and a new run goes on."""
     cabinet = Cabinet(folder, [], speed="1")
     source, watch = cabinet.start(0, 60 * RATE)
-    time.sleep(2)
+    read_until(watch, "start")
     os.kill(child_of(watch), signal.SIGKILL)
     _, err = watch.communicate(timeout=SECONDS)
     source.communicate(timeout=SECONDS)
@@ -106,11 +108,12 @@ def source_that_ends(folder: Path) -> List[str]:
     command = f"{doubt}; echo bad luck >&2; node {SIMULATOR} 7 0 {8 * RATE} '' 0; exit 3"
     words = [SCRIPTS / "bus-watch", folder / "watch", "--dictionary", DICTIONARY, "--floor", "0", "--two"]
     words += ["--source", command]
-    watch = subprocess.Popen(words, stdin=subprocess.DEVNULL, stdout=subprocess.PIPE, stderr=subprocess.PIPE)
-    time.sleep(5)
+    pipes = {"stdin": subprocess.DEVNULL, "stdout": subprocess.PIPE, "stderr": subprocess.PIPE}
+    watch = subprocess.Popen(words, bufsize=0, **pipes)
+    told = read_until(watch, "source ended") + read_until(watch, "source ended")
     watch.send_signal(signal.SIGINT)
     out, err = watch.communicate(timeout=SECONDS)
-    records = [json.loads(line) for line in out.decode().splitlines()]
+    records = [json.loads(line) for line in (told + out).decode().splitlines()]
     ended = [(r["status"], r["said"].split("\n")[0], r["again"]) for r in records if r["event"] == "source ended"]
     others = {record["event"] for record in records} - {"source ended"}
     doubts = [record["text"] for record in records if record["event"] == "doubt"]

@@ -75,6 +75,17 @@ def child_of(watch: "subprocess.Popen[bytes]") -> int:
     return 0
 
 
+def read_until(watch: "subprocess.Popen[bytes]", event: str) -> bytes:
+    """What a watch tells up to an event."""
+    assert watch.stdout is not None
+    out = b""
+    for line in watch.stdout:
+        out += line
+        if f'"{event}"'.encode() in line:
+            break
+    return out
+
+
 @contextmanager
 def disk_of(megabytes: int, folder: Path) -> Iterator[Path]:
     """The folder of a watch, as a disk of its own."""
@@ -140,7 +151,8 @@ class Cabinet(NamedTuple):
         form = ["--two"] if self.form == "pairs" else []
         words: List[Word] = [self.scripts / "bus-watch", self.folder / "watch", "--dictionary", DICTIONARY]
         pipes = {"stdin": source, "stdout": subprocess.PIPE, "stderr": subprocess.PIPE}
-        return subprocess.Popen([*words, *date, *form, "--floor", "0", *self.words], start_new_session=True, **pipes)
+        words += [*date, *form, "--floor", "0", *self.words]
+        return subprocess.Popen(words, bufsize=0, start_new_session=True, **pipes)
 
     def start(
         self, begin: int, past: int, date: Optional[int] = None
@@ -153,13 +165,11 @@ class Cabinet(NamedTuple):
         return source, watch
 
     def run(self, begin: int, past: int, kill: Optional[float] = None, is_begun: bool = False) -> Watched:
-        """Runs the watch on some places; it is killed after so many seconds, or so long after an incident began."""
+        """Runs the watch on some places; it is killed so many seconds after it started, or after an incident began."""
         source, watch = self.start(begin, past, begin)
-        assert watch.stdout is not None
         out = b""
-        while is_begun and b'"begun"' not in out:
-            out += watch.stdout.readline()
         if kill is not None:
+            out = read_until(watch, "begun" if is_begun else "start")
             time.sleep(kill)
             watch.kill()
         rest, err = watch.communicate(timeout=LONG)
