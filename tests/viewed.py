@@ -44,6 +44,10 @@ TOO_WIDE = """(() => {
   return wide > 0 ? `${wide} pixels` : out ? out.id || out.className || out.tagName : null;
 })()"""
 
+# What is cut off of the words beside the wires.
+CUT_OFF = """[...document.querySelectorAll('#wires text')].find((text) =>
+  text.getBoundingClientRect().right > text.ownerSVGElement.getBoundingClientRect().right)?.textContent ?? null"""
+
 TABS = ["listing", "table", "damage", "dictionary", "notes"]
 
 
@@ -59,7 +63,8 @@ def too_wide(session: browser.Session, when: str) -> List[str]:
 def problems_of_empty(session: browser.Session) -> List[str]:
     """What stands there before a file: what to drop, the wires, and an example."""
     problems = are_in_view(session, ["#drop h2", "#choose-files", "#example", "#wires"])
-    return problems + too_wide(session, "empty")
+    cut = session.value(CUT_OFF)
+    return problems + too_wide(session, "empty") + ([f"{cut!r} is cut off"] if cut else [])
 
 
 def problems_of_first_screen(session: browser.Session, is_wide: bool) -> List[str]:
