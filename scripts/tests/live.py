@@ -1,7 +1,11 @@
 """The scripts beside a recording that goes on: signals, and how soon what comes in goes out."""
 
+import ctypes
 import fcntl
+import math
 import os
+import resource
+import select
 import signal
 import subprocess
 import sys
@@ -18,8 +22,8 @@ RUNS: List[Run] = []
 
 SIGNALS = (signal.SIGINT, signal.SIGTERM)
 
-# How long a script may take to begin, and then for a line, in seconds.
-BEGIN, SOON = 20.0, 1.0
+# How long a script may take to begin, and what it writes to come, in seconds.
+BEGIN = 20.0
 
 LISTING = b"1 48 89 frame 108300fde5 station 16 type 0 call\n" * 3
 
@@ -74,10 +78,9 @@ def await_read(child: "subprocess.Popen[bytes]") -> None:
 
 
 def ended(child: "subprocess.Popen[bytes]", numbers: Sequence[int]) -> Tuple[bytes, bytes]:
-    """What a child writes that these signals end, while its input stays open."""
-    for number in numbers:
-        child.send_signal(number)
-        time.sleep(0.02)
+    """What a child writes that these signals end, while its input stays open. Its main thread takes them in turn."""
+    for number in (signal.SIGSTOP, *numbers, signal.SIGCONT):
+        ctypes.CDLL(None).tgkill(child.pid, child.pid, number)
     out, err = child.stdout, child.stderr
     assert out is not None and err is not None
     timer = threading.Timer(BEGIN, child.kill)
@@ -148,18 +151,23 @@ def unfinished_files_are_removed(folder: Path) -> List[str]:
     return problems
 
 
+def read_soon(child: "subprocess.Popen[bytes]") -> bytes:
+    """What a child writes next; nothing where it ends, or nothing comes."""
+    assert child.stdout is not None
+    is_there = select.select([child.stdout], [], [], BEGIN)[0]
+    return os.read(child.stdout.fileno(), 1 << 16) if is_there else b""
+
+
 def lines_come_at_once(_: Path) -> List[str]:
     """A single line of a listing is an object while nothing follows it."""
     child = started("list-to-jsonl", [])
-    assert child.stdin is not None and child.stdout is not None
+    assert child.stdin is not None
     problems = []
     for number in range(5):
-        begun = time.monotonic()
         child.stdin.write(LISTING[: len(LISTING) // 3])
-        os.read(child.stdout.fileno(), 4096)
-        waited = time.monotonic() - begun
-        if waited > (SOON if number else BEGIN):
-            problems.append(f"line {number} after {waited:.1f} s")
+        if read_soon(child).count(b"\n") != 1:
+            problems.append(f"line {number} does not come")
+            break
     child.stdin.close()
     child.wait(SECONDS)
     return problems
@@ -177,43 +185,41 @@ def samples_of(hertz: int) -> bytes:
     return bytes(found)
 
 
-def delays_of(hertz: int, seconds: float) -> List[float]:
-    """How late the bits are of a recording in real time, each time some come."""
-    tenth = samples_of(hertz)
+def delays_of(hertz: int) -> List[float]:
+    """How long the bits of each fiftieth of two seconds take to come; no more samples are given before they have."""
+    tenth, step, delays = samples_of(hertz), hertz // 50, []
     child = started("recording-to-bits", ["--samplerate", str(hertz), "0", "1", "2", "3"])
-    assert child.stdin is not None and child.stdout is not None
-    begun, found = time.monotonic(), []
-
-    def read() -> None:
-        bits = 0
-        while piece := os.read(child.stdout.fileno(), 1 << 20):
+    assert child.stdin is not None
+    for fiftieth in range(100):
+        at, begun, bits = fiftieth % 5 * step, time.monotonic(), 0
+        child.stdin.write(tenth[at : at + step])
+        while bits < 3072 and (piece := read_soon(child)):
             bits += len(piece.translate(None, b"\noi"))
-            found.append(time.monotonic() - begun - bits / 153600)
-
-    # Whoever writes must not wait for what is to be read.
-    reader = threading.Thread(target=read)
-    reader.start()
-    sent = 0
-    while (now := time.monotonic() - begun) < seconds:
-        past = min(int(now * hertz), sent + (1 << 15))
-        at = sent % len(tenth)
-        child.stdin.write(tenth[at : at + past - sent])
-        sent += min(past - sent, len(tenth) - at)
-        time.sleep(0.002 if now * hertz - past < 1 else 0)
-    child.kill()
+        if bits != 3072:
+            child.kill()
+            return [math.inf]
+        delays.append(time.monotonic() - begun)
+    child.stdin.close()
     child.wait(SECONDS)
-    reader.join(SECONDS)
-    return found[len(found) // 2 :]
+    return delays
 
 
 def bits_come_soon(_: Path) -> List[str]:
-    """From sample to bit: 95 of 100 within a tenth of a second, at 1 and at 4 million samples a second."""
-    problems = []
-    for hertz in (1_000_000, 4_000_000):
-        delays = sorted(delays_of(hertz, 4.0))
-        late = delays[len(delays) * 95 // 100]
-        problems += [] if late <= 0.1 else [f"{hertz} samples a second: {late:.2f} s"]
-    return problems
+    """All bits of the samples so far come while no more do; where the machine is free, within a tenth of a second."""
+    least = {hertz: min(delays_of(hertz)) for hertz in (1_000_000, 4_000_000)}
+    return [f"{hertz} samples a second: {seconds:.2f} s" for hertz, seconds in least.items() if seconds > 0.1]
+
+
+def processor_time() -> float:
+    """What children that have ended took of a processor, in seconds."""
+    used = resource.getrusage(resource.RUSAGE_CHILDREN)
+    return used.ru_utime + used.ru_stime
+
+
+def one_processor_keeps_up(_: Path) -> List[str]:
+    """Two seconds at 4 million samples a second take less of one processor, for scripts and program together."""
+    before, _, after = processor_time(), delays_of(4_000_000), processor_time()
+    return [] if after - before < 2.0 else [f"{after - before:.1f} s"]
 
 
 def events_come_at_once(_: Path) -> List[str]:
@@ -242,5 +248,6 @@ TESTS = [
     unfinished_files_are_removed,
     lines_come_at_once,
     bits_come_soon,
+    one_processor_keeps_up,
     events_come_at_once,
 ]

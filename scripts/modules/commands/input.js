@@ -46,6 +46,11 @@ async function* allOfInput(size = PIECE) {
 /** Standard input that a signal ends, once that is read which has come. */
 class Stream {
   past = Infinity; // when reading is to end
+  /**
+   * The read that has begun.
+   * @type {Promise<number>|null}
+   */
+  reading = null;
   /** Ends the wait for octets. */
   wake = () => {};
 
@@ -62,36 +67,50 @@ class Stream {
 
   /**
    * Waits for octets.
-   * @param {Uint8Array} room
-   * @returns {Promise<number>} how many; 0 at the end
+   * @param {Uint8Array} room where they go: the same one until some have come
+   * @param {number} until when the wait ends
+   * @returns {Promise<number|null>} how many; 0 at the end of the stream, and `null` at that of the wait
    */
-  next(room) {
-    if (Date.now() > this.past) return Promise.resolve(0);
-    return new Promise((done, fail) => {
+  async next(room, until) {
+    if (Date.now() > this.past) return 0;
+    const reading = (this.reading ??= readInto(room));
+    /** @type {ReturnType<typeof setTimeout>|undefined} */
+    let timer;
+    const count = await new Promise((done, fail) => {
       this.wake = () => done(0);
       if (this.past < Infinity) this.limit();
-      readInto(room).then(done, fail);
+      if (until < Infinity) timer = setTimeout(done, until - Date.now(), null);
+      reading.then(done, fail);
     });
+    clearTimeout(timer);
+    if (count !== null) this.reading = null;
+    return count;
   }
 }
 
 /**
  * The same, of a stream: a signal ends it, once that is read which has come.
  * @param {number} [size]
- * @param {{ least: number, milliseconds: number }} gather octets of a piece at least, unless it is the last one; and
- *   how long more of them are waited for
+ * @param {{ least: number, milliseconds: number }} gather octets of the first piece at least, unless it is the last
+ *   one; and how long after its first octets a piece is handed out
  * @returns {AsyncGenerator<Uint8Array>}
  */
 export async function* standardInput(size = PIECE, gather = { least: 1, milliseconds: 0 }) {
-  const { least, milliseconds } = gather;
   const [room, stream] = [new Uint8Array(size), new Stream()];
-  for (let count = 1; count > 0; ) {
-    let [filled, until] = [0, Date.now() + milliseconds];
-    do {
-      count = await stream.next(room.subarray(filled));
-      filled += count;
-    } while (count > 0 && filled < size && (filled < least || Date.now() < until));
-    if (filled > 0) yield room.subarray(0, filled);
+  let { least } = gather;
+  // The piece is what stands from the first of these places to the second.
+  for (let [begin, end, until, isOpen] = [0, 0, Infinity, true]; isOpen; ) {
+    const count = await stream.next(room.subarray(end), end - begin < least ? Infinity : until);
+    isOpen = count !== 0;
+    if (end === begin) until = Date.now() + gather.milliseconds;
+    end += count ?? 0;
+    const isWhole = end - begin >= least && Date.now() >= until;
+    if (isOpen && end < size && !isWhole) continue;
+    if (end > begin) yield room.subarray(begin, end);
+    least = 1;
+    // A read that has begun writes behind the piece.
+    if (stream.reading === null) end = 0;
+    begin = end;
   }
 }
 
