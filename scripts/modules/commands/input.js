@@ -97,9 +97,9 @@ class Stream {
  */
 export async function* standardInput(size = PIECE, gather = { least: 1, milliseconds: 0 }) {
   const [room, stream] = [new Uint8Array(size), new Stream()];
-  let { least } = gather;
-  // The piece is what stands from the first of these places to the second.
-  for (let [begin, end, until, isOpen] = [0, 0, Infinity, true]; isOpen; ) {
+  // The piece lies between `begin` and `end`; once it has `least` octets, more of it is awaited up to `until`.
+  let [begin, end, until, least] = [0, 0, Infinity, gather.least];
+  for (let isOpen = true; isOpen; ) {
     const count = await stream.next(room.subarray(end), end - begin < least ? Infinity : until);
     isOpen = count !== 0;
     if (end === begin) until = Date.now() + gather.milliseconds;
