@@ -14,7 +14,7 @@ TOP = Path(__file__).resolve().parent.parent
 
 SECONDS = 60
 
-# An `rt` that proves each crate of its list, one after the other, and ends with a status.
+# An `rt` that proves each crate of its list, one after the other, and ends with a status, long after the next look.
 RT = """\
 #!/bin/sh
 echo "rt $*"
@@ -23,7 +23,7 @@ for crate in {crates}; do
     mkdir -p "{top}/crates/$crate/out/rlib/$crate.rlib"
     touch "{top}/crates/$crate/out/rlib/stamp"
 done
-sleep 0.8
+sleep 3
 exit {status}
 """
 
