@@ -175,7 +175,7 @@ class Wrong(NamedTuple):
 WRONG = [
     Wrong("watch.js", "const { mark } = this.decoder;", "const mark = this.packer.places;"),
     Wrong("incidents.js", "waiting.push(open);\n    this.office.keep();", "office.keep(), this.waiting.push(open);"),
-    Wrong("incidents.js", "this.office.keep();\n    if (Object", "if (Object"),
+    Wrong("rest.js", "resume(before);", "resume({ ...before, open: null });"),
     Wrong("saver.js", "if (at > 0) await", "if (at < 0) await"),
     Wrong("saver.js", "renameSync(fresh, join(this.folder, name))", "undefined"),
 ]
@@ -196,7 +196,7 @@ def problems_with(folder: Path, wrong: Wrong) -> List[str]:
 
 
 def wrong_forms(folder: Path) -> List[str]:
-    """Triggers by what was fed, a state that lacks what is to be saved, no cut at a command, no rename."""
+    """Triggers by what was fed, waiting or open incidents that a kill loses, no cut at a command, no rename."""
     problems = []
     for number, wrong in enumerate(WRONG):
         own = folder / str(number)
