@@ -217,9 +217,10 @@ def processor_time() -> float:
 
 
 def one_processor_keeps_up(_: Path) -> List[str]:
-    """Two seconds at 4 million samples a second take less of one processor, for scripts and program together."""
-    before, _, after = processor_time(), delays_of(4_000_000), processor_time()
-    return [] if after - before < 2.0 else [f"{after - before:.1f} s"]
+    """On a machine that is free, 95 of 100 delays are within a tenth of a second, and a processor has time to spare."""
+    before, delays, after = processor_time(), sorted(delays_of(4_000_000)), processor_time()
+    late, taken = delays[len(delays) * 95 // 100], after - before
+    return [] if late <= 0.1 and taken < 2.0 else [f"{late:.2f} s late; two seconds take {taken:.1f} s of a processor"]
 
 
 def events_come_at_once(_: Path) -> List[str]:
