@@ -13,10 +13,31 @@ from promised import sentences_of
 
 TOP = Path(__file__).resolve().parent.parent
 
-# The words of all documents together, at most, and the lines and words of the first page.
-MOST_WORDS = 24000
-FIRST_PAGE = "README.md"
-MOST_OF_FIRST_PAGE = (180, 1400)
+# The words of each document, at most: a tenth more than it has, so that a sentence finds room. CHANGELOG.md grows.
+MOST_WORDS = {
+    "CONTRIBUTING.md": 1450,
+    "README.md": 1400,
+    "SECURITY.md": 400,
+    "docs/ARCHITECTURE.md": 1350,
+    "docs/C.md": 2250,
+    "docs/CAPTURES.md": 1250,
+    "docs/COOKBOOK.md": 2500,
+    "docs/DECISIONS.md": 1550,
+    "docs/DEFINITIONS.md": 750,
+    "docs/DICTIONARY.md": 1750,
+    "docs/INSTALL.md": 400,
+    "docs/MANY-CAPTURES.md": 1150,
+    "docs/PAGE.md": 800,
+    "docs/PROVED.md": 4900,
+    "docs/RATTLE.md": 650,
+    "docs/TESTING-EQUIPMENT.md": 650,
+    "docs/TROUBLESHOOTING.md": 2050,
+    "docs/WATCH.md": 950,
+}
+WITHOUT_LIMIT = "CHANGELOG.md"
+
+# The first page, and its lines, at most.
+FIRST_PAGE, MOST_LINES_OF_FIRST_PAGE = "README.md", 180
 
 # The words of a sentence, at most, and on the average.
 LONGEST_SENTENCE = 40
@@ -91,10 +112,12 @@ def problems_of_decisions(text: str) -> Iterator[str]:
             yield f"an entry of more than {MOST_LINES} lines: {entry[:60]}"
 
 
-def problems_of_first_page(text: str) -> Iterator[str]:
-    for name, count, most in zip(["lines", "words"], [text.count("\n"), len(text.split())], MOST_OF_FIRST_PAGE):
-        if count > most:
-            yield f"{count} {name}, over {most}"
+def problems_of_length(name: str, text: str) -> Iterator[str]:
+    words, lines = len(text.split()), text.count("\n")
+    if name != WITHOUT_LIMIT and words > MOST_WORDS.get(name, 0):
+        yield f"{words} words, over {MOST_WORDS.get(name, 0)}"
+    if name == FIRST_PAGE and lines > MOST_LINES_OF_FIRST_PAGE:
+        yield f"{lines} lines, over {MOST_LINES_OF_FIRST_PAGE}"
 
 
 def problems_of_picture() -> Iterator[str]:
@@ -112,14 +135,12 @@ def problems_of_names() -> Iterator[str]:
 
 
 def results_of_language() -> Iterator[Tuple[str, List[str]]]:
-    """What is wrong with the words of each document, and of all together."""
+    """What is wrong with the words of each document."""
     documents = texts()
-    total = sum(len(text.split()) for text in documents.values())
-    yield "all documents: words", [f"{total}, over {MOST_WORDS}"] if total > MOST_WORDS else []
     yield "all sources: names that went", [*problems_of_names()]
-    yield f"{FIRST_PAGE}: its length", [*problems_of_first_page(documents[FIRST_PAGE])]
     yield f"{DECISIONS}: its entries", [*problems_of_decisions(documents[DECISIONS])]
     yield f"{PICTURE}: its size", [*problems_of_picture()]
     for name, text in documents.items():
+        yield f"{name}: its length", [*problems_of_length(name, text)]
         yield f"{name}: its sentences", [*problems_of_sentences(text)]
         yield f"{name}: its words", [*problems_of_words(text)]
