@@ -28,7 +28,7 @@ MOST_WORDS = {
     "docs/INSTALL.md": 400,
     "docs/MANY-CAPTURES.md": 1150,
     "docs/PAGE.md": 800,
-    "docs/PROVED.md": 4900,
+    "docs/PROVED.md": 5200,
     "docs/RATTLE.md": 650,
     "docs/TESTING-EQUIPMENT.md": 650,
     "docs/TROUBLESHOOTING.md": 2050,

@@ -13,6 +13,8 @@ CALLS = ["Call", "Result", "Refusal", "Clauses", "Wrong body"]
 
 LAWS = ["Law", "Statement"]
 
+MISTAKES = ["Mistake", "Wrong body"]
+
 # What stands in a cell that has nothing to say, and in place of all clauses of the calls.
 NOTHING, EVERY = "–", "all"
 
@@ -72,6 +74,12 @@ def rows_of(part: str, known: Set[str]) -> Iterator[Row]:
             head = cells
         elif head in (CALLS, LAWS) and len(cells) == len(head) and not set(cells[0]) <= set("-"):
             yield row_of(cells, head == LAWS, known)
+
+
+def mistakes_of(part: str) -> List[str]:
+    """The wrong bodies in a table of mistakes."""
+    rows = [cells_of(line) for line in part.splitlines() if line.startswith("|")]
+    return [name for cells in rows[2:] for name in NAMES.findall(cells[-1])] if rows[:1] == [MISTAKES] else []
 
 
 def sentences_of(part: str) -> Iterator[str]:
