@@ -1,0 +1,4 @@
+//! Command lines.
+#![tactic(auto)]
+
+pub mod table;
