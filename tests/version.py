@@ -10,7 +10,7 @@ from typing import Iterator, List, NamedTuple, Tuple
 
 TOP = Path(__file__).resolve().parent.parent
 
-SOURCE = "crates/bus_tool/src/arguments.rt"
+SOURCE = "crates/bus_arguments/src/arguments.rt"
 
 Result = Tuple[str, List[str]]
 

@@ -54,6 +54,12 @@ pub const NUMBER: ArgumentRow = ArgumentRow {
     ..FLAG
 };
 
+/// An option with a text.
+pub const TEXT: ArgumentRow = ArgumentRow {
+    takes: Takes::Text,
+    ..FLAG
+};
+
 /// The command with the arguments of a table.
 pub fn with_arguments<'a>(
     alloc: Global,
