@@ -50,7 +50,7 @@ SONAME = libport1.so.2
 SHARED = $(if $(TARGET),,$(dir $(LIBRARY))$(SONAME))
 C_EXAMPLES = c/examples/Makefile $(wildcard c/examples/*.c)
 FIRMWARE = $(addprefix c/examples/mcu/,Makefile board.ld) $(wildcard c/examples/mcu/*.[ch])
-VERSION = $(shell sed -n 's/.*\.version("\(.*\)").*/\1/p' crates/bus_tool/src/arguments.rt)
+VERSION = $(shell sed -n 's/.*\.version("\(.*\)").*/\1/p' crates/bus_arguments/src/arguments.rt)
 
 # What finds the examples but for those in C, the commands among the scripts, and the definitions, which one of the
 # scripts runs; what `rt` builds has copies of these.

@@ -94,7 +94,7 @@ def sources_of_page() -> Iterator[Path]:
     yield from [page / "build", page / "index.html", *(page / "style").iterdir(), *(page / "src").rglob("*.js")]
     yield from (TOP / "scripts" / "modules").rglob("*.js")
     examples = [TOP / "examples" / name for name in ("dictionary.schema.json", "port1-failure.bits", "port1-failure.toml")]
-    yield from [*examples, TOP / "crates" / "bus_tool" / "src" / "arguments.rt"]
+    yield from [*examples, TOP / "crates" / "bus_arguments" / "src" / "arguments.rt"]
     yield from sources_of(TOP, "port1_c")
 
 

@@ -10,7 +10,7 @@ from typing import Iterator, List, NamedTuple, Tuple
 
 TOP = Path(__file__).resolve().parent.parent
 
-SOURCE = "crates/bus_tool/src/arguments.rt"
+SOURCE = "crates/bus_arguments/src/arguments.rt"
 
 Result = Tuple[str, List[str]]
 
@@ -25,7 +25,7 @@ class Place(NamedTuple):
 
 
 PLACES = [
-    Place("crates/bus_sample/src/arguments.rt", r'^\s*\.version\("(.*)"\)$'),
+    Place("crates/bus_sample_tool/src/arguments.rt", r'^\s*\.version\("(.*)"\)$'),
     Place("c/include/port1.h", r'^#define PORT1_VERSION "(.*)"$'),
     Place("c/include/port1.h", r"^#define PORT1_VERSION_MAJOR (\d+)$", 1),
     Place("c/include/port1.h", r"^#define PORT1_VERSION_MINOR (\d+)$", 1, 1),

@@ -1,8 +1,8 @@
 """Compares c/include/port1.h with the declarations of crates/port1_c/src, which it was written after by hand.
 
 What the C library has is read from its sources in Rattle: the structs with `repr(C)`, the numbers of statuses, kinds
-and causes, the exported functions, and of crates/bus_tool the version. The offsets and sizes are worked out here, by
-the rules of `repr(C)`: fields in order, each at the next multiple of its alignment. All of it is compared with the
+and causes, the exported functions, and of crates/bus_arguments the version. The offsets and sizes are worked out here,
+by the rules of `repr(C)`: fields in order, each at the next multiple of its alignment. All of it is compared with the
 text of the header. What a C compiler makes of the header is seen in library.py.
 """
 

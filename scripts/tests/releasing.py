@@ -91,7 +91,7 @@ class Entry(NamedTuple):
 
 def version() -> str:
     """That of the sources, which the program has, too."""
-    return told(["sed", "-n", r's/.*\.version("\(.*\)").*/\1/p', TOP / "crates/bus_tool/src/arguments.rt"]).strip()
+    return told(["sed", "-n", r's/.*\.version("\(.*\)").*/\1/p', TOP / "crates/bus_arguments/src/arguments.rt"]).strip()
 
 
 def git(folder: Path, *words: str) -> str:
@@ -208,8 +208,8 @@ def files_of(package: Path) -> Dict[str, Entry]:
 
 
 def one_version(folder: Path) -> List[str]:
-    """What is installed has the version of crates/bus_tool/src/arguments.rt, and so has the program, and each file that
-    packages/version knows."""
+    """What is installed has the version of crates/bus_arguments/src/arguments.rt, and so has the program, and each file
+    that packages/version knows."""
     needs("make")
     wanted = version()
     installing.made("install", [f"PREFIX={folder}"], folder)

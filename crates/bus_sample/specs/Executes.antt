@@ -5,7 +5,7 @@ use Rattle.bus_tap.specs.declared.facts.TapFacts.{TapFacts}
 use Rattle.bus_sample.specs.Facts.{facts_text}
 use Rattle.bus_sample.specs.Looks.{LooksBy}
 use Rattle.bus_sample.specs.Samples.{SamplesBy}
-use Rattle.bus_sample.specs.declared.arguments.Request.{Request}
+use Rattle.bus_sample.specs.declared.request.Request.{Request}
 use Rattle.bus_sample.specs.declared.fault.SampleFault.{SampleFault}
 
 -- the status, and what went to the second writer: of a run without a fault the facts where they are to be told, and

@@ -2,7 +2,6 @@
 //! the order in which they arrive.
 #![tactic(auto)]
 
-mod arguments;
 mod facts;
 mod fault;
 pub mod laws;
@@ -11,10 +10,12 @@ mod octets;
 mod options;
 mod program;
 mod reader;
+mod request;
 mod sample;
 
 pub use facts::put_facts;
 pub use fault::SampleFault;
 pub use options::{Form, SampleOptions};
-pub use program::run;
+pub use program::execute;
+pub use request::Request;
 pub use sample::sample_recording;

@@ -8,8 +8,8 @@ use Rattle.bus_text.specs.declared.fault.ToolFault.{ToolFault}
 use Rattle.bus_calls.specs.Lists.{Lists}
 use Rattle.bus_calls.specs.Checks.{Checks}
 use Rattle.bus_calls.specs.Encodes.{Encodes}
-use Rattle.bus_tool.specs.declared.request.Request.{Request}
-use Rattle.bus_tool.specs.declared.request.Request.TheVariants as request
+use Rattle.bus_arguments.specs.declared.request.Request.{Request}
+use Rattle.bus_arguments.specs.declared.request.Request.TheVariants as request
 
 -- nothing was damaged, overlong, missing, spoilt or late
 abbrev pub IsFaultless : Summary → Type 0
@@ -39,10 +39,3 @@ Executes (request.Show dictionary hex) before after start now status =
 Executes (request.Encode reads) before after start now status =
     (xs : List ℕ) × (answer : Result (Unit {0}) ToolFault) × Consumes before after xs
     × Encodes reads after start now xs answer × IsStatus answer status
-
--- how often it grants a call of the reader, where it reads
-abbrev pub AllowsReads : ℕ → Request → Type 0
-AllowsReads reads (request.List o) = o.reads ≡ reads
-AllowsReads reads (request.Check o) = o.reads ≡ reads
-AllowsReads reads (request.Show dictionary hex) = Unit {0}
-AllowsReads reads (request.Encode granted) = granted ≡ reads

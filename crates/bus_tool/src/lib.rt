@@ -1,9 +1,7 @@
 //! The public calls of the tool, and the program `port1`.
 #![tactic(auto)]
 
-mod arguments;
 mod program;
-mod request;
 mod statuses;
 
 pub use bus_calls::{check_capture, encode_frames, list_capture};

@@ -1,12 +1,12 @@
 //! The program.
 
 ghost use Rattle.std.specs.Prelude.{◌≡◌, ◌≢◌, ◌≤◌, ◌^◌, ◌⊎◌};
-ghost use Rattle.bus_tool.specs.Executes.{AllowsReads, Executes};
-ghost use Rattle.bus_tool.specs.declared.request.Request.{Request};
+ghost use Rattle.bus_arguments.specs.Reads.{AllowsReads};
+ghost use Rattle.bus_arguments.specs.declared.request.Request.{Request};
+ghost use Rattle.bus_tool.specs.Executes.{Executes};
 
-use crate::arguments::{Refusal, read_arguments};
-use crate::request::Request;
 use crate::statuses::{FAULT, fail, status, verdict};
+use bus_arguments::{Refusal, Request, read_arguments};
 use bus_calls::{check_capture, encode_frames, list_capture};
 use bus_text::{ToolFault, put_text, show_frame};
 use clap::Error;

@@ -2,7 +2,7 @@
 
 use crate::expect::same;
 use crate::fakes::{Narrow, Pieces};
-use bus_sample::run;
+use bus_sample_tool::run;
 use std::alloc::Global;
 use std::process::Abort;
 

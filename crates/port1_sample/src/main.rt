@@ -1,7 +1,7 @@
 //! The program `port1-sample`: takes the bits of the Port 1 bus from a recording on standard input.
 #![tactic(auto)]
 
-use bus_sample::run;
+use bus_sample_tool::run;
 use std::io::{ErrorKind, Write};
 use std::process::ExitCode;
 use std::{env, io};

@@ -1,13 +1,15 @@
 //! The command line.
 
 ghost use Rattle.std.specs.Prelude.{◌≡◌, ◌^◌, IfOk};
-ghost use Rattle.bus_tool.specs.Executes.{AllowsReads};
+ghost use Rattle.bus_arguments.specs.Reads.{AllowsReads};
 
 mod help;
+mod rows;
 
 use crate::request::Request;
+use crate::table::with_arguments;
 use bus_text::{Kind, Options};
-use clap::{Arg, ArgAction, ArgMatches, Command, Error, value_parser};
+use clap::{ArgMatches, Command, Error};
 use std::alloc::Global;
 
 /// How often a reader is called at most.
@@ -31,136 +33,27 @@ pub enum Refusal {
     Kind,
 }
 
-fn dictionary_arg<'a>(alloc: Global) -> Arg<'a> {
-    Arg::new(alloc, "dict")
-        .long("dict")
-        .value_name("TEXT")
-        .action(ArgAction::Set)
-        .help("The text of a dictionary, not the path of its file: write \"$(cat FILE)\"")
-}
-
-fn origin_arg<'a>(alloc: Global) -> Arg<'a> {
-    Arg::new(alloc, "origin")
-        .long("origin")
-        .value_name("N")
-        .action(ArgAction::Set)
-        .value_parser(value_parser!(u64).range(0..=1 << 60))
-        .default_value("0")
-        .help("The place of the first bit, 0 to 2^60; places count from it")
-}
-
-fn bits_arg<'a>(alloc: Global) -> Arg<'a> {
-    Arg::new(alloc, "bits")
-        .long("bits")
-        .action(ArgAction::SetTrue)
-        .help("The capture is text; without this it is packed")
-}
-
-fn two_arg<'a>(alloc: Global) -> Arg<'a> {
-    Arg::new(alloc, "two")
-        .long("two")
-        .action(ArgAction::SetTrue)
-        .help("The capture is of two lines; without this it is of one")
-}
-
-fn arrivals_arg<'a>(alloc: Global) -> Result<Arg<'a>, Error> {
-    Ok(
-        Arg::new(alloc, "arrivals")
-            .long("arrivals")
-            .action(ArgAction::SetTrue)
-            .help("The capture has the bits of two lines with a clock each, as they arrived")
-            .conflicts_with("two")?,
-    )
-}
-
-fn rest_arg<'a>(alloc: Global) -> Arg<'a> {
-    Arg::new(alloc, "rest")
-        .long("rest")
-        .value_name("N")
-        .action(ArgAction::Set)
-        .value_parser(value_parser!(u64))
-        .default_value("400")
-        .help("With --arrivals, the silence after which the second line rests")
-}
-
-fn depth_arg<'a>(alloc: Global) -> Arg<'a> {
-    Arg::new(alloc, "depth")
-        .long("depth")
-        .value_name("N")
-        .action(ArgAction::Set)
-        .value_parser(value_parser!(usize).range(1..=1024))
-        .default_value("16")
-        .help("How many of the last frames are shown, 1 to 1024")
-}
-
-/// An argument that is an octet, as a number.
-fn octet_arg<'a>(alloc: Global, name: &'a str, help: &'a str) -> Arg<'a> {
-    Arg::new(alloc, name)
-        .long(name)
-        .value_name("N")
-        .action(ArgAction::Set)
-        .value_parser(value_parser!(u8))
-        .help(help)
-}
-
-fn kind_arg<'a>(alloc: Global) -> Arg<'a> {
-    Arg::new(alloc, "kind")
-        .long("kind")
-        .value_name("K")
-        .action(ArgAction::Set)
-        .help(help::KIND)
-}
-
-fn hex_arg<'a>(alloc: Global) -> Arg<'a> {
-    Arg::new(alloc, "hex")
-        .value_name("HEX")
-        .required(true)
-        .action(ArgAction::Set)
-        .help("The octets of the frame, its check among them, two digits each")
-}
-
 fn list_command<'a>(alloc: Global) -> Result<Command<'a>, Error> {
-    Ok(
-        Command::new(alloc, "list")
-            .about("Lists what is on the line, from a capture on standard input")
-            .override_usage("port1 list [OPTIONS] < CAPTURE")
-            .arg(dictionary_arg(alloc))?
-            .arg(origin_arg(alloc))?
-            .arg(bits_arg(alloc))?
-            .arg(two_arg(alloc))?
-            .arg(arrivals_arg(alloc)?)?
-            .arg(rest_arg(alloc))?
-            .arg(octet_arg(alloc, "station", "Only lines of this station, 0 to 255"))?
-            .arg(octet_arg(alloc, "type", "Only lines of this frame type, 0 to 255"))?
-            .arg(kind_arg(alloc))?
-            .after_help(help::LIST),
-    )
+    let command = Command::new(alloc, "list")
+        .about("Lists what is on the line, from a capture on standard input")
+        .override_usage("port1 list [OPTIONS] < CAPTURE")
+        .after_help(help::LIST);
+    with_arguments(alloc, command, &rows::LIST)
 }
 
 fn check_command<'a>(alloc: Global) -> Result<Command<'a>, Error> {
-    Ok(
-        Command::new(alloc, "check")
-            .about("Counts what is on the line; the exit status says whether all was well")
-            .override_usage("port1 check [OPTIONS] < CAPTURE")
-            .arg(dictionary_arg(alloc))?
-            .arg(origin_arg(alloc))?
-            .arg(bits_arg(alloc))?
-            .arg(two_arg(alloc))?
-            .arg(arrivals_arg(alloc)?)?
-            .arg(rest_arg(alloc))?
-            .arg(depth_arg(alloc))?
-            .after_help(help::CHECK),
-    )
+    let command = Command::new(alloc, "check")
+        .about("Counts what is on the line; the exit status says whether all was well")
+        .override_usage("port1 check [OPTIONS] < CAPTURE")
+        .after_help(help::CHECK);
+    with_arguments(alloc, command, &rows::CHECK)
 }
 
 fn show_command<'a>(alloc: Global) -> Result<Command<'a>, Error> {
-    Ok(
-        Command::new(alloc, "show")
-            .about("Shows what one frame is")
-            .arg(dictionary_arg(alloc))?
-            .arg(hex_arg(alloc))?
-            .after_help(help::SHOW),
-    )
+    let command = Command::new(alloc, "show")
+        .about("Shows what one frame is")
+        .after_help(help::SHOW);
+    with_arguments(alloc, command, &rows::SHOW)
 }
 
 fn encode_command<'a>(alloc: Global) -> Command<'a> {

@@ -2,9 +2,10 @@
 
 ghost use Rattle.std.specs.Prelude.{◌≡◌, ◌^◌, IfOk};
 
-use crate::options::{Form, SampleOptions};
+use bus_arguments::table::{ArgumentRow, FLAG, NUMBER, Takes, with_arguments};
+use bus_sample::{Form, Request, SampleOptions};
 use bus_tap::{Wire, Wires};
-use clap::{Arg, ArgAction, ArgMatches, Command, Error, value_parser};
+use clap::{ArgMatches, Command, Error};
 use std::alloc::Global;
 
 /// How often a reader is called at most.
@@ -44,71 +45,113 @@ pub enum Refusal {
     Bit(u8),
 }
 
-/// What is asked for.
-#[derive(Clone, Copy)]
-pub struct Request {
-    pub options: SampleOptions,
-    /// Whether facts are told.
-    pub tells_facts: bool,
-}
+/// A word that is the number of a bit of a sample.
+const WIRE: ArgumentRow = ArgumentRow {
+    is_positional: true,
+    takes: Takes::Number(0, 63),
+    ..FLAG
+};
 
-fn wire_arg<'a>(alloc: Global, name: &'a str, value: &'a str, help: &'a str) -> Arg<'a> {
-    Arg::new(alloc, name)
-        .value_name(value)
-        .action(ArgAction::Set)
-        .value_parser(value_parser!(u8).range(0..=63))
-        .help(help)
-}
-
-fn flag<'a>(alloc: Global, name: &'a str, help: &'a str) -> Arg<'a> {
-    Arg::new(alloc, name)
-        .long(name)
-        .action(ArgAction::SetTrue)
-        .help(help)
-}
-
-fn number<'a>(alloc: Global, name: &'a str, default: &'a str, help: &'a str) -> Arg<'a> {
-    Arg::new(alloc, name)
-        .long(name)
-        .value_name("N")
-        .action(ArgAction::Set)
-        .default_value(default)
-        .help(help)
-}
+/// The options of the recording and of its facts.
+const RECORDING: [ArgumentRow; 5] = [
+    ArgumentRow {
+        name: "octets",
+        takes: Takes::Number(1, 8),
+        defaults: &["1"],
+        help: "A sample has N octets, the lowest first, 1 to 8",
+        ..NUMBER
+    },
+    ArgumentRow {
+        name: "runs",
+        conflicts: &["octets"],
+        help: "Records of 8 octets: levels in the lowest, then how many samples they stand",
+        ..FLAG
+    },
+    ArgumentRow {
+        name: "jump",
+        defaults: &["2"],
+        help: "With --facts, a jump is more than N samples",
+        ..NUMBER
+    },
+    ArgumentRow {
+        name: "facts",
+        help: "Writes to standard error, at the end, what is counted in the samples",
+        ..FLAG
+    },
+    ArgumentRow {
+        name: "live",
+        needs: &["facts"],
+        help: "With --facts, writes it after each read of the input, too",
+        ..FLAG
+    },
+];
 
 /// The words for the wires.
-fn with_wires<'a>(alloc: Global, command: Command<'a>) -> Result<Command<'a>, Error> {
-    Ok(
-        command
-            .arg(wire_arg(alloc, "txc", "TXC", "The controller's clock").required(true))?
-            .arg(wire_arg(alloc, "txd", "TXD", "The controller's data").required(true))?
-            .arg(wire_arg(alloc, "rxc", "RXC", "The stations' clock").requires_arg("rxd")?)?
-            .arg(wire_arg(alloc, "rxd", "RXD", "The stations' data"))?,
-    )
-}
+const WIRES: [ArgumentRow; 4] = [
+    ArgumentRow {
+        name: "txc",
+        is_required: true,
+        values: &["TXC"],
+        help: "The controller's clock",
+        ..WIRE
+    },
+    ArgumentRow {
+        name: "txd",
+        is_required: true,
+        values: &["TXD"],
+        help: "The controller's data",
+        ..WIRE
+    },
+    ArgumentRow {
+        name: "rxc",
+        values: &["RXC"],
+        needs: &["rxd"],
+        help: "The stations' clock",
+        ..WIRE
+    },
+    ArgumentRow {
+        name: "rxd",
+        values: &["RXD"],
+        help: "The stations' data",
+        ..WIRE
+    },
+];
 
 /// The options that say how levels are taken.
-fn with_levels<'a>(alloc: Global, command: Command<'a>) -> Result<Command<'a>, Error> {
-    Ok(
-        command
-            .arg(number(
-                alloc,
-                "hold",
-                "1",
-                "A level counts once it stood in N + 1 samples",
-            )
-            .value_parser(value_parser!(u32).range(0..=65535)))?
-            .arg(flag(alloc, "falling", "Bits are taken where clocks fall"))?
-            .arg(flag(
-                alloc,
-                "invert-txc",
-                "TXC is inverted: its wires are exchanged",
-            ))?
-            .arg(flag(alloc, "invert-txd", "TXD is inverted"))?
-            .arg(flag(alloc, "invert-rxc", "RXC is inverted"))?
-            .arg(flag(alloc, "invert-rxd", "RXD is inverted"))?,
-    )
-}
+const LEVELS: [ArgumentRow; 6] = [
+    ArgumentRow {
+        name: "hold",
+        takes: Takes::Number(0, 65535),
+        defaults: &["1"],
+        help: "A level counts once it stood in N + 1 samples",
+        ..NUMBER
+    },
+    ArgumentRow {
+        name: "falling",
+        help: "Bits are taken where clocks fall",
+        ..FLAG
+    },
+    ArgumentRow {
+        name: "invert-txc",
+        help: "TXC is inverted: its wires are exchanged",
+        ..FLAG
+    },
+    ArgumentRow {
+        name: "invert-txd",
+        help: "TXD is inverted",
+        ..FLAG
+    },
+    ArgumentRow {
+        name: "invert-rxc",
+        help: "RXC is inverted",
+        ..FLAG
+    },
+    ArgumentRow {
+        name: "invert-rxd",
+        help: "RXD is inverted",
+        ..FLAG
+    },
+];
 
 fn whole_command<'a>(alloc: Global) -> Result<Command<'a>, Error> {
     let command = Command::new(alloc, "port1-sample")
@@ -117,39 +160,10 @@ fn whole_command<'a>(alloc: Global) -> Result<Command<'a>, Error> {
         .about("Takes the bits of the Port 1 bus from the samples of a logic analyser")
         .override_usage("port1-sample [OPTIONS] TXC TXD [RXC RXD] < SAMPLES")
         .after_help(AFTER)
-        .no_binary_name(true)
-        .arg(number(
-            alloc,
-            "octets",
-            "1",
-            "A sample has N octets, the lowest first, 1 to 8",
-        )
-        .value_parser(value_parser!(u8).range(1..=8)))?
-        .arg(flag(
-            alloc,
-            "runs",
-            "Records of 8 octets: levels in the lowest, then how many samples they stand",
-        )
-        .conflicts_with("octets")?)?
-        .arg(number(
-            alloc,
-            "jump",
-            "2",
-            "With --facts, a jump is more than N samples",
-        )
-        .value_parser(value_parser!(u64)))?
-        .arg(flag(
-            alloc,
-            "facts",
-            "Writes to standard error, at the end, what is counted in the samples",
-        ))?
-        .arg(flag(
-            alloc,
-            "live",
-            "With --facts, writes it after each read of the input, too",
-        )
-        .requires_arg("facts")?)?;
-    with_levels(alloc, with_wires(alloc, command)?)
+        .no_binary_name(true);
+    let command = with_arguments(alloc, command, &RECORDING)?;
+    let command = with_arguments(alloc, command, &WIRES)?;
+    with_arguments(alloc, command, &LEVELS)
 }
 
 /// A wire by its word, if there is one.

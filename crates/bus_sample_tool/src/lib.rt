@@ -1,0 +1,7 @@
+//! The program port1-sample, by its words.
+#![tactic(auto)]
+
+mod arguments;
+mod program;
+
+pub use program::run;
