@@ -1,12 +1,11 @@
 //! Long lists of random traffic on two lines by calls of every kind and size.
 
 use super::every_list::{differing_place, reports, side_of, tells};
-use super::{
-    PairCollector, TwoLines, feed, new_analyser, pairs_of, push_seen_on, read, scan_some, two_lines,
-};
+use super::{PairCollector, TwoLines, feed, new_analyser, pairs_of, read, scan_some, two_lines};
 use crate::expect::{holds, same};
 use bus_fcs::OctetCheck;
 use bus_rows::CALLS;
+use bus_seen::push_seen_on;
 use bus_watch::{Line, PairAnalyser, PairEnding, PairUsage};
 use std::alloc::Global;
 use std::process::Abort;

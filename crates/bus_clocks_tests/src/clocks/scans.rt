@@ -2,10 +2,10 @@
 
 use super::{CALLS, bits_of, push_bits, pushed};
 use crate::expect::{holds, same};
-use crate::pairs::Writing;
 use bus_clocks::{Arrival, TwoClockAnalyser};
 use bus_dictionary::Dictionary;
 use bus_fcs::OctetCheck;
+use bus_seen::Writing;
 use bus_watch::Line;
 use std::alloc::Global;
 use std::process::Abort;
