@@ -78,7 +78,7 @@ def functions_of(text: str) -> Iterator[Tuple[str, str, bool, List[str]]]:
 def clauses_of_crate(crates: Path, crate: str, names: Set[str], modules: Set[str]) -> Iterator[Clause]:
     """The clauses of all functions that are handed on: of a type or trait by that, else by their own names."""
     for path in sorted((crates / crate / "src").rglob("*.rt")):
-        if "tests" in path.parts:
+        if "tests" in path.relative_to(crates).parts:
             continue
         file = str(path.relative_to(crates))
         for block, function, is_open, clauses in functions_of(path.read_text(encoding="utf-8")):

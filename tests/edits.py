@@ -7,7 +7,8 @@ An edit may name a test that tells it from the right body, in a comment, which `
 
     # told-by: CRATE TEST
 
-TEST is the path of a test of that crate, as `line::scans::scans`. Or it names a command whose output, fault or status
+TEST is the path of a test of that crate, as `line::scans::scans`, or CRATE is a file of tests in C and TEST one of
+these, as `c/tests/worked.c verdicts`. Or it names a command whose output, fault or status
 it changes:
 
     # shown-by: port1 list --dict "$(cat examples/call-and-reply.toml)" < examples/one-call.ts2
@@ -25,6 +26,8 @@ from pathlib import Path
 from typing import Dict, Iterable, Iterator, List, NamedTuple, Optional, Set, Tuple
 
 TOLD_BY = re.compile(r"^# told-by: (\w+) ([\w:]+)$", re.MULTILINE)
+
+TOLD_IN_C = re.compile(r"^# told-by: (c/tests/\w+\.c) (\w+)$", re.MULTILINE)
 
 REFUSED_BY = "# refused-by: "
 
@@ -151,6 +154,11 @@ def tests_told(text: str) -> List[Test]:
     return [Test(*match) for match in TOLD_BY.findall(text)]
 
 
+def told_in_c(text: str) -> List[str]:
+    """The tests in C that an edit names, each a file and a name."""
+    return [" ".join(match) for match in TOLD_IN_C.findall(text)]
+
+
 def word_of(word: str, top: Path) -> str:
     """A word, or the text of the file that it names, or the lines that it has."""
     lines = re.fullmatch(r"\$\(printf '([^'%]*)'\)", word)
@@ -189,3 +197,7 @@ def unknown_tests(crates: Path, tests: Dict[str, Set[str]]) -> Iterator[str]:
         for test in tests_told(edit.text):
             if test not in every:
                 yield f"{edit.name}: no test {test.crate} {test.path}"
+        for told in told_in_c(edit.text):
+            file, _, name = told.partition(" ")
+            if name not in tests.get(file, set()):
+                yield f"{edit.name}: no test {told}"

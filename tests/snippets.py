@@ -2,7 +2,7 @@
 
 A document shows code between a line of three backquotes with `rust` and one without. Each paragraph of it
 has to stand in a source of the crate, line by line, but for indentation and the contracts. The sizes in
-docs/RATTLE.md have to be those that a test of the crate compares.
+docs/RATTLE.md have to be those that a test of the examples compares.
 """
 
 import re
@@ -12,6 +12,8 @@ from typing import Iterator, List, Tuple
 TOP = Path(__file__).resolve().parent.parent
 
 SOURCES = TOP / "crates" / "bus_examples" / "src"
+
+TESTS = TOP / "crates" / "bus_examples_tests" / "src" / "examples.rt"
 
 # The document with the sizes of types.
 SIZES = "docs/RATTLE.md"
@@ -53,7 +55,7 @@ def paragraphs_of(document: str) -> List[str]:
 def problems_of_sizes() -> Iterator[str]:
     """What the document says of sizes and no test compares, and what a test compares and the document lacks."""
     stated = set(STATED_SIZE.findall((TOP / SIZES).read_text(encoding="utf-8")))
-    tested = set(TESTED_SIZE.findall((SOURCES / "tests.rt").read_text(encoding="utf-8")))
+    tested = set(TESTED_SIZE.findall(TESTS.read_text(encoding="utf-8")))
     if not tested:
         yield "no test compares a size"
     for name, octets in sorted(stated ^ tested):

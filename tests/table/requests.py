@@ -10,6 +10,7 @@ from typing import Optional
 LINE = "bus_line_tests"
 DICTIONARIES = "bus_dictionary_tests"
 WATCH = "bus_watch_tests"
+PAIRS = "bus_pairs_tests"
 TOOL = "bus_tool_tests"
 
 
@@ -64,10 +65,10 @@ ASKING = [
     # two, each of which then takes 2^20 bits of one piece
     Asking(WATCH, "watch::limits::refused_memory", 2, dictionaries=2),
     # six of two lines, of three depths
-    Asking(WATCH, "pairs::memory::one_request", 6),
-    Asking(WATCH, "pairs::memory::made", 1, dictionaries=1, tries_again=True),
-    Asking(WATCH, "pairs::memory::many_pairs", 1, dictionaries=1, tries_again=True),
-    Asking(WATCH, "pairs::memory::refused_memory", 1, dictionaries=1),
+    Asking(PAIRS, "pairs::memory::one_request", 6),
+    Asking(PAIRS, "pairs::memory::made", 1, dictionaries=1, tries_again=True),
+    Asking(PAIRS, "pairs::memory::many_pairs", 1, dictionaries=1, tries_again=True),
+    Asking(PAIRS, "pairs::memory::refused_memory", 1, dictionaries=1),
     Asking(TOOL, "encodes::takes_no_memory", 0),
     Asking(TOOL, "shows::takes_no_memory", 0),
     Asking(TOOL, "shows::refused_memory"),

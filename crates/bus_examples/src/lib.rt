@@ -15,6 +15,3 @@ pub use pairing::{PairFault, Received, pair_reports};
 pub use reading::asks_for_answer;
 pub use sending::{FrameBits, frame_bits};
 pub use watching::{WatchFault, watch};
-
-#[cfg(test)]
-mod tests;

@@ -1,13 +1,15 @@
-//! What the tests of several crates share: dictionaries' texts, worked lists as words, and the bits of words. Nothing
-//! of what is tested is in it, so that it is proved beside that.
+//! What the tests of several crates share: dictionaries' texts, worked lists as words, the bits of words, and numbers
+//! that look random. Nothing of what is tested is in it, so that it is proved beside that.
 #![tactic(auto)]
 
 mod dictionaries;
+mod numbers;
 mod round;
 mod table;
 mod words;
 
 pub use dictionaries::{CALLS, POLLS, WITHIN};
+pub use numbers::{next_number, number_after};
 pub use round::{DAMAGED, ROUND_BITS, ROUND_OCTETS, ROUNDS, round_octets, round_of, round_pairs};
 pub use table::{DAMAGE, FRAMES, Row, row_of};
 pub use words::{FAR, bits_of, bits_of_pattern, joined, octets_of, pairs_of};

@@ -45,6 +45,3 @@ pub use sender::Port1Sender;
 pub use tap::Port1Tap;
 pub use tapping::{port1_tap_feed, port1_tap_init, port1_tap_push};
 pub use wires::{Port1Wire, Port1Wires};
-
-#[cfg(test)]
-mod tests;

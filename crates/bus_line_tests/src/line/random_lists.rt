@@ -5,6 +5,7 @@ use crate::expect::holds;
 use bus_bits::Spent;
 use bus_fcs::OctetCheck;
 use bus_line::{LineDecoder, OwnedPiece, reports_whole};
+use bus_rows::number_after;
 use std::alloc::Global;
 use std::process::Abort;
 
@@ -53,9 +54,7 @@ pub(super) fn traffic(rt: &impl Abort, alloc: Global, seed: u64) -> Vec<bool> {
         if bits.len() >= BITS {
             break;
         }
-        state = state
-            .wrapping_mul(6364136223846793005)
-            .wrapping_add(1442695040888963407);
+        state = number_after(state);
         let part = PARTS[(state >> 60) as usize % PARTS.len()];
         let most = (state >> 40) as usize % 80;
         for bit in bits_of(rt, alloc, part).iter().take(most) {

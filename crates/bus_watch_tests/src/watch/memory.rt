@@ -3,14 +3,12 @@
 
 use super::limits::analyser_of;
 use crate::expect::{holds, same};
-use crate::seen::calls_if_memory;
 use bus_dictionary::Dictionary;
 use bus_fcs::{BitCheck, Check, OctetCheck};
 use bus_line::Span;
 use bus_rows::{CALLS, DAMAGED, ROUND_BITS, ROUND_OCTETS, ROUNDS, round_octets, round_of};
-use bus_watch::{
-    Analyser, Counts, Finding, Line, NewFault, ReportObserver, ReportSink, Seen, SinkRefused,
-};
+use bus_seen::{Counting, calls_if_memory};
+use bus_watch::{Analyser, Counts, NewFault, ReportSink, Seen, SinkRefused};
 use std::alloc::Global;
 use std::process::Abort;
 
@@ -133,33 +131,6 @@ fn push_round(rt: &impl Abort, analyser: &mut Analyser<OctetCheck>, bits: &[bool
     for bit in bits {
         let _ = analyser.push(*bit).expect(rt, "a place");
     }
-}
-
-/// An observer that counts the reports, in no memory.
-#[derive(Drop)]
-struct Counting;
-
-impl ReportObserver<u64> for Counting {
-    ghost observes = { λ d l before seen m behind. Unit {0} };
-
-    ghost has_room = { λ l more. Unit {0} };
-
-    fn observe(
-        &mut self,
-        _line: Option<Line>,
-        _finding: &Finding,
-        _octets: &[u8],
-        _dictionary: &Dictionary,
-        count: &mut u64,
-    ) {
-        *count = count.saturating_add(1);
-    }
-
-    ghost observes_none = { λ d l count. tt };
-
-    ghost observes_more = { λ d k l m before between behind seen more told further. tt };
-
-    ghost has_less = { λ l more less fewer room. tt };
 }
 
 fn scan_round(

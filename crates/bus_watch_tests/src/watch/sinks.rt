@@ -2,10 +2,10 @@
 
 use super::{bits_of, new_analyser, read};
 use crate::expect::{holds, same};
-use crate::seen::{NONE, push_seen};
 use bus_dictionary::Dictionary;
 use bus_fcs::{BitCheck, Check, OctetCheck};
 use bus_rows::{CALLS, joined};
+use bus_seen::{NONE, push_seen};
 use bus_watch::{
     Analyser, Counts, FeedFault, ReportSink, Run, RunFault, Seen, SinkRefused, run_all,
 };

@@ -2,12 +2,11 @@
 
 use super::{bits_of, new_analyser};
 use crate::expect::same;
-use crate::seen::{push_ending, push_seen};
 use bus_bits::bits_number;
-use bus_dictionary::Dictionary;
 use bus_fcs::Check;
 use bus_rows::row_of;
-use bus_watch::{Analyser, Finding, Line, ReportObserver};
+use bus_seen::{Writing, push_ending, push_seen};
+use bus_watch::Analyser;
 use std::alloc::Global;
 use std::process::Abort;
 
@@ -53,33 +52,6 @@ pub(super) fn pushed<C: Check>(
     }
     push_ending(&mut text, analyser.ending()).expect(rt, "text");
     text
-}
-
-/// An observer that writes what is seen.
-#[derive(Drop)]
-struct Writing;
-
-impl ReportObserver<String> for Writing {
-    ghost observes = { λ d l before seen m behind. Unit {0} };
-
-    ghost has_room = { λ l more. Unit {0} };
-
-    fn observe(
-        &mut self,
-        _line: Option<Line>,
-        finding: &Finding,
-        octets: &[u8],
-        _dictionary: &Dictionary,
-        text: &mut String,
-    ) {
-        let _ = push_seen(text, &finding.with_octets(octets));
-    }
-
-    ghost observes_none = { λ d l text. tt };
-
-    ghost observes_more = { λ d k l m before between behind seen more told further. tt };
-
-    ghost has_less = { λ l more less fewer room. tt };
 }
 
 /// The same where up to `size` bits are scanned with each call.

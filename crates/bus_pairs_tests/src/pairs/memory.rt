@@ -2,15 +2,12 @@
 //! refused in turn, and counts the requests.
 
 use crate::expect::{holds, same};
-use crate::seen::calls_if_memory;
 use bus_dictionary::Dictionary;
 use bus_fcs::{BitCheck, Check, OctetCheck};
 use bus_line::Span;
 use bus_rows::{DAMAGED, ROUND_BITS, ROUNDS, round_octets, round_of, round_pairs};
-use bus_watch::{
-    Counts, Finding, Line, NewFault, PairAnalyser, PairEnding, PairSink, ReportObserver, Seen,
-    SinkRefused,
-};
+use bus_seen::{Counting, calls_if_memory};
+use bus_watch::{Counts, Line, NewFault, PairAnalyser, PairEnding, PairSink, Seen, SinkRefused};
 use std::alloc::Global;
 use std::process::Abort;
 
@@ -133,33 +130,6 @@ fn refused_memory(rt: HostRuntime) {
     if let Some(dictionary) = calls_if_memory(alloc).expect(&rt, "a dictionary") {
         check_memory::<OctetCheck>(&rt, alloc, dictionary, 16);
     }
-}
-
-/// An observer that counts the reports, in no memory.
-#[derive(Drop)]
-pub(super) struct Counting;
-
-impl ReportObserver<u64> for Counting {
-    ghost observes = { λ d l before seen m behind. Unit {0} };
-
-    ghost has_room = { λ l more. Unit {0} };
-
-    fn observe(
-        &mut self,
-        _line: Option<Line>,
-        _finding: &Finding,
-        _octets: &[u8],
-        _dictionary: &Dictionary,
-        count: &mut u64,
-    ) {
-        *count = count.saturating_add(1);
-    }
-
-    ghost observes_none = { λ d l count. tt };
-
-    ghost observes_more = { λ d k l m before between behind seen more told further. tt };
-
-    ghost has_less = { λ l more less fewer room. tt };
 }
 
 /// An analyser of the example, unless memory is refused.

@@ -1,6 +1,7 @@
 //! Samples by 64, beside the same by one.
 
 use crate::expect::{holds, same};
+use bus_rows::next_number;
 use bus_tap::{Edges, Tap, Wire, Wires};
 use std::alloc::Global;
 use std::process::Abort;
@@ -43,14 +44,6 @@ fn wire(told: Option<(u8, bool)>) -> Option<Wire> {
 /// For at most how many samples the wires stand: with 2 there are glitches most of the time.
 const STAND: [usize; 3] = [2, 6, 50];
 
-/// The next of the numbers that begin with a seed.
-fn next(state: &mut u64) -> usize {
-    *state = state
-        .wrapping_mul(6364136223846793005)
-        .wrapping_add(1442695040888963407);
-    (*state >> 40) as usize
-}
-
 /// Octets of which one bit changes after at most so many.
 fn recording(rt: &impl Abort, alloc: Global, stand: usize) -> Vec<u8> {
     let mut samples = Vec::new(alloc);
@@ -59,8 +52,8 @@ fn recording(rt: &impl Abort, alloc: Global, stand: usize) -> Vec<u8> {
     let mut left: usize = 0;
     for _ in 0..SAMPLES {
         if left == 0 {
-            levels ^= 1 << (next(&mut state) % 8);
-            left = 1 + next(&mut state) % stand.max(1);
+            levels ^= 1 << (next_number(&mut state) % 8);
+            left = 1 + next_number(&mut state) % stand.max(1);
         }
         left = left.saturating_sub(1);
         samples.push(levels).expect(rt, "memory");

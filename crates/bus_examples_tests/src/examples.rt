@@ -1,17 +1,17 @@
 //! The examples, on a call, its reply and a notice.
 
-use crate::{
+use crate::expect::{holds, same};
+use arrayvec::ArrayVec;
+use bus_dictionary::Dictionary;
+use bus_examples::{
     PairFault, Received, WatchFault, asks_for_answer, closes_frame_of, count_frames, frame_bits,
     pair_reports, unanswered, watch,
 };
-use arrayvec::ArrayVec;
-use bus_dictionary::Dictionary;
 use bus_fcs::{BitCheck, Check, OctetCheck};
 use bus_line::{Cause, EncodeFault, Event, EventKind, LineDecoder, Span};
 use bus_pairing::{Conversation, Line};
 use bus_watch::{Analyser, FeedFault, LoggedPiece};
 use std::alloc::Global;
-use std::fmt::{Debug, Display};
 use std::process::Abort;
 
 /// Example types only: their numbers and names are made up and stand for no real frame type.
@@ -243,14 +243,4 @@ fn types_that_ask(rt: HostRuntime) {
 fn sizes(rt: HostRuntime) {
     assert_eq!(rt; size_of::<LineDecoder<OctetCheck>>(), 360);
     assert_eq!(rt; size_of::<Analyser<OctetCheck>>(), 10816);
-}
-
-/// Ends the test where it got something else than it wants; the case says what, and of which row.
-fn same<T: PartialEq + Debug + Drop>(rt: &impl Abort, got: T, want: T, case: impl Display + Drop) {
-    assert_eq!(rt; got, want, "{case}");
-}
-
-/// Ends the test where a fact does not hold in this case.
-fn holds(rt: &impl Abort, fact: bool, case: impl Display + Drop) {
-    assert!(rt; fact, "{case}");
 }

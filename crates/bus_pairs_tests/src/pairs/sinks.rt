@@ -2,9 +2,9 @@
 
 use super::{PairCollector, TwoLines, analyser, feed, pushed, two_lines};
 use crate::expect::{holds, same};
-use crate::seen::NONE;
 use bus_fcs::{BitCheck, Check, OctetCheck};
 use bus_rows::joined;
+use bus_seen::NONE;
 use bus_watch::{Counts, FeedFault, PairAnalyser, PairSink};
 use std::alloc::Global;
 use std::fmt::Display;

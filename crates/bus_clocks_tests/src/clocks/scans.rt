@@ -2,10 +2,11 @@
 
 use super::{CALLS, bits_of, push_bits, pushed};
 use crate::expect::{holds, same};
-use crate::pairs::Writing;
 use bus_clocks::{Arrival, TwoClockAnalyser};
 use bus_dictionary::Dictionary;
 use bus_fcs::OctetCheck;
+use bus_rows::next_number;
+use bus_seen::Writing;
 use bus_watch::Line;
 use std::alloc::Global;
 use std::process::Abort;
@@ -25,14 +26,6 @@ const PARTS: [&str; 8] = [
     "0110100101110100110010110",
 ];
 
-/// The next of the numbers that begin with a seed.
-fn next(state: &mut u64) -> usize {
-    *state = state
-        .wrapping_mul(6364136223846793005)
-        .wrapping_add(1442695040888963407);
-    (*state >> 40) as usize
-}
-
 /// Parts and beginnings of parts of either line, as their clocks may bring them; the same seed gives the same list.
 pub(super) fn traffic(rt: &impl Abort, alloc: Global, seed: u64) -> Vec<Arrival> {
     let mut arrivals = Vec::new(alloc);
@@ -41,12 +34,12 @@ pub(super) fn traffic(rt: &impl Abort, alloc: Global, seed: u64) -> Vec<Arrival>
         if arrivals.len() >= ARRIVALS {
             break;
         }
-        let first = bits_of(rt, alloc, PARTS[next(&mut state) % 8]);
-        let second = bits_of(rt, alloc, PARTS[next(&mut state) % 8]);
+        let first = bits_of(rt, alloc, PARTS[next_number(&mut state) % 8]);
+        let second = bits_of(rt, alloc, PARTS[next_number(&mut state) % 8]);
         let mut first: &[bool] = &first;
         let mut second: &[bool] = &second;
-        let (one, other) = (next(&mut state) % 4, next(&mut state) % 4);
-        for _ in 0..next(&mut state) % 100 {
+        let (one, other) = (next_number(&mut state) % 4, next_number(&mut state) % 4);
+        for _ in 0..next_number(&mut state) % 100 {
             first = push_bits(&mut arrivals, Line::First, first, one).expect(rt, "memory");
             second = push_bits(&mut arrivals, Line::Second, second, other).expect(rt, "memory");
         }

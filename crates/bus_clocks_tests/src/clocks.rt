@@ -9,11 +9,11 @@ mod samples;
 mod scans;
 
 use crate::expect::{holds, same};
-use crate::seen::{NONE, push_seen};
 use bus_bits::Span;
 use bus_clocks::{Arrival, TwoClockAnalyser};
 use bus_dictionary::Dictionary;
 use bus_fcs::{BitCheck, Check, OctetCheck};
+use bus_seen::{NONE, push_seen_on};
 use bus_watch::{
     Counts, FeedFault, Line, PairEnding, PairSink, PairUsage, Pending, Seen, SinkRefused,
 };
@@ -246,15 +246,6 @@ fn arrivals_in(
 fn analyser<C: Check>(rt: &impl Abort, alloc: Global) -> TwoClockAnalyser<C> {
     let dictionary = Dictionary::read(alloc, CALLS).expect(rt, "a dictionary");
     TwoClockAnalyser::new(alloc, dictionary, 2, 0).expect(rt, "an analyser")
-}
-
-/// What is seen on a line, after what the text has.
-fn push_seen_on(text: &mut String, line: Line, seen: &Seen<'_>) -> Result<(), AllocError> {
-    push_seen(text, seen)?;
-    text.push_str(match line {
-        Line::First => " on 1",
-        Line::Second => " on 2",
-    })
 }
 
 /// A bit is pushed, and what is seen at it comes after what the text has.

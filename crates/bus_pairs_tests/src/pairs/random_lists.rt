@@ -1,12 +1,11 @@
 //! Long lists of random traffic on two lines by calls of every kind and size.
 
 use super::every_list::{differing_place, reports, side_of, tells};
-use super::{
-    PairCollector, TwoLines, feed, new_analyser, pairs_of, push_seen_on, read, scan_some, two_lines,
-};
+use super::{PairCollector, TwoLines, feed, new_analyser, pairs_of, read, scan_some, two_lines};
 use crate::expect::{holds, same};
 use bus_fcs::OctetCheck;
-use bus_rows::CALLS;
+use bus_rows::{CALLS, number_after};
+use bus_seen::push_seen_on;
 use bus_watch::{Line, PairAnalyser, PairEnding, PairUsage};
 use std::alloc::Global;
 use std::process::Abort;
@@ -104,9 +103,7 @@ fn traffic(rt: &impl Abort, alloc: Global, seed: u64) -> TwoLines {
         if room == 0 {
             break;
         }
-        state = state
-            .wrapping_mul(6364136223846793005)
-            .wrapping_add(1442695040888963407);
+        state = number_after(state);
         let part = &PARTS[(state >> 48) as usize % PARTS.len()];
         let rest = (state >> 45) % 2 == 1;
         let part = two_lines(rt, alloc, part.first, part.second, rest);

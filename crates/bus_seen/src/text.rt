@@ -2,7 +2,7 @@
 
 use bus_dictionary::Standing;
 use bus_line::{Cause, Piece, Span};
-use bus_pairing::{Ending, Outcome, Seen, Verdict};
+use bus_pairing::{Ending, Line, Outcome, Seen, Verdict};
 use std::alloc::{AllocError, Global};
 
 fn outcome_word(outcome: Outcome) -> &'static str {
@@ -103,4 +103,13 @@ pub fn push_seen(text: &mut String, seen: &Seen) -> Result<(), AllocError> {
         text.push_str(", stray")?;
     }
     Ok(())
+}
+
+/// What is seen on a line, after what the text has.
+pub fn push_seen_on(text: &mut String, line: Line, seen: &Seen<'_>) -> Result<(), AllocError> {
+    push_seen(text, seen)?;
+    text.push_str(match line {
+        Line::First => " on 1",
+        Line::Second => " on 2",
+    })
 }

@@ -10,16 +10,16 @@ mod runs;
 mod sinks;
 
 use crate::expect::{holds, same};
-use crate::seen::{NONE, push_ending, push_seen};
 use bus_bits::{Span, bits_number};
 use bus_dictionary::Dictionary;
 use bus_fcs::{BitCheck, Check, OctetCheck};
 use bus_rows::{CALLS, DAMAGE, FRAMES, row_of};
+use bus_seen::{NONE, Writing, push_ending, push_seen, push_seen_on};
 use bus_watch::{
-    Counts, Ending, FeedFault, Finding, Line, PairAnalyser, PairEnding, PairSink, PairUsage,
-    Pending, ReportObserver, Seen, SinkRefused,
+    Counts, Ending, FeedFault, Line, PairAnalyser, PairEnding, PairSink, PairUsage, Pending, Seen,
+    SinkRefused,
 };
-use std::alloc::{AllocError, Global};
+use std::alloc::Global;
 use std::process::Abort;
 
 /// The dictionary of a text.
@@ -182,15 +182,6 @@ impl PairCollector {
     }
 }
 
-/// What is seen on a line, after what the text has.
-fn push_seen_on(text: &mut String, line: Line, seen: &Seen<'_>) -> Result<(), AllocError> {
-    push_seen(text, seen)?;
-    text.push_str(match line {
-        Line::First => " on 1",
-        Line::Second => " on 2",
-    })
-}
-
 impl PairSink for PairCollector {
     ghost use Rattle.std.specs.Prelude.{None};
 
@@ -257,35 +248,6 @@ fn pushed<C: Check>(
         }
     }
     text
-}
-
-/// An observer that writes what is seen.
-#[derive(Drop)]
-pub(crate) struct Writing;
-
-impl ReportObserver<String> for Writing {
-    ghost observes = { λ d l before seen m behind. Unit {0} };
-
-    ghost has_room = { λ l more. Unit {0} };
-
-    fn observe(
-        &mut self,
-        line: Option<Line>,
-        finding: &Finding,
-        octets: &[u8],
-        _dictionary: &Dictionary,
-        text: &mut String,
-    ) {
-        if let Some(line) = line {
-            let _ = push_seen_on(text, line, &finding.with_octets(octets));
-        }
-    }
-
-    ghost observes_none = { λ d l text. tt };
-
-    ghost observes_more = { λ d k l m before between behind seen more told further. tt };
-
-    ghost has_less = { λ l more less fewer room. tt };
 }
 
 /// Scans up to `size` of these pairs with one call, and what is seen at them goes after what the text has; how many

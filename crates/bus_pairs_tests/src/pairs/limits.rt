@@ -1,12 +1,12 @@
 //! Steps, history and limits of two lines.
 
-use super::memory::Counting;
 use super::{PairCollector, analyser, feed, pushed, read, two_lines};
 use crate::expect::{holds, same};
 use bus_bits::{Span, Spent};
 use bus_fcs::OctetCheck;
 use bus_line::PlaceLimit;
 use bus_rows::{CALLS, FAR};
+use bus_seen::Counting;
 use bus_watch::{FeedFault, Line, NewFault, PairAnalyser};
 use std::alloc::Global;
 use std::process::Abort;
