@@ -5,6 +5,7 @@ import fcntl
 import os
 import subprocess
 import sys
+from functools import lru_cache
 from pathlib import Path
 from typing import Dict, Iterator, List, Sequence
 
@@ -61,6 +62,28 @@ def are_left_by_gate(top: Path, crates: Sequence[str]) -> bool:
     return not has_stamps and all(is_built(library / "format", top, library.stem) for library in libraries)
 
 
+@lru_cache(maxsize=None)
+def kit() -> Path:
+    """The folder of the toolchain."""
+    page = subprocess.run(["rt", "doc"], stdout=subprocess.PIPE, check=True, text=True).stdout.strip()
+    return Path(page).parent
+
+
+def words_of_rattle(crate: str, top: Path) -> List[str]:
+    """The words after `rattle check` or `rattle build` in the folder of a library, over those below it."""
+    used, below = {"std": kit() / "rlibs" / "std.rlib"}, crates_of(top, crate)[1:]
+    for name in libraries_of(top)[crate]:
+        used[name] = library_of(top, name) if name in below else kit() / "rlibs" / f"{name}.rlib"
+    folders = [kit() / "rlibs", *(library_of(top, name).parent for name in below)]
+    return [
+        "--crate-name", crate, "src/lib.rt",
+        *(word for name, library in used.items() for word in ("--extern", f"{name}={library}")),
+        *(word for folder in folders for word in ("-L", f"dependency={folder}")),
+        "--antt-project", str(kit() / "rattle" / "logic" / "antt-project.json"),
+        "--logic-built", str(kit() / "logic_built"),
+    ]
+
+
 def words_of_archive(archive: Path, top: Path) -> List[str]:
     """The command that builds an archive, crates/NAME/out/FILE, in the crate's folder.
 
@@ -69,24 +92,12 @@ def words_of_archive(archive: Path, top: Path) -> List[str]:
     it proves the crate itself, over the folder in which `rt` keeps such work. As `rt` does, it locks the crate.
     """
     crate = archive.parent.parent.name
-    below = crates_of(top, crate)[1:]
-    if not are_left_by_gate(top, below):
+    if not are_left_by_gate(top, crates_of(top, crate)[1:]):
         return ["rt", "lib"]
-    page = subprocess.run(["rt", "doc"], stdout=subprocess.PIPE, check=True, text=True).stdout.strip()
-    kit = Path(page).parent
-    used = {"std": kit / "rlibs" / "std.rlib"}
-    for name in libraries_of(top)[crate]:
-        used[name] = library_of(top, name) if name in below else kit / "rlibs" / f"{name}.rlib"
-    folders = [kit / "rlibs", *(library_of(top, name).parent for name in below)]
     return [
-        "flock", ".", str(kit / "bin" / "rattle"), "build", "--crate-name", crate, "src/lib.rt",
-        "--crate-type", "staticlib",
-        *(word for name, library in used.items() for word in ("--extern", f"{name}={library}")),
-        *(word for folder in folders for word in ("-L", f"dependency={folder}")),
-        "--antt-project", str(kit / "rattle" / "logic" / "antt-project.json"),
-        "--logic-built", str(kit / "logic_built"),
+        "flock", ".", str(kit() / "bin" / "rattle"), "build", *words_of_rattle(crate, top), "--crate-type", "staticlib",
         "--incremental", "out/incremental", "--jobs", os.environ.get("RT_JOBS", str(os.cpu_count() or 1)),
-        "--toolchain", str(kit / "toolchain"), "-o", f"out/{archive.name}",
+        "--toolchain", str(kit() / "toolchain"), "-o", f"out/{archive.name}",
     ]
 
 
