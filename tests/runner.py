@@ -14,6 +14,7 @@ from pathlib import Path
 from typing import Any, Iterator, List, NamedTuple, Sequence, Tuple
 
 from beside import Place, Task, run_beside
+from changed import ALWAYS, SOURCES, base_of, crates_in, files_since, tests_of
 
 TOP = Path(__file__).resolve().parent.parent
 
@@ -144,6 +145,29 @@ def problems_of_interrupt() -> List[str]:
         return [f"{numbers} began, {left} are still there"] if left or len(numbers) != len(files) else []
 
 
+# Files of a change, the tests that it takes beside those of every change, and the crates whose sources it has.
+CHANGES = [
+    (["docs/WATCH.md"], ["program"], []),
+    (["crates/bus_bits/src/span.rt", "crates/bus_fcs/wrong-bodies/octets.edits"], ["program", "count"], ["bus_bits"]),
+    (["crates/bus_bits/must-fail/word.edit"], ["program"], []),
+    (["scripts/modules/commands/bus-watch.js"], ["scripts", "page"], []),
+]
+
+
+def problems_of_changes() -> List[str]:
+    """What a change takes, and which files differ from the last commit on main: committed, new, gone or not."""
+    rows = [(files, list(tests_of(files))[len(ALWAYS) :], crates_in(SOURCES, files)) for files, _, _ in CHANGES]
+    problems = [f"{got}" for got, wanted in zip(rows, CHANGES) if got != wanted]
+    script = """git init -qb main; git config user.name a; git config user.email a@b
+        echo 1 | tee kept gone is > /dev/null; git add .; git commit -qm one
+        git checkout -qb work; echo 2 > done; git add .; git commit -qm two
+        rm gone; echo 3 | tee is new > /dev/null"""
+    with tempfile.TemporaryDirectory(prefix="port1-") as folder:
+        subprocess.run(["sh", "-ec", script], cwd=folder, check=True)
+        found = files_since(Path(folder), base_of(Path(folder)))
+    return problems + ([] if found == ["done", "gone", "is", "new"] else [f"these files differ: {found}"])
+
+
 def results_of_runner() -> Iterator[Tuple[str, List[str]]]:
     for call in CALLS:
         yield f"tests/run {' '.join(call.words)}", problems_of_call(call)
@@ -151,3 +175,4 @@ def results_of_runner() -> Iterator[Tuple[str, List[str]]]:
     yield "tests/run: side by side", problems_of_beside()
     yield "tests/run: one after another", problems_of_order()
     yield "tests/run: an interrupt", problems_of_interrupt()
+    yield "tests/run: changes", problems_of_changes()
