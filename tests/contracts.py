@@ -6,8 +6,8 @@ from typing import Dict, Iterator, List, NamedTuple, Optional, Set, Tuple
 
 # What a user of the libraries, the tool or the C library calls; of the crates below the tool what it hands on.
 CRATES = [
-    "bus_bits", "bus_fcs", "bus_line", "bus_dictionary", "bus_pairing", "bus_watch", "bus_tap", "bus_clocks",
-    "port1_c", "bus_examples", "bus_tool", "bus_sample", "bus_sample_tool",
+    "bus_bits", "bus_formats", "bus_fcs", "bus_line", "bus_dictionary", "bus_pairing", "bus_watch", "bus_tap",
+    "bus_clocks", "port1_c", "bus_examples", "bus_tool", "bus_sample", "bus_sample_tool",
 ]
 BELOW = ["bus_text", "bus_calls"]
 

@@ -1,15 +1,47 @@
 -- Octets as one number.
-use Rattle.std.proofs.Common.{◌≡◌, ℕ, zero, suc, ◌+◌, ◌-◌, ◌*◌, ◌/◌, ◌%◌, ◌^◌, ◌<◌, ◌≤◌, List, [], ◌∷◌, ◌++◌, length}
-use Rattle.std.proofs.Common.{take, drop, get_or, All, refl, sym, ap, ◌∙◌, arith}
+use Rattle.std.proofs.Common.{◌≡◌, ℕ, zero, suc, ◌+◌, ◌-◌, ◌*◌, ◌/◌, ◌%◌, ◌^◌, ◌<◌, ◌≤◌, Bool, List, [], ◌∷◌, ◌++◌}
+use Rattle.std.proofs.Common.{length, take, drop, get_or, All, refl, sym, ap, ◌∙◌, arith}
 use Rattle.std.specs.Prelude.{slice_index}
 use Rattle.std.proofs.lemmas.List.{drop_at}
 use Rattle.bus_bits.specs.Octet.{bits_of, bits_of_octets}
 use Rattle.bus_bits.proofs.OctetLemmas.{bits_of_octets-cons, bits-split, bits-front, bits-low, length-bits}
 use Rattle.std.specs.Int.{w64, from_le_bytes}
-use Rattle.bus_bits.proofs.EightBitsLemmas.{word-eight}
-use Rattle.bus_bits.proofs.PackedLemmas.{word-front}
 use Rattle.bus_bits.specs.Bits.{bits_from}
 use Rattle.bus_bits.proofs.BitLemmas.{bits-in, bits-more, bits-taken, length-from}
+
+-- octets as one number, the first the lowest
+unfoldable pub word : List ℕ → ℕ
+word [] = 0
+word (b ∷ bs) = word bs * 256 + b
+
+pub word-eight : (bs : List ℕ) → length bs ≡ 8 → from_le_bytes w64 bs ≡ word bs
+unfolding word
+word-eight (s ∷ t ∷ u ∷ v ∷ w ∷ x ∷ y ∷ z ∷ []) eight = omega arith
+word-eight (s ∷ t ∷ u ∷ v ∷ w ∷ x ∷ y ∷ z ∷ a ∷ b) eight = absurd (omega arith)
+word-eight (s ∷ t ∷ u ∷ v ∷ w ∷ x ∷ y ∷ []) eight = absurd (omega arith)
+word-eight (s ∷ t ∷ u ∷ v ∷ w ∷ x ∷ []) eight = absurd (omega arith)
+word-eight (s ∷ t ∷ u ∷ v ∷ w ∷ []) eight = absurd (omega arith)
+word-eight (s ∷ t ∷ u ∷ v ∷ []) eight = absurd (omega arith)
+word-eight (s ∷ t ∷ u ∷ []) eight = absurd (omega arith)
+word-eight (s ∷ t ∷ []) eight = absurd (omega arith)
+word-eight (s ∷ []) eight = absurd (omega arith)
+word-eight [] eight = absurd (omega arith)
+
+-- the lowest bits of octets in one number are those of the first of them
+pub word-front : (os rest : List ℕ) → All (λ o. o < 256) os →
+    bits_of (8 * length os) (word (os ++ rest)) ≡ bits_of_octets os
+unfolding word bits_of_octets bits_of
+word-front [] rest small = refl
+word-front (o ∷ os) rest small =
+    let further = word (os ++ rest) in
+    let size : 8 * length (o ∷ os) ≡ 8 + 8 * length os = omega arith in
+    let one : o < 256 = small 0 0 (omega arith) in
+    let low : (further * 256 + o) % 2 ^ 8 ≡ o = omega (arith, one) in
+    let high : (further * 256 + o) / 2 ^ 8 ≡ further = omega (arith, one) in
+    ap (λ (k : ℕ). bits_of k (further * 256 + o)) size ∙ bits-split 8 (8 * length os) (further * 256 + o)
+    ∙ ap (λ (b : List Bool). b ++ bits_of (8 * length os) ((further * 256 + o) / 2 ^ 8))
+    (sym (bits-low 8 (further * 256 + o)) ∙ ap (bits_of 8) low)
+    ∙ rw (high, word-front os rest (λ i d inside. small (suc i) d (omega (arith, inside)))) refl
 
 -- the bits of octets that stand among others
 pub bits-octets : (os all : List ℕ) (q i n : ℕ) → i ≡ 8 * q → n ≡ 8 * length os →

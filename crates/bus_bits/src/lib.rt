@@ -1,17 +1,12 @@
-//! Octets and bits, spans of places, counted steps, and the bits of a capture of one line or two.
+//! Octets and bits, spans of places, and counted steps.
 #![tactic(auto)]
 
-mod format;
 pub mod laws;
 mod octet;
 mod span;
 mod spent;
 mod word;
 
-pub use format::{
-    ArrivalHead, BadMark, EightBits, EightPairs, HeadFault, PackedBits, PackedFault, PackedHead,
-    PackedPairs, PairHead, PairWords, PartedText, TextArrivals, TextBits, TextBlock, TextPairs,
-};
 pub use octet::{bits_number, bits_octet, octet_bits};
 pub use span::Span;
 pub use spent::Spent;

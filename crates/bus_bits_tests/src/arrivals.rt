@@ -1,7 +1,8 @@
 //! Texts of arrivals, many octets at once.
 
 use crate::expect::{holds, same};
-use bus_bits::{TextArrivals, bit_at};
+use bus_bits::bit_at;
+use bus_formats::TextArrivals;
 use std::process::Abort;
 
 /// How often a period of a text is repeated.

@@ -1,9 +1,9 @@
 //! Captures, octet by octet.
 
 use crate::expect::{holds, same};
-use bus_bits::{
-    BadMark, EightBits, HeadFault, PackedBits, PackedFault, PackedHead, Spent, TextBits, TextBlock,
-    Word, bits_octet, octet_bits, seven_octets_at, word_at,
+use bus_bits::{Spent, Word, bits_octet, octet_bits, seven_octets_at, word_at};
+use bus_formats::{
+    BadMark, EightBits, HeadFault, PackedBits, PackedFault, PackedHead, TextBits, TextBlock,
 };
 use std::process::Abort;
 

@@ -1,4 +1,5 @@
-//! Tests of the public calls of `bus_bits` and `bus_fcs`. They stand apart so that the gate proves each library once.
+//! Tests of the public calls of `bus_bits`, `bus_formats` and `bus_fcs`. They stand apart so that the gate proves each
+//! library once.
 #![tactic(auto)]
 
 #[cfg(test)]

@@ -1,7 +1,7 @@
 //! Captures of two lines, octet by octet.
 
 use crate::expect::{holds, same};
-use bus_bits::{
+use bus_formats::{
     BadMark, EightPairs, HeadFault, PackedFault, PackedHead, PackedPairs, PairHead, PartedText,
     TextPairs,
 };

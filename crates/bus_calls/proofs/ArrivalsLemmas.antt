@@ -2,7 +2,7 @@
 use Rattle.std.proofs.Common.{◌≡◌, ℕ, ◌+◌, Bool, List, [], ◌∷◌, ◌++◌, length, map, Option, Result, Ok, Err, MatchResult}
 use Rattle.std.proofs.Common.{refl, sym, ap, ◌∙◌, subst, arith, append-nil, append_assoc}
 use Rattle.std.proofs.lemmas.List.{map-append}
-use Rattle.bus_bits.specs.Packed.{packed_arrival_capture, packed_arrival_whole, pair_body, arrival_head_fault}
+use Rattle.bus_formats.specs.Packed.{packed_arrival_capture, packed_arrival_whole, pair_body, arrival_head_fault}
 use Rattle.bus_fcs.specs.Check.{CheckView}
 use Rattle.bus_dictionary.specs.Entry.{FrameType}
 use Rattle.bus_pairing.specs.LineReport.{LineReport}

@@ -3,7 +3,7 @@ use Rattle.std.proofs.Common.{◌≡◌, ℕ, ◌+◌, ◌-◌, ◌<◌, ◌≤�
 use Rattle.std.proofs.Common.{take, drop, Option, Some, refl, sym, ap, ◌∙◌, subst, arith, inl, inr, append_assoc}
 use Rattle.std.proofs.lemmas.Bool.{cases_lt}
 use Rattle.std.proofs.lemmas.List.{take-append-drop}
-use Rattle.bus_bits.specs.Capture.{CaptureOf, CaptureFault, place_limit, capped, GrowsTo}
+use Rattle.bus_formats.specs.Capture.{CaptureOf, CaptureFault, place_limit, capped, GrowsTo}
 use Rattle.bus_calls.specs.Internal.Kinds.{KindView, FormLaws, KindLaws}
 use Rattle.bus_calls.specs.Internal.Watching.{IsSound, IsSame, WatchAfter, WatchStopsWith, within}
 use Rattle.bus_calls.specs.Internal.Sessions.{Faulty, CaptureStopsWith, SourceStopsWith, capture_so_far}
@@ -12,7 +12,8 @@ use Rattle.bus_calls.specs.declared.run.CaptureRun.{CaptureRun}
 use Rattle.bus_text.specs.declared.fault.ToolFault.{ToolFault}
 use Rattle.bus_text.specs.declared.fault.ToolFault.TheVariants as fault
 use Rattle.bus_calls.proofs.WatchingLemmas.{within-all}
-use Rattle.bus_bits.proofs.CaptureLemmas.{capped_all, lt_true}
+use Rattle.bus_formats.proofs.CaptureLemmas.{capped_all}
+use Rattle.bus_bits.proofs.CaseLemmas.{lt_true}
 
 -- of more symbols than there are places
 pub placed-over : {X : Type 0} (origin : ℕ) (c : CaptureOf X) → 2 ^ 60 - origin < length c.bits →

@@ -2,9 +2,9 @@
 use Rattle.std.proofs.Common.{◌≡◌, ℕ, true, false, nat_lt, if◌then◌else◌, Bool, List, [], ◌++◌, length, drop, Option}
 use Rattle.std.proofs.Common.{Some, None, Result, Ok, Err, MatchResult, refl, sym, ap, ◌∙◌, append_assoc, append-nil}
 use Rattle.std.proofs.Common.{subst}
-use Rattle.bus_bits.specs.Capture.{CaptureOf, CaptureFault, short_head}
-use Rattle.bus_bits.specs.Packed.{capture_by, filled, head_bits, headed, packed_fault_of, whole_by}
-use Rattle.bus_bits.specs.declared.format.packed_bits.PackedFault.{PackedFault}
+use Rattle.bus_formats.specs.Capture.{CaptureOf, CaptureFault, short_head}
+use Rattle.bus_formats.specs.Packed.{capture_by, filled, head_bits, headed, packed_fault_of, whole_by}
+use Rattle.bus_formats.specs.declared.packed_bits.PackedFault.{PackedFault}
 use Rattle.bus_calls.specs.Internal.Headed.{IsHeaded}
 
 -- the end of the input adds no symbol

@@ -3,7 +3,7 @@ use Rattle.std.proofs.Common.{◌≡◌, ℕ, ◌-◌, ◌^◌, Bool, true, fals
 use Rattle.std.proofs.Common.{Result, Ok, Err, IfSome, refl, sym, ap, subst, ◌∙◌, append-nil, inl, inr, arith}
 use Rattle.std.specs.Io.KnownBytes.{Appends, Consumes, IsAtEnd}
 use Rattle.std.proofs.lemmas.Grind.{common_steps}
-use Rattle.bus_bits.specs.Capture.{CaptureOf, CaptureFault, GrowsTo}
+use Rattle.bus_formats.specs.Capture.{CaptureOf, CaptureFault, GrowsTo}
 use Rattle.bus_dictionary.specs.Entry.{FrameType}
 use Rattle.bus_dictionary.specs.Dictionary.{longest_of}
 use Rattle.bus_calls.specs.Captures.{fed_by, Form, unplaced, unplaced_whole, reports_seen}
@@ -24,7 +24,7 @@ use Rattle.bus_text.specs.declared.fault.ToolFault.TheVariants as fault
 use Rattle.bus_calls.proofs.CapturesLemmas.{fed-grows, grows-on, placed-bits}
 use Rattle.bus_text.proofs.ListingLemmas.{listing-append}
 use Rattle.bus_text.proofs.PagesLemmas.{cuts-more}
-use Rattle.bus_bits.proofs.CaptureLemmas.{grows-trans}
+use Rattle.bus_formats.proofs.CaptureLemmas.{grows-trans}
 
 -- as it grows
 grows-self : {X : Type 0} (c : CaptureOf X) → GrowsTo c c

@@ -9,8 +9,8 @@ use Rattle.bus_bits.specs.Bits.{bits_from}
 use Rattle.bus_bits.specs.Octet.{bits_of, bits_of_octets}
 use Rattle.bus_bits.proofs.BitLemmas.{bits-in}
 use Rattle.bus_bits.proofs.OctetLemmas.{one_bit}
-use Rattle.bus_bits.specs.Capture.{Capture, pad_bits, trailing}
-use Rattle.bus_bits.specs.Packed.{packed_capture, packed_whole, packed_body, wanted, unused, head_fault}
+use Rattle.bus_formats.specs.Capture.{Capture, pad_bits, trailing}
+use Rattle.bus_formats.specs.Packed.{packed_capture, packed_whole, packed_body, wanted, unused, head_fault}
 use Rattle.bus_calls.proofs.HeadedLemmas.{whole-bits}
 
 -- a bit alone, in an octet

@@ -6,7 +6,7 @@ use Rattle.std.specs.Io.KnownBytes.{IsAtEnd}
 use Rattle.bus_dictionary.specs.Entry.{FrameType}
 use Rattle.bus_text.specs.declared.page.Page.{Page}
 use Rattle.bus_text.specs.declared.printer.Printer.{Printer}
-use Rattle.bus_bits.specs.Capture.{CaptureOf, CaptureFault, capped}
+use Rattle.bus_formats.specs.Capture.{CaptureOf, CaptureFault, capped}
 use Rattle.bus_dictionary.specs.Dictionary.{longest_of}
 use Rattle.bus_pairing.specs.Seen.{seen}
 use Rattle.bus_watch.specs.Watch.{seen_by}
@@ -25,7 +25,7 @@ use Rattle.bus_text.specs.declared.fault.ToolFault.{ToolFault}
 use Rattle.bus_text.specs.declared.fault.ToolFault.TheVariants as fault
 use Rattle.bus_calls.proofs.PutLemmas.{listing-nothing}
 use Rattle.bus_calls.proofs.CapturesLemmas.{followed-fits}
-use Rattle.bus_bits.proofs.CaptureLemmas.{capped_all}
+use Rattle.bus_formats.proofs.CaptureLemmas.{capped_all}
 
 -- nothing seen has no lines
 printed-nothing : (p : Option Printer) (d : List FrameType) → printed p d [] ≡ []

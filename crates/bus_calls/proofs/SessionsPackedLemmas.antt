@@ -3,7 +3,7 @@ use Rattle.std.proofs.Common.{◌≡◌, ℕ, ◌-◌, ◌<◌, ◌≤◌, ◌^�
 use Rattle.std.proofs.Common.{Option, Result, Ok, Err, MatchResult, sym, ap, ◌∙◌, subst, append-nil, arith}
 use Rattle.std.specs.Result.{IsErrAnd}
 use Rattle.std.proofs.lemmas.Grind.{common_steps}
-use Rattle.bus_bits.specs.Capture.{CaptureOf}
+use Rattle.bus_formats.specs.Capture.{CaptureOf}
 use Rattle.bus_calls.specs.Captures.{fed_by}
 use Rattle.bus_calls.specs.Internal.Kinds.{KindView, KindLaws}
 use Rattle.bus_calls.specs.Internal.Watching.{IsSame, WatchAfter, FeedAfter, FeedStopsWith}

@@ -1,11 +1,11 @@
 -- The captures of one line, of two, and of two with a clock each, and what is seen of them.
 use Rattle.std.specs.Prelude.{◌≡◌, ◌⊎◌, ℕ, Bool, true, false, List, map, if◌then◌else◌, Option, Some}
 use Rattle.std.specs.Io.KnownBytes.{IsAtEnd}
-use Rattle.bus_bits.specs.Capture.{CaptureOf, text_capture, text_pair_capture, capped, CaptureFault, bad_mark, magic}
-use Rattle.bus_bits.specs.Capture.{too_many, pad_bits, trailing, place_limit, short_head, short_body}
-use Rattle.bus_bits.specs.Capture.{text_arrival_capture}
-use Rattle.bus_bits.specs.Packed.{packed_arrival_capture, packed_arrival_whole}
-use Rattle.bus_bits.specs.Packed.{packed_capture, packed_whole, packed_pair_capture, packed_pair_whole}
+use Rattle.bus_formats.specs.Capture.{CaptureOf, text_capture, text_pair_capture, capped, CaptureFault, bad_mark, magic}
+use Rattle.bus_formats.specs.Capture.{too_many, pad_bits, trailing, place_limit, short_head, short_body}
+use Rattle.bus_formats.specs.Capture.{text_arrival_capture}
+use Rattle.bus_formats.specs.Packed.{packed_arrival_capture, packed_arrival_whole}
+use Rattle.bus_formats.specs.Packed.{packed_capture, packed_whole, packed_pair_capture, packed_pair_whole}
 use Rattle.bus_dictionary.specs.Entry.{FrameType}
 use Rattle.bus_dictionary.specs.Dictionary.{longest_of}
 use Rattle.bus_line.specs.Due as line

@@ -1,7 +1,7 @@
 -- What a call that checks a capture did to its reader and its writer.
 use Rattle.std.specs.Prelude.{◌≡◌, ℕ, ◌≤◌, List, [], length, Option, None, Result, Ok, Err}
 use Rattle.std.specs.Io.KnownBytes.{Appends, IsAtEnd}
-use Rattle.bus_bits.specs.Capture.{CaptureFault}
+use Rattle.bus_formats.specs.Capture.{CaptureFault}
 use Rattle.bus_dictionary.specs.Entry.{FrameType}
 use Rattle.bus_pairing.specs.History.{history, tally}
 use Rattle.bus_calls.specs.Captures.{Form, HasFault, IsSameFault, form_of_one, form_of_two, reports_of_form}

@@ -1,7 +1,7 @@
 -- What a call that lists or checks a capture did, whose reader told all its octets, whatever the cut of its reads.
 use Rattle.std.specs.Prelude.{◌≡◌, ℕ, List, [], ◌++◌, take, Option, Some, None, Result, Ok, Err}
 use Rattle.std.specs.Io.KnownBytes.{Appends}
-use Rattle.bus_bits.specs.Capture.{CaptureFault}
+use Rattle.bus_formats.specs.Capture.{CaptureFault}
 use Rattle.bus_dictionary.specs.Entry.{FrameType}
 use Rattle.bus_calls.specs.Captures.{Form, form_of_one, form_of_two, form_of_arrivals, reports_seen, IsSameFault}
 use Rattle.bus_text.specs.Summary.{summary_of}

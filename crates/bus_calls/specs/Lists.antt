@@ -2,7 +2,7 @@
 use Rattle.std.specs.Prelude.{◌≡◌, ℕ, ◌≤◌, ◌⊎◌, Bool, true, false, List, [], ◌++◌, length, Option, None, Result, Ok}
 use Rattle.std.specs.Prelude.{Err}
 use Rattle.std.specs.Io.KnownBytes.{Appends, IsAtEnd}
-use Rattle.bus_bits.specs.Capture.{CaptureOf, CaptureFault}
+use Rattle.bus_formats.specs.Capture.{CaptureOf, CaptureFault}
 use Rattle.bus_dictionary.specs.Entry.{FrameType}
 use Rattle.bus_pairing.specs.Talk.{pending}
 use Rattle.bus_calls.specs.Captures.{Form, capture, form_of_one, form_of_two, reports_of_form, reports_seen}

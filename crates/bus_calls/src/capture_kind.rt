@@ -5,9 +5,9 @@ ghost use Rattle.std.specs.Prelude.{true, Option, Some, None, Err, MatchResult, 
 ghost use Rattle.std.specs.Prelude.{slice_get};
 ghost use Rattle.std.specs.Option.{ForSome, option_to_list};
 ghost use Rattle.arrayvec.specs.ArrayVec.{array_vec_len};
-ghost use Rattle.bus_bits.specs.Capture.{bad_mark};
+ghost use Rattle.bus_formats.specs.Capture.{bad_mark};
 ghost use Rattle.bus_bits.specs.Limits.{most_places};
-ghost use Rattle.bus_bits.specs.Packed.{head_fault_of, packed_fault_of};
+ghost use Rattle.bus_formats.specs.Packed.{head_fault_of, packed_fault_of};
 ghost use Rattle.bus_pairing.specs.History.{KeptFrame, history, tally};
 ghost use Rattle.bus_pairing.specs.Seen.{SeenReport};
 ghost use Rattle.bus_pairing.specs.Talk.{pending};
@@ -25,8 +25,8 @@ ghost use Rattle.bus_calls.specs.Internal.Watching.{FeedStopsWith, FeedAfter, re
 ghost use Rattle.bus_calls.specs.Internal.Sessions.{BodyAfter, OctetsAfter, SourceStopsWith};
 
 use crate::run::CaptureRun;
-use bus_bits::{BadMark, HeadFault, PackedFault};
 use bus_dictionary::Dictionary;
+use bus_formats::{BadMark, HeadFault, PackedFault};
 use bus_text::{Page, Printer, ShortWrite, ToolFault};
 use bus_watch::{Counts, NewFault};
 use std::alloc::Global;

@@ -10,10 +10,10 @@ ghost use Rattle.bus_calls.specs.Internal.Watching.{FeedStopsWith, FeedAfter, Is
 use crate::capture_kind::CaptureKind;
 use crate::run::CaptureRun;
 use arrayvec::ArrayVec;
-use bus_bits::laws::{captures_grow, packed_is_head_and_body};
-use bus_bits::{BadMark, HeadFault, PackedBits, PackedFault, PackedHead, TextBits};
 use bus_dictionary::Dictionary;
 use bus_fcs::Check;
+use bus_formats::laws::{captures_grow, packed_is_head_and_body};
+use bus_formats::{BadMark, HeadFault, PackedBits, PackedFault, PackedHead, TextBits};
 use bus_line::PlaceLimit;
 use bus_text::{Page, Printer, ShortWrite, Summary, ToolFault, put_kept};
 use bus_watch::laws::seen_grows;

@@ -2,8 +2,8 @@
 
 ghost use Rattle.std.specs.Prelude.{◌≡◌, ◌+◌, ◌≤◌, ◌<◌, ℕ, List, [], ◌∷◌, ◌++◌, Option, MatchResult, Some, None, IfOk};
 ghost use Rattle.std.specs.Prelude.{length, take, false};
-ghost use Rattle.bus_bits.specs.Capture.{CaptureFault};
-ghost use Rattle.bus_bits.specs.Packed.{head_fault_of, packed_fault_of};
+ghost use Rattle.bus_formats.specs.Capture.{CaptureFault};
+ghost use Rattle.bus_formats.specs.Packed.{head_fault_of, packed_fault_of};
 ghost use Rattle.bus_calls.specs.Internal.Watching.{FeedStopsWith, FeedAfter, IsSame, IsSound};
 ghost use Rattle.bus_calls.specs.Internal.Sessions.{PackedSourceAfter, BodyAfter, IsReadAs, SourceStopsWith};
 ghost use Rattle.bus_calls.specs.Captures.{IsSameFault};
@@ -11,7 +11,7 @@ ghost use Rattle.bus_calls.specs.Captures.{IsSameFault};
 use crate::capture_kind::CaptureKind;
 use crate::run::CaptureRun;
 use arrayvec::ArrayVec;
-use bus_bits::{HeadFault, PackedFault};
+use bus_formats::{HeadFault, PackedFault};
 use bus_text::ToolFault;
 use std::convert::AsSlice;
 use std::io::Write;

@@ -3,7 +3,7 @@
 ghost use Rattle.std.specs.Prelude.{◌≡◌, ◌+◌, ◌<◌, ◌≤◌, ◌^◌, ℕ, List, [], ◌++◌, Option, Some, None, MatchResult, OnOk};
 ghost use Rattle.std.specs.Prelude.{IfOk, length};
 ghost use Rattle.std.specs.Io.KnownBytes.{Consumes};
-ghost use Rattle.bus_bits.specs.Capture.{CaptureFault};
+ghost use Rattle.bus_formats.specs.Capture.{CaptureFault};
 ghost use Rattle.bus_dictionary.specs.Entry.{FrameType};
 ghost use Rattle.bus_calls.specs.Begins.{Begins, Refuses};
 ghost use Rattle.bus_calls.specs.Internal.Asked.{IsMade, IsRuled};

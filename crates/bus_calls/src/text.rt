@@ -7,7 +7,7 @@ ghost use Rattle.bus_calls.specs.Internal.Sessions.{OctetsAfter, TextAfter, Sour
 
 use crate::capture_kind::CaptureKind;
 use crate::run::CaptureRun;
-use bus_bits::BadMark;
+use bus_formats::BadMark;
 use bus_text::ToolFault;
 use std::io::Write;
 

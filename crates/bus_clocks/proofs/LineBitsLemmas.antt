@@ -12,8 +12,8 @@ use Rattle.bus_bits.specs.Bits.{bits_from}
 use Rattle.bus_bits.specs.Octet.{bits_of, bits_of_octets}
 use Rattle.bus_bits.proofs.BitLemmas.{bits-in, bits-more, bits-taken, length-from}
 use Rattle.bus_bits.proofs.OctetLemmas.{bits-front, bits-low}
-use Rattle.bus_bits.proofs.PairBlockLemmas.{bits-stored}
-use Rattle.bus_bits.proofs.TextBlockLemmas.{joined-bits, joined-is, le-bits}
+use Rattle.bus_formats.proofs.PairBlockLemmas.{bits-stored}
+use Rattle.bus_formats.proofs.TextBlockLemmas.{joined-bits, joined-is, le-bits}
 
 -- the octets of a number that has some bits behind others of an octet, stored from that octet on
 pub bits-appended : (os : List ℕ) (q k count bits rest joined : ℕ) → q + 8 ≤ length os → k < 8 → k + count ≤ 64

@@ -7,7 +7,8 @@ ghost use Rattle.bus_clocks.specs.Internal.Parts.{Parts, upto};
 ghost use Rattle.bus_pairing.specs.declared.line.Line.TheVariants.{First, Second};
 
 use crate::line_bits::{BLOCK, LineBits};
-use bus_bits::{PairWords, bit_at, eight_at};
+use bus_bits::{bit_at, eight_at};
+use bus_formats::PairWords;
 
 /// The lines of 64 arrivals that take turns, where a bit of the first line begins.
 const FIRST_BEGINS: u64 = 0xaaaa_aaaa_aaaa_aaaa;

@@ -10,7 +10,7 @@ use Rattle.std.proofs.lemmas.List.{append-nil, append_assoc, length-take, length
 use Rattle.bus_bits.specs.Octet.{number, bits_of, octets}
 use Rattle.bus_bits.specs.declared.spent.Spent.{Spent}
 use Rattle.bus_bits.proofs.OctetLemmas.{number-append, number-bits, number-lt, length-bits, octets-push, octets-append}
-use Rattle.bus_bits.proofs.CaptureLemmas.{take_past}
+use Rattle.bus_bits.proofs.ListLemmas.{take_past}
 use Rattle.bus_fcs.specs.Check.{CheckView}
 use Rattle.bus_line.specs.LineState.{LineState}
 use Rattle.bus_line.specs.Internal.LineView.{settles_from}

@@ -3,7 +3,7 @@ use Rattle.std.proofs.Common.{◌≡◌, ℕ, zero, suc, ◌+◌, ◌-◌, ◌*�
 use Rattle.std.proofs.Common.{◌/◌, ◌%◌, Some, refl, ap, ◌∙◌, arith, append-nil, inl, inr}
 use Rattle.std.proofs.lemmas.Bool.{cases_Bool, eqb-true}
 use Rattle.std.specs.Prelude.{nat_lt}
-use Rattle.bus_bits.proofs.CaptureLemmas.{lt_true}
+use Rattle.bus_bits.proofs.CaseLemmas.{lt_true}
 use Rattle.bus_fcs.specs.Check.{CheckView}
 use Rattle.std.specs.Option.{option_map}
 use Rattle.bus_line.specs.Report.{Abort, moved}

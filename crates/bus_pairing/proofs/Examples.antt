@@ -1,7 +1,7 @@
 -- What is seen of lists that were worked out by hand, computed from the definitions alone. Types and names are made up.
 use Rattle.std.proofs.Common.{◌≡◌, ℕ, Bool, true, false, List, [], ◌∷◌, ◌++◌, Option, Some, None, codes, refl, zip}
 use Rattle.bus_bits.specs.Octet.{number, octets}
-use Rattle.bus_bits.specs.Capture.{text_bits}
+use Rattle.bus_bits.specs.Text.{text_bits}
 use Rattle.bus_fcs.specs.Division.{add, step, divided, remainder}
 use Rattle.bus_fcs.specs.FrameCheck.{ends_inverted, is_good}
 use Rattle.bus_line.specs.Report.{Report, Frame, Damaged, Idle}

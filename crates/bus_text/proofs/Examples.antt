@@ -3,7 +3,7 @@
 use Rattle.std.proofs.Common.{◌≡◌, ℕ, Bool, true, false, List, [], ◌∷◌, ◌++◌, Some, None, codes, refl}
 use Rattle.std.specs.Fmt.{digits}
 use Rattle.bus_bits.specs.Octet.{number, octets}
-use Rattle.bus_bits.specs.Capture.{text_bits}
+use Rattle.bus_bits.specs.Text.{text_bits}
 use Rattle.bus_fcs.specs.Division.{add, step, divided, remainder}
 use Rattle.bus_fcs.specs.FrameCheck.{ends_inverted, is_good}
 use Rattle.bus_line.specs.Due.{placed}

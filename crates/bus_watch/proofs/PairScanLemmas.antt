@@ -6,7 +6,7 @@ use Rattle.std.specs.Option.{option_to_list}
 use Rattle.std.proofs.lemmas.List.{length-map, take_more, take_all}
 use Rattle.bus_bits.specs.Bits.{bits_from}
 use Rattle.bus_bits.proofs.BitLemmas.{bits-more, length-from}
-use Rattle.bus_bits.proofs.PairWordsLemmas.{zip-append}
+use Rattle.bus_bits.proofs.ListLemmas.{zip-append}
 use Rattle.bus_fcs.specs.Check.{CheckView}
 use Rattle.bus_line.specs.Due.{placed}
 use Rattle.bus_line.specs.Laws.{OneMore, ReportsGrow, DueStays, FramesStored, StoredPaid, AssembledWithin}

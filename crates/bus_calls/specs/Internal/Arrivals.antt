@@ -1,6 +1,6 @@
 -- What the proofs know of two lines with a clock each.
 use Rattle.std.specs.Prelude.{◌≡◌, ℕ, Bool, List, map}
-use Rattle.bus_bits.specs.Packed.{PairsAfter, arrival_head_fault}
+use Rattle.bus_formats.specs.Packed.{PairsAfter, arrival_head_fault}
 use Rattle.bus_fcs.specs.Check.{CheckView}
 use Rattle.bus_watch.specs.Watch.{Watch}
 use Rattle.bus_tap.specs.Arrival.{Arrival, arrival_of}

@@ -1,7 +1,7 @@
 -- Packed captures, of one line or of two, after their heads.
 use Rattle.std.specs.Prelude.{◌≡◌, ℕ, List, ◌++◌, length, Option, None}
-use Rattle.bus_bits.specs.Capture.{CaptureFault}
-use Rattle.bus_bits.specs.Packed.{head_bits}
+use Rattle.bus_formats.specs.Capture.{CaptureFault}
+use Rattle.bus_formats.specs.Packed.{head_bits}
 
 -- these octets are a head without a fault and others after it, at which so many bits or pairs are left, as `After`
 -- says it of a head's count and these others

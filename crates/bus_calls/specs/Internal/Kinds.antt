@@ -1,6 +1,6 @@
 -- What the proofs know of one line, of two, and of arrivals.
 use Rattle.std.specs.Prelude.{◌≡◌, ℕ, ◌+◌, ◌<◌, List, [], ◌++◌, length, Some, None}
-use Rattle.bus_bits.specs.Capture.{CaptureOf, GrowsTo, capped, short_head}
+use Rattle.bus_formats.specs.Capture.{CaptureOf, GrowsTo, capped, short_head}
 use Rattle.bus_dictionary.specs.Entry.{FrameType}
 use Rattle.bus_pairing.specs.Seen.{SeenReport, seen}
 use Rattle.bus_watch.specs.Watch.{Watch}

@@ -1,6 +1,6 @@
 -- What the proofs know of one line.
 use Rattle.std.specs.Prelude.{ℕ, Bool}
-use Rattle.bus_bits.specs.Packed.{PackedAfter, head_fault}
+use Rattle.bus_formats.specs.Packed.{PackedAfter, head_fault}
 use Rattle.bus_fcs.specs.Check.{CheckView}
 use Rattle.bus_watch.specs.After as after
 use Rattle.bus_watch.specs.After.{AnalyserState}

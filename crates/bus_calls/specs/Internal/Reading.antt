@@ -1,7 +1,7 @@
 -- What the reading of a capture to its end did.
 use Rattle.std.specs.Prelude.{◌≡◌, ℕ, ◌≤◌, Bool, List, length, Option, None, Result, Ok, Err}
 use Rattle.std.specs.Io.KnownBytes.{IsAtEnd}
-use Rattle.bus_bits.specs.Capture.{CaptureFault}
+use Rattle.bus_formats.specs.Capture.{CaptureFault}
 use Rattle.bus_calls.specs.Captures.{IsSameFault, HasFault}
 use Rattle.bus_calls.specs.Internal.Kinds.{KindView}
 use Rattle.bus_calls.specs.Internal.Sessions.{capture_so_far, whole_of}

@@ -1,6 +1,6 @@
 -- What is known while the octets of a capture are read.
 use Rattle.std.specs.Prelude.{◌≡◌, ℕ, ◌<◌, Bool, true, false, List, length, Option, Some, None}
-use Rattle.bus_bits.specs.Capture.{CaptureOf, CaptureFault}
+use Rattle.bus_formats.specs.Capture.{CaptureOf, CaptureFault}
 use Rattle.bus_calls.specs.Captures.{capture, whole_capture, IsSameFault}
 use Rattle.bus_calls.specs.Internal.Kinds.{KindView}
 use Rattle.bus_calls.specs.Internal.Watching.{WatchAfter, FeedAfter, IsCutOff}

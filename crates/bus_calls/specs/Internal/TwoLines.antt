@@ -1,6 +1,6 @@
 -- What the proofs know of two lines.
 use Rattle.std.specs.Prelude.{ℕ, Bool}
-use Rattle.bus_bits.specs.Packed.{PairsAfter, pair_head_fault}
+use Rattle.bus_formats.specs.Packed.{PairsAfter, pair_head_fault}
 use Rattle.bus_fcs.specs.Check.{CheckView}
 use Rattle.bus_watch.specs.Pairs as pairs
 use Rattle.bus_watch.specs.Pairs.{PairState}

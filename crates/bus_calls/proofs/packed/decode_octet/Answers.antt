@@ -1,6 +1,6 @@
 use Rattle.std.proofs.Common.{List, [], ◌∷◌, ◌++◌, sym, ap, ◌∙◌}
-use Rattle.bus_bits.specs.Capture.{CaptureOf}
-use Rattle.bus_bits.specs.Packed.{packed_fault_of}
+use Rattle.bus_formats.specs.Capture.{CaptureOf}
+use Rattle.bus_formats.specs.Packed.{packed_fault_of}
 use Rattle.bus_calls.specs.Captures.{fed_by}
 use Rattle.bus_calls.proofs.CapturesLemmas.{fault-in}
 use Rattle.bus_calls.proofs.SessionsPackedLemmas.{faulty-stops, octets-taken}

@@ -1,5 +1,5 @@
 use Rattle.std.proofs.Common.{[], ◌∷◌, ◌++◌, length, sym, ap, ◌∙◌, subst, append-nil}
-use Rattle.bus_bits.specs.Capture.{bad_mark}
+use Rattle.bus_formats.specs.Capture.{bad_mark}
 use Rattle.bus_calls.specs.Captures.{fed_by}
 use Rattle.bus_calls.specs.Internal.Watching.{FeedAfter}
 use Rattle.bus_text.specs.declared.fault.ToolFault.TheVariants as fault

@@ -1,5 +1,5 @@
 use Rattle.std.proofs.Common.{[], ◌∷◌}
-use Rattle.bus_bits.specs.Packed.{packed_arrival_capture, pair_body}
+use Rattle.bus_formats.specs.Packed.{packed_arrival_capture, pair_body}
 use Rattle.bus_calls.proofs.HeadedLemmas.{octet-read}
 use Rattle.bus_calls.proofs.arrivals.ClockAnalyserCaptureKind.decode_octet.Goals as goal
 

@@ -1,6 +1,6 @@
 use Rattle.std.proofs.Common.{refl}
-use Rattle.bus_bits.specs.Packed.{packed_arrival_capture, pair_body}
-use Rattle.bus_bits.proofs.CaptureLemmas.{capped-grows}
+use Rattle.bus_formats.specs.Packed.{packed_arrival_capture, pair_body}
+use Rattle.bus_formats.proofs.CaptureLemmas.{capped-grows}
 use Rattle.bus_calls.specs.Captures.{form_of_arrivals}
 use Rattle.bus_calls.proofs.HeadedLemmas.{head-clean}
 use Rattle.bus_calls.proofs.SeenOnLemmas.{seen-on}

@@ -1,6 +1,6 @@
 use Rattle.std.proofs.Common.{◌++◌, Ok, Err, take}
 use Rattle.std.proofs.lemmas.Result.{err_from_is_err_and}
-use Rattle.bus_bits.specs.Packed.{packed_capture, packed_body}
+use Rattle.bus_formats.specs.Packed.{packed_capture, packed_body}
 use Rattle.bus_calls.proofs.HeadedLemmas.{octets-read}
 use Rattle.bus_calls.proofs.SessionsPackedLemmas.{octets-taken}
 use Rattle.bus_calls.proofs.one_line.AnalyserCaptureKind.analyse_packed.Goals as goal

@@ -1,5 +1,5 @@
 use Rattle.std.proofs.Common.{[], ◌∷◌}
-use Rattle.bus_bits.specs.Packed.{packed_capture, packed_body}
+use Rattle.bus_formats.specs.Packed.{packed_capture, packed_body}
 use Rattle.bus_calls.proofs.HeadedLemmas.{octet-read}
 use Rattle.bus_calls.proofs.one_line.AnalyserCaptureKind.decode_octet.Goals as goal
 

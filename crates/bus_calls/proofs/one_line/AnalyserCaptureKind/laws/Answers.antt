@@ -1,5 +1,5 @@
 use Rattle.std.proofs.Common.{[], ◌∷◌, ◌++◌, ◌+◌, length, refl}
-use Rattle.bus_bits.specs.Packed.{packed_capture, packed_body}
+use Rattle.bus_formats.specs.Packed.{packed_capture, packed_body}
 use Rattle.std.specs.Option.{option_to_list}
 use Rattle.bus_line.specs.Due.{placed}
 use Rattle.bus_pairing.specs.LineReport.{of_line}

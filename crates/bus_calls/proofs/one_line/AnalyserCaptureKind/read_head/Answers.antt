@@ -1,4 +1,4 @@
-use Rattle.bus_bits.specs.Packed.{packed_capture, packed_body}
+use Rattle.bus_formats.specs.Packed.{packed_capture, packed_body}
 use Rattle.bus_calls.proofs.HeadedLemmas.{head-alone}
 use Rattle.bus_calls.proofs.OneLineLemmas.{no_body}
 use Rattle.bus_calls.proofs.one_line.AnalyserCaptureKind.read_head.Goals as goal

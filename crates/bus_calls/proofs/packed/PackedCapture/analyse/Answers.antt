@@ -1,14 +1,14 @@
 use Rattle.std.proofs.Common.{ℕ, ◌+◌, List, ◌++◌, take, get_or, false, refl, sym, ap, ◌∙◌, subst, arith}
 use Rattle.std.proofs.lemmas.Result.{err_from_is_err_and}
 use Rattle.std.proofs.lemmas.List.{take_all}
-use Rattle.bus_bits.specs.Capture.{CaptureOf}
+use Rattle.bus_formats.specs.Capture.{CaptureOf}
 use Rattle.bus_calls.specs.Captures.{fed_by}
 use Rattle.bus_calls.specs.Internal.Sessions.{BodyAfter, IsReadAs}
 use Rattle.bus_calls.specs.Internal.Watching.{FeedAfter}
 use Rattle.bus_calls.proofs.WatchingLemmas.{same-both, same-self, item-next}
 use Rattle.bus_calls.proofs.CapturesLemmas.{fault-in, first-stop}
 use Rattle.bus_calls.proofs.SessionsPackedLemmas.{faulty-stops, none-read}
-use Rattle.bus_bits.proofs.GatherLemmas.{octets-next}
+use Rattle.bus_formats.proofs.GatherLemmas.{octets-next}
 use Rattle.bus_calls.proofs.packed.PackedCapture.analyse.Goals as goal
 
 pub returns-in_err-many-clause-taken : goal.returns-in_err-many-clause-taken

@@ -2,9 +2,9 @@ use Rattle.std.proofs.Common.{ℕ, ◌-◌, ◌<◌, ◌≡◌, List, ◌++◌, 
 use Rattle.std.proofs.Common.{subst, arith, length-append, append-nil}
 use Rattle.std.proofs.lemmas.Result.{err_from_is_err_and}
 use Rattle.std.proofs.lemmas.List.{take_all}
-use Rattle.bus_bits.specs.declared.format.packed_head.HeadFault.{HeadFault}
-use Rattle.bus_bits.specs.Capture.{CaptureOf}
-use Rattle.bus_bits.specs.Packed.{head_fault_of}
+use Rattle.bus_formats.specs.declared.packed_head.HeadFault.{HeadFault}
+use Rattle.bus_formats.specs.Capture.{CaptureOf}
+use Rattle.bus_formats.specs.Packed.{head_fault_of}
 use Rattle.bus_text.specs.declared.fault.ToolFault.{ToolFault}
 use Rattle.bus_calls.specs.Internal.Sessions.{IsReadAs}
 use Rattle.bus_calls.specs.Captures.{IsSameFault}

@@ -1,5 +1,5 @@
 use Rattle.std.proofs.Common.{◌≡◌, None, arith, [], refl, sym, ap, subst}
-use Rattle.bus_bits.specs.Capture.{CaptureOf}
+use Rattle.bus_formats.specs.Capture.{CaptureOf}
 use Rattle.bus_calls.specs.Internal.Watching.{FeedAfter, WatchAfter}
 use Rattle.bus_calls.specs.Internal.Sessions.{SourceAfter, IsReadAs}
 use Rattle.bus_calls.specs.declared.reader.Source.{Source}

@@ -5,7 +5,7 @@ use Rattle.std.proofs.lemmas.List.{take_all}
 use Rattle.bus_calls.specs.Internal.Sessions.{OctetsAfter}
 use Rattle.bus_calls.proofs.WatchingLemmas.{same-self, same-both, item-next}
 use Rattle.bus_calls.proofs.CapturesLemmas.{first-stop}
-use Rattle.bus_bits.proofs.GatherLemmas.{octets-next}
+use Rattle.bus_formats.proofs.GatherLemmas.{octets-next}
 use Rattle.bus_calls.proofs.SessionsTextLemmas.{octets-before, none-taken}
 use Rattle.bus_calls.proofs.text.TextCapture.analyse.Goals as goal
 

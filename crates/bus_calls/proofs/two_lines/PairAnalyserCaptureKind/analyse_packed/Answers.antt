@@ -2,7 +2,7 @@ use Rattle.std.proofs.Common.{◌++◌, Ok, Err, length, take, arith}
 use Rattle.std.proofs.lemmas.List.{length-take}
 use Rattle.std.proofs.lemmas.Result.{err_from_is_err_and}
 use Rattle.bus_bits.proofs.OctetLemmas.{least}
-use Rattle.bus_bits.specs.Packed.{packed_pair_capture, pair_body}
+use Rattle.bus_formats.specs.Packed.{packed_pair_capture, pair_body}
 use Rattle.bus_calls.proofs.HeadedLemmas.{octets-read}
 use Rattle.bus_calls.proofs.SessionsPackedLemmas.{octets-taken}
 use Rattle.bus_calls.proofs.two_lines.PairAnalyserCaptureKind.analyse_packed.Goals as goal

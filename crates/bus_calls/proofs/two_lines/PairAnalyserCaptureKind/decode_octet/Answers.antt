@@ -1,5 +1,5 @@
 use Rattle.std.proofs.Common.{[], ◌∷◌}
-use Rattle.bus_bits.specs.Packed.{packed_pair_capture, pair_body}
+use Rattle.bus_formats.specs.Packed.{packed_pair_capture, pair_body}
 use Rattle.bus_calls.proofs.HeadedLemmas.{octet-read}
 use Rattle.bus_calls.proofs.two_lines.PairAnalyserCaptureKind.decode_octet.Goals as goal
 

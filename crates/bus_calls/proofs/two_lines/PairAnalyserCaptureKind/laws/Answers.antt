@@ -1,5 +1,5 @@
 use Rattle.std.proofs.Common.{[], ◌∷◌, ◌++◌, ◌+◌, length, refl}
-use Rattle.bus_bits.specs.Packed.{packed_pair_capture, pair_body}
+use Rattle.bus_formats.specs.Packed.{packed_pair_capture, pair_body}
 use Rattle.bus_pairing.specs.LineReport.{merged}
 use Rattle.bus_pairing.specs.Seen.{all_seen_at}
 use Rattle.bus_calls.specs.Captures.{form_of_two}

@@ -1,4 +1,4 @@
-use Rattle.bus_bits.specs.Packed.{packed_pair_capture, pair_body}
+use Rattle.bus_formats.specs.Packed.{packed_pair_capture, pair_body}
 use Rattle.bus_calls.proofs.HeadedLemmas.{head-alone}
 use Rattle.bus_calls.proofs.TwoLinesLemmas.{no_pair_body}
 use Rattle.bus_calls.proofs.two_lines.PairAnalyserCaptureKind.read_head.Goals as goal

@@ -2,7 +2,7 @@ use Rattle.std.proofs.Common.{◌/◌, ◌++◌, length, bit_and, refl, sym, ap,
 use Rattle.std.proofs.Common.{length-append}
 use Rattle.bus_bits.specs.Octet.{bits_of}
 use Rattle.bus_bits.proofs.OctetLemmas.{length-bits}
-use Rattle.bus_bits.proofs.TextBlockLemmas.{bits-halves}
+use Rattle.bus_formats.proofs.TextBlockLemmas.{bits-halves}
 use Rattle.bus_clocks.proofs.TurnsLemmas.{parts-more}
 use Rattle.bus_clocks.proofs.RoomLemmas.{own-count}
 use Rattle.bus_clocks.proofs.parted.Parted.take_first.Goals as goal

@@ -1,5 +1,0 @@
-use Rattle.bus_bits.proofs.PairsLemmas.{pairs-new}
-use Rattle.bus_bits.proofs.format.packed_pairs.PackedPairs.new.Goals as goal
-
-pub returns : goal.returns
-returns c = pairs-new c.args.head.pairs
