@@ -182,10 +182,15 @@ def comparison_of(schedule: Schedule, committed: Figures) -> Iterator[str]:
         return
     speed = median(ratios)
     yield f"Beside bench/gate.tsv, checks take {speed:.2f} of the committed seconds in the median; divided by that:"
+    grown = list(grown_by(pairs, speed))
+    new = {key: figure.seconds / speed for key, figure in slow_functions(schedule).items() if key not in committed}
+    grown += [f"  new above {SLOW:.0f} s: {key[1]}, {seconds:.0f} s" for key, seconds in new.items() if seconds > SLOW]
+    yield from grown or ["  none takes more"]
+
+
+def grown_by(pairs: Dict[Key, Tuple[float, float]], speed: float) -> Iterator[str]:
+    """What takes more than is committed, beyond the machine's speed."""
     for (part, name), (seconds, wanted) in pairs.items():
         mine = seconds / speed
         if part != FUNCTION and mine > wanted * (1 + PART_ABOVE) and mine > wanted + SECONDS_ABOVE:
             yield f"  more: {name}, {part}: {mine:.0f} s, committed are {wanted:.0f} s"
-    for key, figure in slow_functions(schedule).items():
-        if key not in committed and figure.seconds / speed > SLOW:
-            yield f"  new above {SLOW:.0f} s: {key[1]}, {figure.seconds / speed:.0f} s"
