@@ -2,6 +2,7 @@
 #
 #     make                              proves and builds program and library, with `rt`, where anything has changed, and
 #                                       reports how far it is
+#     make try                          lists an example by the library call, compiled without a proof, in half a minute
 #     make check                        runs the tests of the gate without the proofs (tests/run)
 #     make version                      writes the program's version into header, man page, Python module and docs/C.md
 #     make page                         builds the page, page/out/port1.html: the analyser as one file for a browser
@@ -88,6 +89,9 @@ crates/port1_c/out/%/libport1_c.a:
 %/$(SONAME): %/libport1_c.a c/package/libport1.map
 	$(CC) -shared -o $@ -Wl,-soname,$(SONAME) -Wl,-z,text -Wl,--version-script=c/package/libport1.map \
 		-Wl,--whole-archive $< -Wl,--no-whole-archive
+
+try:
+	@packages/try
 
 check: $(PROGRAM) $(SAMPLER)
 	tests/run
@@ -181,4 +185,4 @@ uninstall:
 	for folder in $(FOLDERS); do rmdir "$(DESTDIR)$$folder" 2> /dev/null || true; done
 	test -z "$(DESTDIR)" || { cd "$(DESTDIR)" 2> /dev/null && rmdir -p ".$(PREFIX)" 2> /dev/null; } || true
 
-.PHONY: all check page version install install-program install-scripts install-library dist uninstall
+.PHONY: all try check page version install install-program install-scripts install-library dist uninstall

@@ -136,13 +136,14 @@ def problems_of_command(made: Path, words: Sequence[str]) -> List[str]:
 
 
 def main() -> int:
-    """Builds the archive of the C library, and proves it and the crates below; `rt` knows what it has done before."""
+    """Builds the archive of the C library, and proves it and the crates below, where they changed."""
     words = words_of_archive(ARCHIVE, TOP)
     if words == ["rt", "lib"]:
         with in_turn(ARCHIVE.parent.parent):
             return subprocess.run(words, cwd=ARCHIVE.parent.parent).returncode
     problems = problems_of_build(ARCHIVE, TOP, words)
-    print(*problems, sep="\n")
+    for problem in problems:
+        print(problem)
     return 1 if problems else 0
 
 

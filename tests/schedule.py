@@ -29,7 +29,7 @@ SHOWN, SLOW, LEAST = 10, 15.0, 1.0
 # What is told of: a figure so much above the committed one, as a part of it, and by as many seconds.
 PART_ABOVE, SECONDS_ABOVE = 0.25, 20.0
 
-FUNCTION, SUM, CHAIN = "function", "sum", "chain"
+FUNCTION, SUM, CHAIN, EDIT, SEED = "function", "sum", "chain", "edit", "seed"
 
 # A part and a crate, or "function" and a function with its crate.
 Key = Tuple[str, str]
@@ -115,7 +115,7 @@ def report_of(schedule: Schedule) -> Iterator[str]:
     chain = chain_of(figures)
     total, last = sum(figure.seconds for figure in figures.values()), max(figure.end for figure in figures.values())
     yield f"{total / 60:.1f} processor minutes in {last / 60:.1f} minutes"
-    yield f"Longest chain, {seconds_of_chain(chain, figures) / 60:.1f} minutes: {' > '.join(chain)}"
+    yield f"Longest chain of these, {seconds_of_chain(chain, figures) / 60:.1f} minutes: {' > '.join(chain)}"
     if schedule.functions:
         yield "Slowest functions of crates with edits, in processor seconds with what the prover loads for them:"
     for function in slowest(schedule.functions)[:SHOWN]:
@@ -140,13 +140,27 @@ def schedule_of(text: str) -> Schedule:
 
 
 def figures_of(schedule: Schedule) -> Figures:
-    """The figures that may be committed."""
-    figures = parts_of(schedule)
-    chain = chain_of(figures)
-    every = {key: figure._replace(begin=0.0, end=0.0) for key, figure in sorted(figures.items())}
-    every.update(slow_functions(schedule))
-    every[SUM, "-"] = Figure(len(schedule.checks), sum(figure.seconds for figure in figures.values()))
-    every[CHAIN, "-"] = Figure(len(chain), seconds_of_chain(chain, figures))
+    """The figures that may be committed: no edits of a crate of which an earlier run has tried some."""
+    figures = {key: figure._replace(begin=0.0, end=0.0) for key, figure in parts_of(schedule).items()}
+    some = [key for key, figure in figures.items() if key[0] == EDIT and figure.count < edits_of(key[1])]
+    return {**{key: figure for key, figure in figures.items() if key not in some}, **slow_functions(schedule)}
+
+
+def edits_of(crate: str) -> int:
+    return len([*TOP.glob(f"crates/{crate}/must-fail/*.edit")])
+
+
+def merged(measured: Figures, committed: Figures) -> Figures:
+    """The measured figures, the committed ones of what was not measured, their sum, and the longest chain."""
+    crates = libraries_of(TOP)
+    seeds = [crate for part, crate in measured if part == SEED]
+    old = {key: figure for key, figure in committed.items() if key[1].partition("::")[0] in crates}
+    every = {key: figure for key, figure in old.items() if key[0] != FUNCTION or key[1].partition("::")[0] not in seeds}
+    every = dict(sorted({**every, **measured}.items()))
+    sums = [figure for key, figure in every.items() if key[0] != FUNCTION]
+    chain = chain_of(every)
+    every[SUM, "-"] = Figure(sum(figure.count for figure in sums), sum(figure.seconds for figure in sums))
+    every[CHAIN, "-"] = Figure(len(chain), seconds_of_chain(chain, every))
     return every
 
 
@@ -170,7 +184,7 @@ def committed_figures(path: Path = COMMITTED) -> Figures:
 def compared(measured: Figures, committed: Figures) -> Dict[Key, Tuple[float, float]]:
     """The seconds measured and committed of what was done in whole: as many checks as then."""
     whole = [key for key, figure in measured.items() if key in committed and committed[key].count == figure.count]
-    return {key: (measured[key].seconds, committed[key].seconds) for key in whole if key[0] not in (SUM, CHAIN)}
+    return {key: (measured[key].seconds, committed[key].seconds) for key in whole}
 
 
 def comparison_of(schedule: Schedule, committed: Figures) -> Iterator[str]:
@@ -182,10 +196,15 @@ def comparison_of(schedule: Schedule, committed: Figures) -> Iterator[str]:
         return
     speed = median(ratios)
     yield f"Beside bench/gate.tsv, checks take {speed:.2f} of the committed seconds in the median; divided by that:"
+    grown = list(grown_by(pairs, speed))
+    new = {key: figure.seconds / speed for key, figure in slow_functions(schedule).items() if key not in committed}
+    grown += [f"  new above {SLOW:.0f} s: {key[1]}, {seconds:.0f} s" for key, seconds in new.items() if seconds > SLOW]
+    yield from grown or ["  none takes more"]
+
+
+def grown_by(pairs: Dict[Key, Tuple[float, float]], speed: float) -> Iterator[str]:
+    """What takes more than is committed, beyond the machine's speed."""
     for (part, name), (seconds, wanted) in pairs.items():
         mine = seconds / speed
         if part != FUNCTION and mine > wanted * (1 + PART_ABOVE) and mine > wanted + SECONDS_ABOVE:
             yield f"  more: {name}, {part}: {mine:.0f} s, committed are {wanted:.0f} s"
-    for key, figure in slow_functions(schedule).items():
-        if key not in committed and figure.seconds / speed > SLOW:
-            yield f"  new above {SLOW:.0f} s: {key[1]}, {figure.seconds / speed:.0f} s"

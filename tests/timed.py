@@ -8,8 +8,8 @@ from typing import Iterator, List, NamedTuple, Sequence, Tuple
 
 import sampled
 from sampled import Check, Function, Kind, Sampler, function_of, kind_of
-from schedule import CHAIN, SUM, Figure, Schedule, chain_of, comparison_of, figures_of, lines_of, schedule_of, text_of
-from schedule import committed_figures
+from schedule import CHAIN, SUM, Figure, Schedule, chain_of, committed_figures, comparison_of, edits_of, figures_of
+from schedule import lines_of, merged, schedule_of, text_of
 
 # The edits of the crate in these tests, in the order in which `rt` tries them.
 EDITS = ["a.b.edit", "a.edit"]
@@ -79,8 +79,8 @@ def problems_of_sampler() -> List[str]:
 
 
 def schedule(seconds: Sequence[float], functions: Sequence[Function] = ()) -> Schedule:
-    """Checks of bus_bits, bus_fcs and bus_line, one after the other, each with edits."""
-    kinds = [Kind(crate, part) for crate in ("bus_bits", "bus_fcs", "bus_line") for part in ("proof", "edit")]
+    """Checks of bus_bits, bus_fcs and bus_line, one after the other, each with its tests."""
+    kinds = [Kind(crate, part) for crate in ("bus_bits", "bus_fcs", "bus_line") for part in ("proof", "tests")]
     checks = [Check(kind, taken, at, at + 1.0) for at, (kind, taken) in enumerate(zip(kinds, seconds))]
     return Schedule(checks, functions)
 
@@ -89,32 +89,41 @@ def problems_of_schedule() -> List[str]:
     """The file has what was measured, and the longest chain goes by the crates' proofs."""
     made = schedule([200, 10, 40, 20, 100, 30], [Function("bus_fcs", "fold", 16.0)])
     read = schedule_of("\n".join(lines_of(made)))
-    figures = figures_of(read)
+    figures = merged(figures_of(read), {("proof", "bus_text"): Figure(1, 5.0), ("proof", "gone"): Figure(1, 5.0)})
     with tempfile.TemporaryDirectory(prefix="port1-") as folder:
         path = Path(folder, "gate.tsv")
         path.write_text(text_of(figures), encoding="utf-8")
         committed = committed_figures(path)
-    fold = ("function", "bus_fcs::fold")
-    wanted = {(SUM, "-"): Figure(6, 400.0), (CHAIN, "-"): Figure(3, 340.0), fold: Figure(1, 16.0)}
+    fold, chain = ("function", "bus_fcs::fold"), chain_of(figures)
+    wanted = {(SUM, "-"): Figure(7, 405.0), (CHAIN, "-"): Figure(5, 345.0), fold: Figure(1, 16.0)}
     problems = [] if read == made and committed == figures else [f"{read}, {committed}"]
-    chain = chain_of(figures)
-    problems += [] if chain == ["bus_bits", "bus_fcs", "bus_line"] else [f"the chain is {chain}"]
+    is_right = len(figures) == 10 and chain[:3] == ["bus_bits", "bus_fcs", "bus_line"]
+    problems += [] if is_right else [f"{chain}, {figures}"]
     return problems + [f"{key}: {figures.get(key)}" for key, figure in wanted.items() if figures.get(key) != figure]
 
 
+def problems_of_parts() -> List[str]:
+    """Edits of which an earlier run has tried some are no figure."""
+    edits = [Check(Kind("bus_fcs", "edit", str(number)), 9.0, 0.0, 1.0) for number in range(edits_of("bus_fcs"))]
+    lengths = [len(figures_of(Schedule(some, []))) for some in (edits, edits[1:])]
+    return [] if lengths == [1, 0] else [f"{lengths} figures"]
+
+
 class Compared(NamedTuple):
-    """Seconds of a run, and of what it tells more than its head."""
+    """Seconds of a run, and what it tells after its head."""
 
     seconds: Sequence[float]
     functions: Sequence[Function]
     told: Sequence[str]
 
 
+NONE = ["  none takes more"]
+
 COMPARED = [
-    Compared([200, 60, 40, 60, 100, 60], [], []),
-    Compared([400, 120, 80, 120, 200, 120], [], []),
+    Compared([200, 60, 40, 60, 100, 60], [], NONE),
+    Compared([400, 120, 80, 120, 200, 120], [], NONE),
     Compared([200, 60, 40, 60, 150, 60], [], ["  more: bus_line, proof: 150 s, committed are 100 s"]),
-    Compared([200, 60, 59, 60, 100, 60], [], []),
+    Compared([200, 60, 59, 60, 100, 60], [], NONE),
     Compared([200, 60, 40, 60, 100, 60], [Function("bus_fcs", "fold", 16)], ["  new above 15 s: bus_fcs::fold, 16 s"]),
 ]
 
@@ -128,6 +137,9 @@ def problems_of_comparison() -> List[str]:
     return problems
 
 
+TESTS = [problems_of_kinds, problems_of_sampler, problems_of_schedule, problems_of_parts, problems_of_comparison]
+
+
 def results_of_times() -> Iterator[Tuple[str, List[str]]]:
-    for problems in (problems_of_kinds, problems_of_sampler, problems_of_schedule, problems_of_comparison):
+    for problems in TESTS:
         yield f"times of the gate: {problems.__name__}", problems()
