@@ -44,9 +44,13 @@ declare module "node:fs" {
   import { Readable } from "node:stream";
   interface Stats {
     mtime: Date;
+    mode: number;
     size: number;
+    isFIFO(): boolean;
     isFile(): boolean;
   }
+  const constants: { O_NONBLOCK: number; O_WRONLY: number };
+  function chmodSync(path: string, mode: number): void;
   function appendFileSync(path: string, text: string): void;
   function createReadStream(path: string): Readable;
   function createWriteStream(path: string): Readable;
@@ -58,13 +62,15 @@ declare module "node:fs" {
   function copyFileSync(from: string, to: string): void;
   function existsSync(path: string): boolean;
   function fstatSync(file: number): Stats;
-  function openSync(path: string, flags: string): number;
+  function openSync(path: string, flags: string | number): number;
   function read(
     file: number, room: Uint8Array, at: number, count: number, place: number | null, done: (...found: any[]) => void,
   ): void;
   function readFileSync(path: string | URL | number): Buffer;
   function readFileSync(path: string | URL | number, encoding: string): string;
   function readSync(file: number, room: Uint8Array, at?: number, count?: number, place?: number | null): number;
+  function readlinkSync(path: string): string;
+  function realpathSync(path: string): string;
   function renameSync(from: string, to: string): void;
   function rmSync(path: string, options: { force?: boolean; recursive?: boolean }): void;
   function statSync(path: string): Stats;
@@ -110,7 +116,13 @@ declare module "node:events" {
 declare module "node:path" {
   const delimiter: string;
   function basename(path: string, suffix?: string): string;
+  function dirname(path: string): string;
   function join(...parts: string[]): string;
+  function resolve(...parts: string[]): string;
+}
+
+declare module "node:timers/promises" {
+  function setTimeout(milliseconds: number): Promise<void>;
 }
 
 declare module "node:readline" {

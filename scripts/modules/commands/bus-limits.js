@@ -1,4 +1,4 @@
-import { readFileSync, writeFileSync } from "node:fs";
+import { readFileSync } from "node:fs";
 import { basename } from "node:path";
 import { Fault } from "../fault.js";
 import { csvOf, jsonOf, junitOf, textOf, verdictOf } from "../limits/forms.js";
@@ -11,6 +11,7 @@ import { objectOf } from "../statistics/object.js";
 import { misuse, positive, run, warn, wordsOf, writeText } from "./command.js";
 import { dateOf, piecesOf, sha256Of } from "./facts.js";
 import { rowsOfInput } from "./input.js";
+import { writeTextFile } from "./output.js";
 
 /** @typedef {import("../limits/judge.js").Unit} Unit */
 /** @typedef {import("../limits/limits.js").Statistics} Statistics */
@@ -132,10 +133,10 @@ run(async () => {
     found.push(one);
   }
   const { junit, csv, json, page } = values;
-  if (junit) writeFileSync(junit, junitOf(found));
-  if (csv) writeFileSync(csv, csvOf(found));
-  if (json) writeFileSync(json, jsonOf(found, date));
-  if (page) writeFileSync(page, pageOf(found, date, { file: basename(file), sha256: sha256Of(file) }));
+  if (junit) await writeTextFile(junit, junitOf(found));
+  if (csv) await writeTextFile(csv, csvOf(found));
+  if (json) await writeTextFile(json, jsonOf(found, date));
+  if (page) await writeTextFile(page, pageOf(found, date, { file: basename(file), sha256: sha256Of(file) }));
   const verdicts = found.map(verdictOf);
   return verdicts.includes("FAULT") ? 2 : Number(verdicts.includes("FAIL"));
 });

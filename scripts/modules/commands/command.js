@@ -49,7 +49,7 @@ export const warn = (text) => write(Buffer.from(`${name}: ${text}\n`), 2);
  * @param {unknown} error
  * @param {string} [wanted]
  */
-function isOfSystem(error, wanted) {
+export function isOfSystem(error, wanted) {
   const { code } = /** @type {{ code?: string }} */ (error);
   return code !== undefined && code === (wanted ?? code);
 }

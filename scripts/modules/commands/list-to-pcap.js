@@ -1,9 +1,9 @@
-import { closeSync, openSync, renameSync, rmSync } from "node:fs";
 import { PCAP_HEAD, PCAPNG_HEAD, pcapOf, pcapngOf, timeOf } from "../pcap/forms.js";
 import { Packets } from "../pcap/packets.js";
 import { DayTime } from "../statistics/day-time.js";
 import { misuse, positive, run, wordOf, wordsOf, write } from "./command.js";
 import { rowsOfInput } from "./input.js";
+import { writeFile } from "./output.js";
 
 /** @typedef {import("../pcap/packets.js").Packet} Packet */
 
@@ -26,20 +26,16 @@ function textOf(packet, clock) {
 }
 
 /**
- * Writes a file, which is there once all of it is.
+ * Writes a file of the form that its name says.
  * @param {string} file
  * @param {import("../pcap/forms.js").Clock} clock
  */
-async function writeFile(file, clock) {
-  const [head, octetsOf] = file.endsWith(".pcapng") ? [PCAPNG_HEAD, pcapngOf] : [PCAP_HEAD, pcapOf];
-  const part = `${file}.part`;
-  process.once("exit", () => rmSync(part, { force: true }));
-  const sink = openSync(part, "w");
-  write(head, sink);
-  for await (const packet of packetsOfInput()) write(octetsOf(packet, clock), sink);
-  closeSync(sink);
-  renameSync(part, file);
-}
+const writePackets = (file, clock) =>
+  writeFile(file, async (sink) => {
+    const [head, octetsOf] = file.endsWith(".pcapng") ? [PCAPNG_HEAD, pcapngOf] : [PCAP_HEAD, pcapOf];
+    write(head, sink);
+    for await (const packet of packetsOfInput()) write(octetsOf(packet, clock), sink);
+  });
 
 run(async () => {
   const begin = (/** @type {string} */ time) => new DayTime(time).begin;
@@ -47,6 +43,6 @@ run(async () => {
   const clock = { rate: wordOf("BITRATE", bitrate, positive), zero: values.begin ?? 0 };
   if (values.text === true && file !== undefined) throw misuse("--text takes no FILE");
   if (values.text !== true && file === undefined) throw misuse("there is no FILE");
-  if (file !== undefined) return writeFile(file, clock);
+  if (file !== undefined) return writePackets(file, clock);
   for await (const packet of packetsOfInput()) write(textOf(packet, clock));
 });

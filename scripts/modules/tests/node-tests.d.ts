@@ -5,7 +5,6 @@ declare module "node:assert/strict";
 declare module "node:os";
 
 declare module "node:fs" {
-  function chmodSync(path: string, mode: number): void;
   function mkdtempSync(prefix: string): string;
   function openAsBlob(path: string): Promise<Blob>;
 }

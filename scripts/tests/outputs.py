@@ -1,0 +1,151 @@
+"""Files that a command writes by the names it is given: what stands there keeps its kind, its mode and its links."""
+
+import json
+import os
+import signal
+import stat
+import subprocess
+import time
+from pathlib import Path
+from typing import Any, Dict, List
+
+from needs import needs
+from tests.case import SCRIPTS, SECONDS, Run, ran
+
+RATE = "153600"
+
+LISTING = b"8 49 frame 108300fde5\n57 98 frame 118300fde5\n"
+
+LIMITS = "[bus]\nframes = 2\n"
+
+RUNS: List[Run] = []
+
+# How long a command may take to end by a signal, in seconds, beside a loaded machine.
+ENDS = 60
+
+
+def compared(got: Any, wanted: Any) -> List[str]:
+    return [] if got == wanted else [f"wanted {wanted!r}, got {got!r}"]
+
+
+def writes(name: Path) -> subprocess.CompletedProcess:
+    return ran(["list-to-pcap", RATE, name], LISTING)
+
+
+def modes_stay(folder: Path) -> List[str]:
+    """A file that is there keeps its mode, a new one has that of a new file, and nothing else is left in the folder."""
+    old, new, other = folder / "old.pcap", folder / "new.pcap", folder / "other"
+    old.write_bytes(b"before")
+    old.chmod(0o640)
+    other.touch()
+    told = [writes(path).stderr for path in (old, new)]
+    modes = [stat.S_IMODE(path.stat().st_mode) for path in (old, new, other)]
+    names = sorted(path.name for path in folder.iterdir())
+    is_written = old.read_bytes() == new.read_bytes() != b""
+    wanted = ([b"", b""], [0o640, modes[2], modes[2]], ["new.pcap", "old.pcap", "other"], True)
+    return compared((told, modes, names, is_written), wanted)
+
+
+def links_stay(folder: Path) -> List[str]:
+    """A link stays one, also where it led to nothing; the file behind it is written."""
+    inside = folder / "inside"
+    inside.mkdir()
+    (inside / "there").write_bytes(b"before")
+    problems = []
+    for name in ("there", "missing"):
+        link = folder / name
+        link.symlink_to(Path("inside", name))
+        got = writes(link)
+        size = (inside / name).stat().st_size if (inside / name).is_file() else 0
+        problems += compared((got.stderr, link.is_symlink(), size > len(b"before")), (b"", True, True))
+    return problems + compared(sorted(path.name for path in inside.iterdir()), ["missing", "there"])
+
+
+def pipe_in_tshark(folder: Path) -> List[str]:
+    """tshark reads a named pipe while it is written, as Wireshark does; the pipe stays one."""
+    needs("tshark")
+    pipe = folder / "bus.pcapng"
+    os.mkfifo(pipe)
+    environment = {**os.environ, "HOME": str(folder), "XDG_CONFIG_HOME": str(folder)}
+    words = ["tshark", "-r", str(pipe), "-T", "fields", "-e", "sdlc.address"]
+    reader = subprocess.Popen(words, stdout=subprocess.PIPE, stderr=subprocess.DEVNULL, env=environment)
+    got = writes(pipe)
+    out, _ = reader.communicate(timeout=SECONDS)
+    wanted = (0, b"", ["0x10", "0x11"], True)
+    return compared((got.returncode, got.stderr, out.decode().split(), pipe.is_fifo()), wanted)
+
+
+def reports_into_pipes(folder: Path) -> List[str]:
+    """Each file that bus-limits writes may be a pipe."""
+    limits, listing = folder / "limits.toml", folder / "listing"
+    limits.write_text(LIMITS)
+    listing.write_bytes(LISTING)
+    problems = []
+    for option in ("--junit", "--csv", "--json", "--page"):
+        pipe = folder / option[2:]
+        os.mkfifo(pipe)
+        reader = subprocess.Popen(["cat", str(pipe)], stdout=subprocess.PIPE)
+        got = ran(["bus-limits", option, pipe, limits, f"unit={listing}"])
+        out, _ = reader.communicate(timeout=SECONDS)
+        is_whole = bool(json.loads(out)) if option == "--json" else b"unit" in out
+        problems += compared((option, got.returncode, got.stderr, is_whole, pipe.is_fifo()), (option, 0, b"", True, True))
+    return problems
+
+
+def devices_stay(folder: Path) -> List[str]:
+    """A full device refuses what is written, and is a device afterwards."""
+    device = folder / "full"
+    try:
+        os.mknod(device, stat.S_IFCHR | 0o666, os.makedev(1, 7))
+        device.open("wb").close()
+    except PermissionError:
+        device = Path("/dev/full")
+    if device == Path("/dev/full") and os.geteuid() == 0:
+        needs("a folder for devices")
+    got = writes(device)
+    is_told = b"list-to-pcap: " in got.stderr and b"ENOSPC" in got.stderr and got.stderr.count(b"\n") == 1
+    return compared((got.returncode, is_told, stat.S_ISCHR(device.stat().st_mode)), (2, True, True))
+
+
+def standard_output_by_name(folder: Path) -> List[str]:
+    """/dev/stdout is what the command was given for it."""
+    path = folder / "out.pcap"
+    with path.open("wb") as sink:
+        words = [SCRIPTS / "list-to-pcap", RATE, "/dev/stdout"]
+        done = subprocess.run(words, input=LISTING, stdout=sink, stderr=subprocess.PIPE, timeout=SECONDS)
+    return compared((done.returncode, done.stderr, path.stat().st_size > 24), (0, b"", True))
+
+
+def a_pipe_without_reader(folder: Path) -> List[str]:
+    """A command that waits for the reader of a pipe ends by a signal."""
+    pipe = folder / "bus.pcap"
+    os.mkfifo(pipe)
+    words = [SCRIPTS / "list-to-pcap", RATE, pipe]
+    child = subprocess.Popen(words, stdin=subprocess.DEVNULL, stdout=subprocess.DEVNULL, stderr=subprocess.PIPE)
+    status, until = f"/proc/{child.pid}/status", time.monotonic() + ENDS
+    # Until it catches signals, it has not begun.
+    while not catches(status, signal.SIGTERM) and time.monotonic() < until:
+        time.sleep(0.01)
+    child.send_signal(signal.SIGTERM)
+    _, told = child.communicate(timeout=ENDS)
+    return compared((child.returncode, told), (-signal.SIGTERM, b""))
+
+
+def catches(status: str, number: int) -> bool:
+    """Whether a process has a handler of a signal, by its file in /proc."""
+    fields: Dict[str, str] = {}
+    for line in Path(status).read_text().splitlines():
+        key, _, value = line.partition(":")
+        fields[key] = value.strip()
+    return bool(int(fields.get("SigCgt", "0"), 16) >> (number - 1) & 1)
+
+
+TESTS = [
+    modes_stay,
+    links_stay,
+    pipe_in_tshark,
+    reports_into_pipes,
+    devices_stay,
+    standard_output_by_name,
+    a_pipe_without_reader,
+]
