@@ -19,7 +19,7 @@ pub enum Takes {
 #[derive(Clone, Copy)]
 pub struct ArgumentRow {
     pub name: &'static str,
-    /// Whether it is found by its place, and has no long name.
+    /// Whether it is known by its place alone, without a long name.
     pub is_positional: bool,
     pub is_required: bool,
     pub takes: Takes,
@@ -27,9 +27,9 @@ pub struct ArgumentRow {
     pub values: &'static [&'static str],
     /// Its value where it is left out.
     pub defaults: &'static [&'static str],
-    /// The arguments that cannot stand beside it.
+    /// The arguments that must not stand beside it.
     pub conflicts: &'static [&'static str],
-    /// Those that have to.
+    /// The arguments that must stand beside it.
     pub needs: &'static [&'static str],
     pub help: &'static str,
 }

@@ -14,8 +14,7 @@ use Rattle.bus_formats.specs.Packed.{head_bits, head_fault_by, unused, wanted, p
 use Rattle.bus_formats.specs.Packed.{whole_by, PackedAfter}
 use Rattle.bus_bits.proofs.CaseLemmas.{lt_true, le_false, same, le_or_lt}
 use Rattle.bus_bits.proofs.ListLemmas.{take_past}
-use Rattle.bus_formats.proofs.CaptureLemmas.{same_grows, clean_grows}
-use Rattle.bus_formats.proofs.CaptureLemmas.{grows_along}
+use Rattle.bus_formats.proofs.CaptureLemmas.{same_grows, clean_grows, grows_along}
 use Rattle.bus_bits.proofs.OctetLemmas.{length-bits, length-bits_of_octets, bits_of_octets-push, bits_of_octets-append}
 
 -- an unused bit is 1

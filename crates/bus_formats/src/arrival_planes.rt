@@ -5,9 +5,8 @@ ghost use Rattle.std.specs.Prelude.{slice_index, take, zip, None};
 ghost use Rattle.std.specs.Simd.Lanes.{mask_l};
 ghost use Rattle.bus_bits.specs.Bits.{bits_from};
 ghost use Rattle.bus_bits.specs.Octet.{bits_of};
-ghost use Rattle.bus_formats.specs.Capture.{TextEnds, is_arrival, mark_arrival, text_arrivals};
+ghost use Rattle.bus_formats.specs.Capture.{TextEnds, is_arrival, mark_arrival, text_arrivals, text_arrivals_fault};
 ghost use Rattle.bus_bits.specs.Text.{is_space};
-ghost use Rattle.bus_formats.specs.Capture.{text_arrivals_fault};
 ghost use Rattle.bus_formats.specs.Internal.Packs.{AreParted, bits_of_both, lines_of_both};
 
 use crate::text_arrivals::TextArrivals;

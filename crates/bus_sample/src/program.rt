@@ -16,7 +16,9 @@ const FINE: u8 = 0;
 /// The status of any fault.
 const FAULT: u8 = 2;
 
-/// Does what is asked for, and returns the status.
+/// Does what is asked for, and returns the status: 0, or 2 for any fault.
+///
+/// A recording is read from `r`. Its arrivals go to `w`, facts and faults to `e`; that `e` fails at a fault is ignored.
 pub fn execute<R: Read, W: Write, E: Write>(
     request: &Request,
     r: &mut R,
