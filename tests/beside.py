@@ -1,4 +1,4 @@
-"""Runs commands side by side: what one writes is printed in one piece, when it has ended.
+"""Runs commands side by side: a line says that one begins, and its output is printed in one piece when it has ended.
 
 An interrupt ends all of them, and what they started. A command that fails stops no other.
 """
@@ -123,6 +123,7 @@ def run_beside(tasks: Sequence[Task], most: int, place: Place) -> Dict[str, Ende
     try:
         while left or going:
             for task in list(ready(left, going))[: most - len(going)]:
+                print(f".. {task.name} begins", flush=True)
                 left.remove(task)
                 going.append(begin(task, place, tempfile.TemporaryFile()))
             over = [each for each in going if each.process.poll() is not None]
