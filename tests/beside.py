@@ -60,6 +60,11 @@ def ready(left: Sequence[Task], going: Sequence[Going]) -> Iterator[Task]:
             yield task
 
 
+def heed_interrupts() -> None:
+    """Has a command end at an interrupt, which what a shell starts in the background passes over."""
+    signal.signal(signal.SIGINT, signal.SIG_DFL)
+
+
 def begin(task: Task, place: Place, output: Optional[IO[bytes]]) -> Going:
     process = subprocess.Popen(
         task.words,
@@ -69,6 +74,7 @@ def begin(task: Task, place: Place, output: Optional[IO[bytes]]) -> Going:
         stdout=output,
         stderr=subprocess.STDOUT if output else None,
         start_new_session=True,
+        preexec_fn=heed_interrupts,
     )
     return Going(task, process, output, time.monotonic())
 

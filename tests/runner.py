@@ -121,12 +121,13 @@ def problems_of_order() -> List[str]:
 
 # It runs two tests that write their process numbers, which begin a session each, and sleep.
 SLEEPS = """\
-import os, sys
+import os, signal, sys
 from pathlib import Path
 sys.path.insert(0, sys.argv[1])
 import beside
 from beside import Place, Task, run_beside
 beside.GRACE = 0.5
+signal.signal(signal.SIGINT, signal.default_int_handler)
 sleep = ["sh", "-c", "trap '' INT; echo $$ > $0.new; mv $0.new $0; sleep 600; sleep 600"]
 run_beside([Task(name, "", [*sleep, name], 1) for name in "ab"], 2, Place(Path(sys.argv[2]), os.environ))
 """
