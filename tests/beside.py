@@ -1,4 +1,4 @@
-"""Runs commands side by side: what one writes is printed in one piece, when it has ended.
+"""Runs commands side by side: a line says that one begins, and its output is printed in one piece when it has ended.
 
 An interrupt ends all of them, and what they started. A command that fails stops no other.
 """
@@ -60,6 +60,11 @@ def ready(left: Sequence[Task], going: Sequence[Going]) -> Iterator[Task]:
             yield task
 
 
+def heed_interrupts() -> None:
+    """Has a command end at an interrupt, which what a shell starts in the background passes over."""
+    signal.signal(signal.SIGINT, signal.SIG_DFL)
+
+
 def begin(task: Task, place: Place, output: Optional[IO[bytes]]) -> Going:
     process = subprocess.Popen(
         task.words,
@@ -69,6 +74,7 @@ def begin(task: Task, place: Place, output: Optional[IO[bytes]]) -> Going:
         stdout=output,
         stderr=subprocess.STDOUT if output else None,
         start_new_session=True,
+        preexec_fn=heed_interrupts,
     )
     return Going(task, process, output, time.monotonic())
 
@@ -123,6 +129,7 @@ def run_beside(tasks: Sequence[Task], most: int, place: Place) -> Dict[str, Ende
     try:
         while left or going:
             for task in list(ready(left, going))[: most - len(going)]:
+                print(f".. {task.name} begins", flush=True)
                 left.remove(task)
                 going.append(begin(task, place, tempfile.TemporaryFile()))
             over = [each for each in going if each.process.poll() is not None]

@@ -105,7 +105,8 @@ def problems_of_beside() -> List[str]:
     with tempfile.TemporaryDirectory(prefix="port1-") as folder:
         meeting, _ = beside([Task(pair, "", ["sh", "-c", MEETS, *pair], 1) for pair in ("ab", "ba")], 2, folder)
         saying, out = beside([Task(name, f"== {name}", ["sh", "-c", says, name], 1) for name in "ab"], 2, folder)
-    pieces = {"== a\na\na\n== b\nb\nb\n", "== b\nb\nb\n== a\na\na\n"}
+    begins = ".. a begins\n.. b begins\n"
+    pieces = {f"{begins}== {one}\n{one}\n{one}\n== {other}\n{other}\n{other}\n" for one, other in ("ab", "ba")}
     return [] if (meeting, saying, out in pieces) == ([0, 0], [0, 0], True) else [f"{meeting}, {saying}: {out!r}"]
 
 
@@ -114,17 +115,19 @@ def problems_of_order() -> List[str]:
     tasks = [Task("c", "c", ["true"], 5), Task("b", "b", ["true"], 3, ["a"]), Task("a", "a", ["true"], 4)]
     with tempfile.TemporaryDirectory(prefix="port1-") as folder:
         _, out = beside(tasks, 1, folder)
-    return [] if out.split() == ["a", "c", "b"] else [f"they run in the order {out.split()}"]
+    names = out.split()[1::4]
+    return [] if names == ["a", "c", "b"] else [f"they run in the order {names}"]
 
 
 # It runs two tests that write their process numbers, which begin a session each, and sleep.
 SLEEPS = """\
-import os, sys
+import os, signal, sys
 from pathlib import Path
 sys.path.insert(0, sys.argv[1])
 import beside
 from beside import Place, Task, run_beside
 beside.GRACE = 0.5
+signal.signal(signal.SIGINT, signal.default_int_handler)
 sleep = ["sh", "-c", "trap '' INT; echo $$ > $0.new; mv $0.new $0; sleep 600; sleep 600"]
 run_beside([Task(name, "", [*sleep, name], 1) for name in "ab"], 2, Place(Path(sys.argv[2]), os.environ))
 """
@@ -135,7 +138,7 @@ def problems_of_interrupt() -> List[str]:
     with tempfile.TemporaryDirectory(prefix="port1-") as folder:
         files = [Path(folder, name) for name in "ab"]
         words = [sys.executable, "-B", "-c", SLEEPS, str(TOP / "tests"), folder]
-        with subprocess.Popen(words, stderr=subprocess.DEVNULL) as running:
+        with subprocess.Popen(words, stdout=subprocess.DEVNULL, stderr=subprocess.DEVNULL) as running:
             until = time.monotonic() + SOON
             while not all(file.exists() for file in files) and time.monotonic() < until:
                 time.sleep(0.1)
