@@ -79,12 +79,13 @@ class Seen:
 
 
 def process_of(number: str) -> Optional[Process]:
+    """A process, or nothing where it has just ended."""
     try:
         words = Path("/proc", number, "stat").read_text(encoding="utf-8", errors="replace").rpartition(")")[2].split()
-    except OSError:
+        own, ended = (int(words[11]) + int(words[12])) / TICKS, (int(words[13]) + int(words[14])) / TICKS
+        return Process(int(words[1]), int(words[19]), own, ended)
+    except (OSError, ValueError, IndexError):
         return None
-    own, ended = (int(words[11]) + int(words[12])) / TICKS, (int(words[13]) + int(words[14])) / TICKS
-    return Process(int(words[1]), int(words[19]), own, ended)
 
 
 def processes() -> Dict[int, Process]:
