@@ -9,15 +9,13 @@ mod samples;
 mod scans;
 
 use crate::expect::{holds, same};
-use bus_bits::Span;
 use bus_clocks::{Arrival, TwoClockAnalyser};
 use bus_dictionary::Dictionary;
 use bus_fcs::{BitCheck, Check, OctetCheck};
-use bus_seen::{NONE, push_seen_on};
-use bus_watch::{
-    Counts, FeedFault, Line, PairEnding, PairSink, PairUsage, Pending, Seen, SinkRefused,
-};
-use std::alloc::{AllocError, Global};
+use bus_rows::pair_row_of;
+use bus_seen::{push_counts, push_pair_ending, push_seen_on};
+use bus_watch::{FeedFault, Line, PairSink, PairUsage, Seen, SinkRefused};
+use std::alloc::Global;
 use std::process::Abort;
 
 /// Calls and replies, within forty bits.
@@ -34,22 +32,6 @@ name = \"reply\"
 length = 0
 ";
 
-/// So many bits of the first line arrive, then so many of the second, and this so many times.
-type Turn = (usize, usize, usize);
-
-/// The words of the first line, which goes on with ones, those of the second, and how their bits arrive; then come the
-/// rest of the first line and that of the second. What is seen, what is open at the end, and the verdicts on station
-/// 16.
-struct ClockRow {
-    name: &'static str,
-    first: &'static str,
-    second: &'static str,
-    turns: &'static [Turn],
-    want: &'static str,
-    ending: PairEnding,
-    tally: Counts,
-}
-
 const CALL: &str = "flag call flag";
 
 const REPLY: &str = "flag reply flag";
@@ -57,138 +39,47 @@ const REPLY: &str = "flag reply flag";
 /// How many bits the first line of a row has.
 const LENGTH: usize = 200;
 
-const ANSWERED: Counts = Counts {
-    answered: 1,
-    ..NONE
-};
-
-const NOTHING_OPEN: PairEnding = PairEnding {
-    first: None,
-    second: None,
-    pending: None,
-};
-
-const CLOCK_ROWS: [ClockRow; 10] = [
-    ClockRow {
-        name: "in turn, as with one clock",
-        first: CALL,
-        second: "ones-57 111 flag reply flag ones-57 11111111111111111111111111",
-        turns: &[(1, 1, 200)],
-        want: "0 15 idle on 2; 8 49 frame 108300fde5 station 16 type 0 on 1; 57 72 idle on 1; \
-            68 109 frame 108380f561 station 16 type 128, answered 8 49 station 16 type 0 on 2; 117 132 idle on 2",
-        ending: NOTHING_OPEN,
-        tally: ANSWERED,
-    },
-    ClockRow {
-        name: "the second clock runs while the reply is sent",
-        first: CALL,
-        second: REPLY,
-        turns: &[(60, 0, 1), (1, 1, 57)],
-        want: "8 49 frame 108300fde5 station 16 type 0 on 1; 57 72 idle on 1; \
-            68 109 frame 108380f561 station 16 type 128, answered 8 49 station 16 type 0 on 2",
-        ending: NOTHING_OPEN,
-        tally: ANSWERED,
-    },
-    ClockRow {
-        name: "it stops for eighty places within the frame",
-        first: CALL,
-        second: REPLY,
-        turns: &[(60, 0, 1), (1, 1, 28), (80, 0, 1), (1, 1, 29)],
-        want: "8 49 frame 108300fde5 station 16 type 0 on 1; 57 72 idle on 1; \
-            68 189 frame 108380f561 station 16 type 128, answered 8 49 station 16 type 0 on 2",
-        ending: NOTHING_OPEN,
-        tally: ANSWERED,
-    },
-    ClockRow {
-        name: "it is quicker: 51 bits in 50 places",
-        first: CALL,
-        second: REPLY,
-        turns: &[(61, 2, 1), (1, 1, 49), (1, 2, 1), (1, 1, 4)],
-        want: "8 49 frame 108300fde5 station 16 type 0 on 1; 57 72 idle on 1; \
-            67 108 frame 108380f561 station 16 type 128, answered 8 49 station 16 type 0 on 2",
-        ending: NOTHING_OPEN,
-        tally: ANSWERED,
-    },
-    ClockRow {
-        name: "it is slower: 50 bits in 51 places",
-        first: CALL,
-        second: REPLY,
-        turns: &[(60, 0, 1), (1, 1, 50), (2, 1, 1), (1, 1, 6)],
-        want: "8 49 frame 108300fde5 station 16 type 0 on 1; 57 72 idle on 1; \
-            68 109 frame 108380f561 station 16 type 128, answered 8 49 station 16 type 0 on 2",
-        ending: NOTHING_OPEN,
-        tally: ANSWERED,
-    },
-    ClockRow {
-        name: "the first clock stands while the reply comes",
-        first: CALL,
-        second: REPLY,
-        turns: &[(66, 57, 1)],
-        want: "8 49 frame 108300fde5 station 16 type 0 on 1; \
-            65 66 frame 108380f561 station 16 type 128, answered 8 49 station 16 type 0 on 2; 57 72 idle on 1",
-        ending: NOTHING_OPEN,
-        tally: ANSWERED,
-    },
-    ClockRow {
-        name: "the last place of the window",
-        first: CALL,
-        second: REPLY,
-        turns: &[(81, 0, 1), (1, 1, 57)],
-        want: "8 49 frame 108300fde5 station 16 type 0 on 1; 57 72 idle on 1; \
-            89 130 frame 108380f561 station 16 type 128, answered 8 49 station 16 type 0 on 2",
-        ending: NOTHING_OPEN,
-        tally: ANSWERED,
-    },
-    ClockRow {
-        name: "one place past the window",
-        first: CALL,
-        second: REPLY,
-        turns: &[(82, 0, 1), (1, 1, 57)],
-        want: "8 49 frame 108300fde5 station 16 type 0 on 1; 57 72 idle on 1; \
-            90 131 frame 108380f561 station 16 type 128, late 8 49 station 16 type 0 on 2",
-        ending: NOTHING_OPEN,
-        tally: Counts { late: 1, ..NONE },
-    },
-    ClockRow {
-        name: "the second line's bits before the first's",
-        first: CALL,
-        second: REPLY,
-        turns: &[(0, 57, 1)],
-        want: "0 1 frame 108380f561 station 16 type 128, stray on 2; \
-            8 49 frame 108300fde5 station 16 type 0 on 1; 57 72 idle on 1",
-        ending: PairEnding {
-            first: None,
-            second: None,
-            pending: Some(Pending {
-                span: Span { first: 8, past: 49 },
-                station: 16,
-                ftype: 0,
-            }),
-        },
-        tally: NONE,
-    },
-    // the piece has its first bit at place 68, and its last one at place 87
-    ClockRow {
-        name: "a reply that is broken off",
-        first: CALL,
-        second: "flag 00001000 11000001 0000",
-        turns: &[(60, 0, 1), (1, 1, 28)],
-        want: "8 49 frame 108300fde5 station 16 type 0 on 1; 57 72 idle on 1",
-        ending: PairEnding {
-            first: None,
-            second: Some(Span {
-                first: 68,
-                past: 88,
-            }),
-            pending: Some(Pending {
-                span: Span { first: 8, past: 49 },
-                station: 16,
-                ftype: 0,
-            }),
-        },
-        tally: NONE,
-    },
-];
+/// The name of a row. Then how bits arrive: so many of the first line, then so many of the second, and this so many
+/// times. After these turns come the rest of the first line and that of the second. Then the words of the first line,
+/// which goes on with ones, those of the second, and what is seen. Behind `@` is what is open or pending at the end,
+/// and the verdicts on station 16.
+///
+/// The reply that is broken off has its first bit at place 68, and its last one at place 87.
+const CLOCK_ROWS: &str = "\
+    in turn, as with one clock # 1 1 200 # \
+        flag call flag | ones-57 111 flag reply flag ones-57 11111111111111111111111111 => \
+        0 15 idle on 2; 8 49 frame 108300fde5 station 16 type 0 on 1; 57 72 idle on 1; \
+        68 109 frame 108380f561 station 16 type 128, answered 8 49 station 16 type 0 on 2; 117 132 idle on 2 \
+        @ answered 1\n\
+    the second clock runs while the reply is sent # 60 0 1, 1 1 57 # flag call flag | flag reply flag => \
+        8 49 frame 108300fde5 station 16 type 0 on 1; 57 72 idle on 1; \
+        68 109 frame 108380f561 station 16 type 128, answered 8 49 station 16 type 0 on 2 @ answered 1\n\
+    it stops for eighty places within the frame # 60 0 1, 1 1 28, 80 0 1, 1 1 29 # \
+        flag call flag | flag reply flag => \
+        8 49 frame 108300fde5 station 16 type 0 on 1; 57 72 idle on 1; \
+        68 189 frame 108380f561 station 16 type 128, answered 8 49 station 16 type 0 on 2 @ answered 1\n\
+    it is quicker: 51 bits in 50 places # 61 2 1, 1 1 49, 1 2 1, 1 1 4 # flag call flag | flag reply flag => \
+        8 49 frame 108300fde5 station 16 type 0 on 1; 57 72 idle on 1; \
+        67 108 frame 108380f561 station 16 type 128, answered 8 49 station 16 type 0 on 2 @ answered 1\n\
+    it is slower: 50 bits in 51 places # 60 0 1, 1 1 50, 2 1 1, 1 1 6 # flag call flag | flag reply flag => \
+        8 49 frame 108300fde5 station 16 type 0 on 1; 57 72 idle on 1; \
+        68 109 frame 108380f561 station 16 type 128, answered 8 49 station 16 type 0 on 2 @ answered 1\n\
+    the first clock stands while the reply comes # 66 57 1 # flag call flag | flag reply flag => \
+        8 49 frame 108300fde5 station 16 type 0 on 1; \
+        65 66 frame 108380f561 station 16 type 128, answered 8 49 station 16 type 0 on 2; 57 72 idle on 1 \
+        @ answered 1\n\
+    the last place of the window # 81 0 1, 1 1 57 # flag call flag | flag reply flag => \
+        8 49 frame 108300fde5 station 16 type 0 on 1; 57 72 idle on 1; \
+        89 130 frame 108380f561 station 16 type 128, answered 8 49 station 16 type 0 on 2 @ answered 1\n\
+    one place past the window # 82 0 1, 1 1 57 # flag call flag | flag reply flag => \
+        8 49 frame 108300fde5 station 16 type 0 on 1; 57 72 idle on 1; \
+        90 131 frame 108380f561 station 16 type 128, late 8 49 station 16 type 0 on 2 @ late 1\n\
+    the second line's bits before the first's # 0 57 1 # flag call flag | flag reply flag => \
+        0 1 frame 108380f561 station 16 type 128, stray on 2; \
+        8 49 frame 108300fde5 station 16 type 0 on 1; 57 72 idle on 1 @ pending 8 49 station 16 type 0\n\
+    a reply that is broken off # 60 0 1, 1 1 28 # flag call flag | flag 00001000 11000001 0000 => \
+        8 49 frame 108300fde5 station 16 type 0 on 1; 57 72 idle on 1 \
+        @ begun 68 88 on 2; pending 8 49 station 16 type 0";
 
 /// The bits of words.
 fn bits_of(rt: &impl Abort, alloc: Global, words: &str) -> Vec<bool> {
@@ -197,35 +88,47 @@ fn bits_of(rt: &impl Abort, alloc: Global, words: &str) -> Vec<bool> {
 
 /// The next bits of a line arrive, as far as it has any.
 fn push_bits<'a>(
+    rt: &impl Abort,
     arrivals: &mut Vec<Arrival>,
     line: Line,
     bits: &'a [bool],
     count: usize,
-) -> Result<&'a [bool], AllocError> {
+) -> &'a [bool] {
     let (now, rest) = bits.split_at(count.min(bits.len()));
     for bit in now {
-        arrivals.push((line, *bit))?;
+        arrivals.push((line, *bit)).expect(rt, "memory");
     }
-    Ok(rest)
+    rest
+}
+
+/// A number of a turn.
+fn number_of(rt: &impl Abort, word: Option<&str>) -> usize {
+    word.expect(rt, "a number")
+        .parse::<usize>()
+        .expect(rt, "a number")
 }
 
 /// The bits of two lines as they arrive in these turns, and then the rest of the first and of the second.
 fn arrivals_of(
+    rt: &impl Abort,
     alloc: Global,
     mut first: &[bool],
     mut second: &[bool],
-    turns: &[Turn],
-) -> Result<Vec<Arrival>, AllocError> {
+    turns: &str,
+) -> Vec<Arrival> {
     let mut arrivals = Vec::new(alloc);
-    for turn in turns {
-        for _ in 0..turn.2 {
-            first = push_bits(&mut arrivals, Line::First, first, turn.0)?;
-            second = push_bits(&mut arrivals, Line::Second, second, turn.1)?;
+    for turn in turns.split(',') {
+        let mut words = turn.split_whitespace();
+        let one = number_of(rt, words.next());
+        let other = number_of(rt, words.next());
+        for _ in 0..number_of(rt, words.next()) {
+            first = push_bits(rt, &mut arrivals, Line::First, first, one);
+            second = push_bits(rt, &mut arrivals, Line::Second, second, other);
         }
     }
-    push_bits(&mut arrivals, Line::First, first, first.len())?;
-    push_bits(&mut arrivals, Line::Second, second, second.len())?;
-    Ok(arrivals)
+    push_bits(rt, &mut arrivals, Line::First, first, first.len());
+    push_bits(rt, &mut arrivals, Line::Second, second, second.len());
+    arrivals
 }
 
 /// The bits of these words, as they arrive in these turns; the first line goes on with ones.
@@ -234,12 +137,12 @@ fn arrivals_in(
     alloc: Global,
     first: &str,
     second: &str,
-    turns: &[Turn],
+    turns: &str,
 ) -> Vec<Arrival> {
     let mut first = bits_of(rt, alloc, first);
     first.resize(LENGTH, true).expect(rt, "memory");
     let second = bits_of(rt, alloc, second);
-    arrivals_of(alloc, &first, &second, turns).expect(rt, "memory")
+    arrivals_of(rt, alloc, &first, &second, turns)
 }
 
 /// An analyser of calls and replies, with a history of two frames.
@@ -331,17 +234,45 @@ fn feed<C: Check>(
     analyser.feed(arrivals, sink)
 }
 
-fn check_row<C: Check>(rt: &impl Abort, alloc: Global, row: &ClockRow) {
-    let arrivals = arrivals_in(rt, alloc, row.first, row.second, row.turns);
+/// What is open or pending at the end, and the verdicts on station 16; there are none on station 17.
+fn standing<C: Check>(rt: &impl Abort, alloc: Global, analyser: &TwoClockAnalyser<C>) -> String {
+    let mut text = String::new(alloc);
+    push_pair_ending(&mut text, analyser.ending()).expect(rt, "text");
+    push_counts(&mut text, analyser.tally(16)).expect(rt, "text");
+    push_counts(&mut text, analyser.tally(17)).expect(rt, "text");
+    text
+}
+
+/// The name of a row, its arrivals, and what is wanted of them.
+#[derive(Drop)]
+struct ClockRow<'a> {
+    name: &'a str,
+    arrivals: Vec<Arrival>,
+    want: &'a str,
+    standing: &'a str,
+}
+
+fn clock_row<'a>(rt: &impl Abort, alloc: Global, line: &'a str) -> ClockRow<'a> {
+    let (name, rest) = line.split_once('#').expect(rt, "a name");
+    let (turns, rest) = rest.split_once('#').expect(rt, "turns");
+    let row = pair_row_of(rest).expect(rt, "a row");
+    ClockRow {
+        name,
+        arrivals: arrivals_in(rt, alloc, row.first, row.second, turns),
+        want: row.want,
+        standing: row.standing,
+    }
+}
+
+fn check_row<C: Check>(rt: &impl Abort, alloc: Global, row: &ClockRow<'_>) {
     let mut one_by_one = analyser::<C>(rt, alloc);
-    let text = pushed(rt, alloc, &mut one_by_one, &arrivals);
+    let text = pushed(rt, alloc, &mut one_by_one, &row.arrivals);
     same(rt, text.as_str(), row.want, row.name);
-    same(rt, one_by_one.ending(), row.ending, row.name);
-    same(rt, one_by_one.tally(16), row.tally, row.name);
-    same(rt, one_by_one.tally(17), NONE, row.name);
-    for cut in 0..=arrivals.len() {
+    let text = standing(rt, alloc, &one_by_one);
+    same(rt, text.as_str(), row.standing, row.name);
+    for cut in 0..=row.arrivals.len() {
         if cut % 8 == 0 {
-            check_cut::<C>(rt, alloc, row, &arrivals, cut, one_by_one.usage());
+            check_cut::<C>(rt, alloc, row, cut, one_by_one.usage());
         }
     }
 }
@@ -350,13 +281,12 @@ fn check_row<C: Check>(rt: &impl Abort, alloc: Global, row: &ClockRow) {
 fn check_cut<C: Check>(
     rt: &impl Abort,
     alloc: Global,
-    row: &ClockRow,
-    arrivals: &[Arrival],
+    row: &ClockRow<'_>,
     cut: usize,
     usage: PairUsage,
 ) {
     let case = format_args!("{}, cut at {cut}", row.name);
-    let (front, rest) = arrivals.split_at_checked(cut).expect(rt, "a cut");
+    let (front, rest) = row.arrivals.split_at_checked(cut).expect(rt, "a cut");
     let mut fed = analyser::<C>(rt, alloc);
     let mut sink = Collector::new(alloc, 0);
     feed(rt, &mut fed, front, &mut sink).expect(rt, "room");
@@ -370,8 +300,9 @@ fn check_cut<C: Check>(
 #[test]
 fn rows_of_two_clocks(rt: HostRuntime) {
     let alloc = rt.alloc();
-    for row in &CLOCK_ROWS {
-        check_row::<BitCheck>(&rt, alloc, row);
-        check_row::<OctetCheck>(&rt, alloc, row);
+    for line in CLOCK_ROWS.lines() {
+        let row = clock_row(&rt, alloc, line);
+        check_row::<BitCheck>(&rt, alloc, &row);
+        check_row::<OctetCheck>(&rt, alloc, &row);
     }
 }

@@ -10,15 +10,12 @@ mod runs;
 mod sinks;
 
 use crate::expect::{holds, same};
-use bus_bits::{Span, bits_number};
+use bus_bits::bits_number;
 use bus_dictionary::Dictionary;
 use bus_fcs::{BitCheck, Check, OctetCheck};
-use bus_rows::{CALLS, DAMAGE, FRAMES, row_of};
-use bus_seen::{NONE, Writing, push_ending, push_seen, push_seen_on};
-use bus_watch::{
-    Counts, Ending, FeedFault, Line, PairAnalyser, PairEnding, PairSink, PairUsage, Pending, Seen,
-    SinkRefused,
-};
+use bus_rows::{CALLS, DAMAGE, FRAMES, PairRow, pair_row_of, row_of};
+use bus_seen::{Writing, push_counts, push_ending, push_pair_ending, push_seen, push_seen_on};
+use bus_watch::{Ending, FeedFault, Line, PairAnalyser, PairSink, PairUsage, Seen, SinkRefused};
 use std::alloc::Global;
 use std::process::Abort;
 
@@ -32,104 +29,29 @@ fn bits_of(rt: &impl Abort, alloc: Global, words: &str) -> Vec<bool> {
     bus_rows::bits_of(alloc, words).expect(rt, "memory")
 }
 
-/// The words of two lists of bits, and what is seen of them with the example dictionary of calls. The
-/// shorter list goes on with ones.
-struct PairRow {
-    first: &'static str,
-    second: &'static str,
-    want: &'static str,
-    ending: PairEnding,
-    /// How many verdicts named station 16.
-    tally: Counts,
-}
-
-const NOTHING_OPEN: PairEnding = PairEnding {
-    first: None,
-    second: None,
-    pending: None,
-};
-
-const PAIR_ROWS: [PairRow; 7] = [
-    // the reply comes on the second line, after the call
-    PairRow {
-        first: "flag call flag",
-        second: "ones-57 flag reply flag",
-        want: "0 15 idle on 2; 8 49 frame 108300fde5 station 16 type 0 on 1; 57 72 idle on 1; \
-            65 106 frame 108380f561 station 16 type 128, answered 8 49 station 16 type 0 on 2",
-        ending: NOTHING_OPEN,
-        tally: Counts {
-            answered: 1,
-            ..NONE
-        },
-    },
-    // on the first line it answers nothing
-    PairRow {
-        first: "flag call flag reply flag",
-        second: "",
-        want: "0 15 idle on 2; 8 49 frame 108300fde5 station 16 type 0 on 1; \
-            57 98 frame 108380f561 station 16 type 128, missing 8 49 station 16 type 0, stray on 1",
-        ending: NOTHING_OPEN,
-        tally: Counts { missing: 1, ..NONE },
-    },
-    // both end at one place: the first line's comes first
-    PairRow {
-        first: "flag call flag",
-        second: "flag reply flag",
-        want: "8 49 frame 108300fde5 station 16 type 0 on 1; \
-            8 49 frame 108380f561 station 16 type 128, answered 8 49 station 16 type 0 on 2",
-        ending: NOTHING_OPEN,
-        tally: Counts {
-            answered: 1,
-            ..NONE
-        },
-    },
-    // a call on the second line waits for nothing
-    PairRow {
-        first: "flag",
-        second: "flag call flag",
-        want: "8 23 idle on 1; 8 49 frame 108300fde5 station 16 type 0 on 2",
-        ending: NOTHING_OPEN,
-        tally: NONE,
-    },
-    // and damage on it spoils a call on the first
-    PairRow {
-        first: "flag call flag",
-        second: "flag short short flag",
-        want: "8 49 frame 108300fde5 station 16 type 0 on 1; \
-            8 56 overlong, spoilt 8 49 station 16 type 0 on 2",
-        ending: NOTHING_OPEN,
-        tally: Counts { spoilt: 1, ..NONE },
-    },
-    // a frame of the first line between the two leaves the call without an answer
-    PairRow {
-        first: "flag call flag notice flag",
-        second: "ones-57 ones-57 flag reply flag",
-        want: "0 15 idle on 2; 8 49 frame 108300fde5 station 16 type 0 on 1; \
-            57 99 frame ff83095a3b station 255 type 9, missing 8 49 station 16 type 0 on 1; \
-            107 122 idle on 1; 122 163 frame 108380f561 station 16 type 128, stray on 2",
-        ending: NOTHING_OPEN,
-        tally: Counts { missing: 1, ..NONE },
-    },
-    // the call waits still
-    PairRow {
-        first: "flag call flag 000",
-        second: "",
-        want: "0 15 idle on 2; 8 49 frame 108300fde5 station 16 type 0 on 1",
-        ending: PairEnding {
-            first: Some(Span {
-                first: 57,
-                past: 60,
-            }),
-            second: None,
-            pending: Some(Pending {
-                span: Span { first: 8, past: 49 },
-                station: 16,
-                ftype: 0,
-            }),
-        },
-        tally: NONE,
-    },
-];
+/// The words of two lists of bits, of which the shorter goes on with ones, and what is seen of them with the example
+/// dictionary of calls. Behind `@` is what is open or pending at the end, and the verdicts on station 16.
+///
+/// The reply comes on the second line, after the call; on the first line it answers nothing. Both end at one place: the
+/// first line's comes first. A call on the second line waits for nothing, and damage on it spoils a call on the first.
+/// A frame of the first line between the two leaves the call without an answer. Last the call waits still.
+const PAIR_ROWS: &str = "\
+    flag call flag | ones-57 flag reply flag => 0 15 idle on 2; \
+        8 49 frame 108300fde5 station 16 type 0 on 1; 57 72 idle on 1; \
+        65 106 frame 108380f561 station 16 type 128, answered 8 49 station 16 type 0 on 2 @ answered 1\n\
+    flag call flag reply flag | => 0 15 idle on 2; 8 49 frame 108300fde5 station 16 type 0 on 1; \
+        57 98 frame 108380f561 station 16 type 128, missing 8 49 station 16 type 0, stray on 1 @ missing 1\n\
+    flag call flag | flag reply flag => 8 49 frame 108300fde5 station 16 type 0 on 1; \
+        8 49 frame 108380f561 station 16 type 128, answered 8 49 station 16 type 0 on 2 @ answered 1\n\
+    flag | flag call flag => 8 23 idle on 1; 8 49 frame 108300fde5 station 16 type 0 on 2 @\n\
+    flag call flag | flag short short flag => 8 49 frame 108300fde5 station 16 type 0 on 1; \
+        8 56 overlong, spoilt 8 49 station 16 type 0 on 2 @ spoilt 1\n\
+    flag call flag notice flag | ones-57 ones-57 flag reply flag => \
+        0 15 idle on 2; 8 49 frame 108300fde5 station 16 type 0 on 1; \
+        57 99 frame ff83095a3b station 255 type 9, missing 8 49 station 16 type 0 on 1; \
+        107 122 idle on 1; 122 163 frame 108380f561 station 16 type 128, stray on 2 @ missing 1\n\
+    flag call flag 000 | => 0 15 idle on 2; 8 49 frame 108300fde5 station 16 type 0 on 1 \
+        @ begun 57 60 on 1; pending 8 49 station 16 type 0";
 
 /// Two lists of bits of one length, and their pairs.
 #[derive(Drop)]
@@ -289,32 +211,53 @@ fn scanned<C: Check>(
     text
 }
 
-fn check_row<C: Check>(rt: &impl Abort, alloc: Global, row: &PairRow) {
+/// What is open or pending at the end, and the verdicts on station 16; there are none on station 17.
+fn standing<C: Check>(rt: &impl Abort, alloc: Global, analyser: &PairAnalyser<C>) -> String {
+    let mut text = String::new(alloc);
+    push_pair_ending(&mut text, analyser.ending()).expect(rt, "text");
+    push_counts(&mut text, analyser.tally(16)).expect(rt, "text");
+    push_counts(&mut text, analyser.tally(17)).expect(rt, "text");
+    text
+}
+
+fn check_row<C: Check>(rt: &impl Abort, alloc: Global, row: &PairRow<'_>) {
     let lines = two_lines(rt, alloc, row.first, row.second, true);
     let mut one_by_one = analyser::<C>(rt, alloc);
     let text = pushed(rt, alloc, &mut one_by_one, &lines.pairs);
     same(rt, text.as_str(), row.want, row.first);
-    same(rt, one_by_one.ending(), row.ending, row.first);
-    same(rt, one_by_one.tally(16), row.tally, row.first);
-    same(rt, one_by_one.tally(17), NONE, row.first);
+    let text = standing(rt, alloc, &one_by_one);
+    same(rt, text.as_str(), row.standing, row.first);
     for size in [1, 5, 8, 48] {
-        let case = format_args!("{size} pairs at most a call");
-        let mut by_octets = analyser::<C>(rt, alloc);
-        let text = scanned(rt, alloc, &mut by_octets, &lines, size);
-        same(rt, text.as_str(), row.want, &case);
-        same(rt, by_octets.ending(), row.ending, &case);
-        same(rt, by_octets.usage(), one_by_one.usage(), &case);
+        check_scanned::<C>(rt, alloc, row, &lines, size, one_by_one.usage());
     }
     for cut in 0..=lines.pairs.len() {
         check_cut::<C>(rt, alloc, row, &lines.pairs, cut, one_by_one.usage());
     }
 }
 
+/// The pairs of a row, scanned.
+fn check_scanned<C: Check>(
+    rt: &impl Abort,
+    alloc: Global,
+    row: &PairRow<'_>,
+    lines: &TwoLines,
+    size: u32,
+    usage: PairUsage,
+) {
+    let case = format_args!("{size} pairs at most a call");
+    let mut by_octets = analyser::<C>(rt, alloc);
+    let text = scanned(rt, alloc, &mut by_octets, lines, size);
+    same(rt, text.as_str(), row.want, &case);
+    let text = standing(rt, alloc, &by_octets);
+    same(rt, text.as_str(), row.standing, &case);
+    same(rt, by_octets.usage(), usage, &case);
+}
+
 /// The pairs of a row, fed in two lists.
 fn check_cut<C: Check>(
     rt: &impl Abort,
     alloc: Global,
-    row: &PairRow,
+    row: &PairRow<'_>,
     pairs: &[(bool, bool)],
     cut: usize,
     usage: PairUsage,
@@ -334,10 +277,29 @@ fn check_cut<C: Check>(
 #[test]
 fn rows_of_two_lines(rt: HostRuntime) {
     let alloc = rt.alloc();
-    for row in &PAIR_ROWS {
-        check_row::<BitCheck>(&rt, alloc, row);
-        check_row::<OctetCheck>(&rt, alloc, row);
+    for line in PAIR_ROWS.lines() {
+        let row = pair_row_of(line).expect(&rt, "a row");
+        check_row::<BitCheck>(&rt, alloc, &row);
+        check_row::<OctetCheck>(&rt, alloc, &row);
     }
+}
+
+/// What is seen of words on the first line where the second is silent.
+fn seen_beside_silence(
+    rt: &impl Abort,
+    alloc: Global,
+    analyser: &mut PairAnalyser<OctetCheck>,
+    words: &str,
+) -> String {
+    let mut text = String::new(alloc);
+    for bit in &bits_of(rt, alloc, words) {
+        let seen = analyser.push(*bit, false).expect(rt, "a place");
+        holds(rt, seen.second.is_none(), words);
+        if let Some(first) = &seen.first {
+            push_seen(&mut text, first).expect(rt, "text");
+        }
+    }
+    text
 }
 
 /// A row of one line as the first of two, the second of which is silent: what is seen is the same
@@ -349,26 +311,15 @@ fn check_first(rt: &impl Abort, alloc: Global, line: &str) {
     let row = row_of(line).expect(rt, "a row");
     let dictionary = read(rt, alloc, row.dictionary);
     let mut analyser = new_analyser::<OctetCheck>(rt, alloc, dictionary, 16);
-    let mut text = String::new(alloc);
-    for bit in &bits_of(rt, alloc, row.words) {
-        let seen = analyser.push(*bit, false).expect(rt, "a place");
-        holds(rt, seen.second.is_none(), line);
-        if let Some(first) = &seen.first {
-            push_seen(&mut text, first).expect(rt, "text");
-        }
-    }
-    let PairEnding {
-        first,
-        second,
-        pending,
-    } = analyser.ending();
-    let ending = Ending {
-        begun: first,
-        pending,
+    let mut text = seen_beside_silence(rt, alloc, &mut analyser, row.words);
+    let ending = analyser.ending();
+    let of_first = Ending {
+        begun: ending.first,
+        pending: ending.pending,
     };
-    push_ending(&mut text, ending).expect(rt, "text");
+    push_ending(&mut text, of_first).expect(rt, "text");
     same(rt, text.as_str(), row.want, line);
-    same(rt, second, None, line);
+    same(rt, ending.second, None, line);
 }
 
 #[test]

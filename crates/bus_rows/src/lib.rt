@@ -11,5 +11,5 @@ mod words;
 pub use dictionaries::{CALLS, POLLS, WITHIN};
 pub use numbers::{next_number, number_after};
 pub use round::{DAMAGED, ROUND_BITS, ROUND_OCTETS, ROUNDS, round_octets, round_of, round_pairs};
-pub use table::{DAMAGE, FRAMES, Row, row_of};
-pub use words::{FAR, bits_of, bits_of_pattern, joined, octets_of, pairs_of};
+pub use table::{DAMAGE, FRAMES, PairRow, Row, pair_row_of, row_of};
+pub use words::{FAR, bits_of, bits_of_pattern, octets_of, pairs_of, push_part};

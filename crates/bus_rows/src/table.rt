@@ -83,3 +83,28 @@ pub fn row_of(line: &str) -> Option<Row<'_>> {
         want: want.trim(),
     })
 }
+
+/// What a line of a table of two lines says.
+#[derive(Drop)]
+pub struct PairRow<'a> {
+    /// The words of the bits of either line.
+    pub first: &'a str,
+    pub second: &'a str,
+    /// What is seen of the bits.
+    pub want: &'a str,
+    /// What stands at their end.
+    pub standing: &'a str,
+}
+
+/// Reads a line such as `flag call flag | flag => 8 49 frame .. @ pending ..`.
+pub fn pair_row_of(line: &str) -> Option<PairRow<'_>> {
+    let (lists, rest) = line.split_once("=>")?;
+    let (first, second) = lists.split_once('|')?;
+    let (want, standing) = rest.split_once('@')?;
+    Some(PairRow {
+        first,
+        second,
+        want: want.trim(),
+        standing: standing.trim(),
+    })
+}

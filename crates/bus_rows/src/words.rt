@@ -46,16 +46,12 @@ pub fn bits_of(alloc: Global, words: &str) -> Result<Vec<bool>, AllocError> {
     Ok(bits)
 }
 
-/// These texts, a semicolon and a space between each two.
-pub fn joined(alloc: Global, texts: &[&str]) -> Result<String, AllocError> {
-    let mut all = String::new(alloc);
-    for text in texts {
-        if !all.is_empty() {
-            all.push_str("; ")?;
-        }
-        all.push_str(text)?;
+/// A part, after what a text has, a semicolon and a space.
+pub fn push_part(text: &mut String, part: &str) -> Result<(), AllocError> {
+    if !text.is_empty() {
+        text.push_str("; ")?;
     }
-    Ok(all)
+    text.push_str(part)
 }
 
 /// The lowest `count` bits of `pattern`, sixteen at most, the lowest first, after these.

@@ -1,15 +1,17 @@
-//! What the tests of the analysers share: what is seen, as lines of text, observers, and the worked dictionary of calls.
+//! What the tests of the analysers share: what is seen as text, observers, and the worked dictionary of calls.
 #![tactic(auto)]
 
 mod observers;
+mod standing;
 mod text;
 
 use bus_dictionary::{DictFault, Dictionary};
 use bus_pairing::Counts;
 use bus_rows::CALLS;
 pub use observers::{Counting, Writing};
+pub use standing::{push_counts, push_ending, push_pair_ending};
 use std::alloc::Global;
-pub use text::{push_ending, push_seen, push_seen_on};
+pub use text::{push_seen, push_seen_on};
 
 /// No verdict.
 pub const NONE: Counts = Counts {

@@ -1,8 +1,9 @@
 //! What is seen, as a line of text.
 
+use crate::standing::push_break;
 use bus_dictionary::Standing;
 use bus_line::{Cause, Piece, Span};
-use bus_pairing::{Ending, Line, Outcome, Seen, Verdict};
+use bus_pairing::{Line, Outcome, Seen, Verdict};
 use std::alloc::{AllocError, Global};
 
 fn outcome_word(outcome: Outcome) -> &'static str {
@@ -53,32 +54,6 @@ fn push_verdict(text: &mut String, verdict: Verdict) -> Result<(), AllocError> {
         text,
         ", {outcome} {first} {past} station {station} type {ftype}"
     )
-}
-
-/// A `; ` after what the text has.
-fn push_break(text: &mut String) -> Result<(), AllocError> {
-    if text.is_empty() {
-        return Ok(());
-    }
-    text.push_str("; ")
-}
-
-/// What is open and what is pending at the end, after what the text has.
-pub fn push_ending(text: &mut String, ending: Ending) -> Result<(), AllocError> {
-    if let Some(Span { first, past }) = ending.begun {
-        push_break(text)?;
-        write!(text, "begun {first} {past}")?;
-    }
-    if let Some(pending) = ending.pending {
-        push_break(text)?;
-        let (first, past) = (pending.span.first, pending.span.past);
-        let (station, ftype) = (pending.station, pending.ftype);
-        write!(
-            text,
-            "pending {first} {past} station {station} type {ftype}"
-        )?;
-    }
-    Ok(())
 }
 
 /// What is seen, after what the text has.

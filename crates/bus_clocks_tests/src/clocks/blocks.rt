@@ -9,36 +9,36 @@ use std::process::Abort;
 /// How many samples a recording has.
 const SAMPLES: usize = 200;
 
-/// Clock and data of the first line and of the second: the number of each wire, and whether it is inverted.
-const WIRES: [[Option<(u8, bool)>; 4]; 4] = [
-    [
-        Some((0, false)),
-        Some((1, false)),
-        Some((2, false)),
-        Some((3, false)),
-    ],
-    [
-        Some((7, true)),
-        Some((2, true)),
-        Some((0, true)),
-        Some((5, false)),
-    ],
-    // one clock for both lines, and a bit that an octet does not have
-    [
-        Some((1, false)),
-        Some((4, false)),
-        Some((1, false)),
-        Some((8, true)),
-    ],
-    [Some((6, false)), Some((6, true)), None, None],
-];
+/// Clock and data of the first line and of the second: the number of each wire, behind `!` where it is inverted, or `-`
+/// where there is none. The third has one clock for both lines, and a bit that an octet does not have.
+const WIRES: &str = "\
+    0 1 2 3\n\
+    !7 !2 !0 5\n\
+    1 4 1 !8\n\
+    6 !6 - -";
 
 /// A wire of a row.
-fn wire(told: Option<(u8, bool)>) -> Option<Wire> {
-    told.map(|(number, is_inverted)| Wire {
-        number,
-        is_inverted,
+fn wire(rt: &impl Abort, word: Option<&str>) -> Option<Wire> {
+    let word = word.expect(rt, "a wire");
+    if word == "-" {
+        return None;
+    }
+    let number = word.trim_start_matches('!');
+    Some(Wire {
+        number: number.parse::<u8>().expect(rt, "a number"),
+        is_inverted: number.len() < word.len(),
     })
+}
+
+/// The wires of a row.
+fn wires_of(rt: &impl Abort, row: &str) -> Wires {
+    let mut words = row.split_whitespace();
+    Wires {
+        first_clock: wire(rt, words.next()),
+        first_data: wire(rt, words.next()),
+        second_clock: wire(rt, words.next()),
+        second_data: wire(rt, words.next()),
+    }
 }
 
 /// For at most how many samples the wires stand: with 2 there are glitches most of the time.
@@ -117,32 +117,29 @@ impl Taken {
 }
 
 /// However a recording is cut, blocks bring the bits and the facts of its samples.
+fn check_cuts(rt: &impl Abort, alloc: Global, wires: &Wires, samples: &[u8], hold: u32) {
+    let mut want = Taken::new(alloc, hold);
+    want.take(rt, wires, samples);
+    for cut in 1..=64usize {
+        let case = format_args!("hold {hold}, {} samples cut at {cut}", samples.len());
+        let mut taken = Taken::new(alloc, hold);
+        let (front, rest) = samples.split_at_checked(cut).expect(rt, "samples");
+        taken.take(rt, wires, front);
+        taken.take_blocks(rt, wires, rest);
+        same(rt, taken.text.as_str(), want.text.as_str(), &case);
+        same(rt, taken.tap.facts(), want.tap.facts(), &case);
+    }
+}
+
 #[test]
 fn blocks_of_samples(rt: HostRuntime) {
     let alloc = rt.alloc();
     for stand in STAND {
         let samples = recording(&rt, alloc, stand);
-        for row in WIRES {
-            let [first_clock, first_data, second_clock, second_data] = row;
-            let wires = Wires {
-                first_clock: wire(first_clock),
-                first_data: wire(first_data),
-                second_clock: wire(second_clock),
-                second_data: wire(second_data),
-            };
-            for hold in 0..2u32 {
-                let mut want = Taken::new(alloc, hold);
-                want.take(&rt, &wires, &samples);
-                for cut in 1..=64usize {
-                    let case = format_args!("hold {hold}, up to {stand} alike, cut at {cut}");
-                    let mut taken = Taken::new(alloc, hold);
-                    let (front, rest) = samples.split_at_checked(cut).expect(&rt, "samples");
-                    taken.take(&rt, &wires, front);
-                    taken.take_blocks(&rt, &wires, rest);
-                    same(&rt, taken.text.as_str(), want.text.as_str(), &case);
-                    same(&rt, taken.tap.facts(), want.tap.facts(), &case);
-                }
-            }
+        for row in WIRES.lines() {
+            let wires = wires_of(&rt, row);
+            check_cuts(&rt, alloc, &wires, &samples, 0);
+            check_cuts(&rt, alloc, &wires, &samples, 1);
         }
     }
 }

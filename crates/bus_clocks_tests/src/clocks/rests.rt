@@ -1,7 +1,7 @@
 //! A second line whose clock stops, brought to rest.
 
 use super::scans::{in_octets, traffic};
-use super::{Arrival, CALL, Turn, analyser, arrivals_in, push};
+use super::{Arrival, CALL, analyser, arrivals_in, number_of, push};
 use crate::expect::{holds, same};
 use bus_fcs::OctetCheck;
 use bus_tap::RestRule;
@@ -9,82 +9,31 @@ use bus_watch::Line;
 use std::alloc::Global;
 use std::process::Abort;
 
-/// What is seen of a call, and of these bits of the second line, where its silence lasts for `most` places.
-struct RestRow {
-    name: &'static str,
-    most: u64,
-    second: &'static str,
-    turns: &'static [Turn],
-    want: &'static str,
-}
-
-/// The first twenty bits of a reply, after a flag.
-const BROKEN: &str = "flag 00001000 11000001 0000";
-
-/// They arrive from place 60 on.
-const FROM_60: &[Turn] = &[(60, 0, 1), (1, 1, 28)];
-
-const SILENT: &str = "8 49 frame 108300fde5 station 16 type 0 on 1; 57 72 idle on 1";
-
-const REST_ROWS: [RestRow; 7] = [
-    // the last bit of the second line is at place 87; the 64th after it is at place 151
-    RestRow {
-        name: "silence of 64 places",
-        most: 64,
-        second: BROKEN,
-        turns: FROM_60,
-        want: "8 49 frame 108300fde5 station 16 type 0 on 1; 57 72 idle on 1; \
-            68 88 abort, spoilt 8 49 station 16 type 0 on 2; 151 152 idle on 2",
-    },
-    // the first line has 200 bits: 112 after that bit
-    RestRow {
-        name: "silence up to the last place",
-        most: 112,
-        second: BROKEN,
-        turns: FROM_60,
-        want: "8 49 frame 108300fde5 station 16 type 0 on 1; 57 72 idle on 1; \
-            68 88 abort, spoilt 8 49 station 16 type 0 on 2; 199 200 idle on 2",
-    },
-    RestRow {
-        name: "a place too few",
-        most: 113,
-        second: BROKEN,
-        turns: FROM_60,
-        want: SILENT,
-    },
-    RestRow {
-        name: "no rest",
-        most: 0,
-        second: BROKEN,
-        turns: FROM_60,
-        want: SILENT,
-    },
-    RestRow {
-        name: "before the first bit",
-        most: 64,
-        second: "",
-        turns: &[],
-        want: SILENT,
-    },
-    // fifteen ones of its own: the idle line begins at place 88, and lasts up to place 102
-    RestRow {
-        name: "at rest already",
-        most: 64,
-        second: "flag 00001000 11000001 0000 idle",
-        turns: &[(60, 0, 1), (1, 1, 43)],
-        want: "8 49 frame 108300fde5 station 16 type 0 on 1; 57 72 idle on 1; \
-            68 88 abort, spoilt 8 49 station 16 type 0 on 2; 88 103 idle on 2",
-    },
-    // silence that a bit ends in time
-    RestRow {
-        name: "a stop of 63 places",
-        most: 64,
-        second: "flag reply flag",
-        turns: &[(50, 0, 1), (1, 1, 28), (63, 1, 1), (1, 1, 28)],
-        want: "8 49 frame 108300fde5 station 16 type 0 on 1; 57 72 idle on 1; \
-            58 161 frame 108380f561 station 16 type 128, answered 8 49 station 16 type 0 on 2",
-    },
-];
+/// The name of a row, for how many places the second line's silence lasts, how its bits arrive, its words, and what is
+/// seen of a call and of these. The words of the broken reply are its first twenty bits, after a flag.
+///
+/// Its last bit is at place 87; the 64th after it is at place 151, and the first line has 200 bits: 112 after that bit.
+/// Fifteen ones of its own are an idle line that begins at place 88, and lasts up to place 102. Last comes silence that
+/// a bit ends in time.
+const REST_ROWS: &str = "\
+    silence of 64 places # 64 # 60 0 1, 1 1 28 # flag 00001000 11000001 0000 => \
+        8 49 frame 108300fde5 station 16 type 0 on 1; 57 72 idle on 1; \
+        68 88 abort, spoilt 8 49 station 16 type 0 on 2; 151 152 idle on 2\n\
+    silence up to the last place # 112 # 60 0 1, 1 1 28 # flag 00001000 11000001 0000 => \
+        8 49 frame 108300fde5 station 16 type 0 on 1; 57 72 idle on 1; \
+        68 88 abort, spoilt 8 49 station 16 type 0 on 2; 199 200 idle on 2\n\
+    a place too few # 113 # 60 0 1, 1 1 28 # flag 00001000 11000001 0000 => \
+        8 49 frame 108300fde5 station 16 type 0 on 1; 57 72 idle on 1\n\
+    no rest # 0 # 60 0 1, 1 1 28 # flag 00001000 11000001 0000 => \
+        8 49 frame 108300fde5 station 16 type 0 on 1; 57 72 idle on 1\n\
+    before the first bit # 64 # 0 0 0 # => \
+        8 49 frame 108300fde5 station 16 type 0 on 1; 57 72 idle on 1\n\
+    at rest already # 64 # 60 0 1, 1 1 43 # flag 00001000 11000001 0000 idle => \
+        8 49 frame 108300fde5 station 16 type 0 on 1; 57 72 idle on 1; \
+        68 88 abort, spoilt 8 49 station 16 type 0 on 2; 88 103 idle on 2\n\
+    a stop of 63 places # 64 # 50 0 1, 1 1 28, 63 1 1, 1 1 28 # flag reply flag => \
+        8 49 frame 108300fde5 station 16 type 0 on 1; 57 72 idle on 1; \
+        58 161 frame 108380f561 station 16 type 128, answered 8 49 station 16 type 0 on 2";
 
 /// What is seen of arrivals with rest put in by a rule that is kept in numbers from one to the next.
 fn rested(rt: &impl Abort, alloc: Global, most: u64, arrivals: &[Arrival]) -> String {
@@ -106,13 +55,21 @@ fn rested(rt: &impl Abort, alloc: Global, most: u64, arrivals: &[Arrival]) -> St
     text
 }
 
+fn check_rest(rt: &impl Abort, alloc: Global, line: &str) {
+    let (name, rest) = line.split_once('#').expect(rt, "a name");
+    let (most, rest) = rest.split_once('#').expect(rt, "a silence");
+    let (turns, rest) = rest.split_once('#').expect(rt, "turns");
+    let (second, want) = rest.split_once("=>").expect(rt, "words");
+    let most = number_of(rt, Some(most.trim()));
+    let arrivals = arrivals_in(rt, alloc, CALL, second, turns);
+    let text = rested(rt, alloc, most as u64, &arrivals);
+    same(rt, text.as_str(), want.trim(), name);
+}
+
 #[test]
 fn rows_of_rest(rt: HostRuntime) {
-    let alloc = rt.alloc();
-    for row in &REST_ROWS {
-        let arrivals = arrivals_in(&rt, alloc, CALL, row.second, row.turns);
-        let text = rested(&rt, alloc, row.most, &arrivals);
-        same(&rt, text.as_str(), row.want, row.name);
+    for line in REST_ROWS.lines() {
+        check_rest(&rt, rt.alloc(), line);
     }
 }
 

@@ -2,142 +2,47 @@
 
 use crate::expect::same;
 use bus_tap::Sampler;
+use std::alloc::Global;
+use std::process::Abort;
 
 /// In how many samples more a level has to stand, samples as hexadecimal digits, and the bits that arrive: `0` and `1`
 /// on the first line, `o` and `i` on the second.
-struct SampleRow {
-    hold: u32,
-    samples: &'static str,
-    want: &'static str,
-}
-
-const SAMPLE_ROWS: [SampleRow; 21] = [
-    SampleRow {
-        hold: 0,
-        samples: "01",
-        want: "0",
-    },
-    SampleRow {
-        hold: 0,
-        samples: "23",
-        want: "1",
-    },
-    SampleRow {
-        hold: 0,
-        samples: "04",
-        want: "o",
-    },
-    SampleRow {
-        hold: 0,
-        samples: "8c",
-        want: "i",
-    },
-    // the data changes with the edge
-    SampleRow {
-        hold: 0,
-        samples: "03",
-        want: "0",
-    },
-    SampleRow {
-        hold: 0,
-        samples: "21",
-        want: "1",
-    },
-    // both in one sample
-    SampleRow {
-        hold: 0,
-        samples: "27",
-        want: "1o",
-    },
-    SampleRow {
-        hold: 0,
-        samples: "8d",
-        want: "0i",
-    },
-    // the second clock a sample before the first
-    SampleRow {
-        hold: 0,
-        samples: "aef",
-        want: "i1",
-    },
-    // the first sample, and samples that change nothing
-    SampleRow {
-        hold: 0,
-        samples: "1101",
-        want: "0",
-    },
-    // a clock that falls
-    SampleRow {
-        hold: 0,
-        samples: "3210",
-        want: "1",
-    },
-    SampleRow {
-        hold: 0,
-        samples: "",
-        want: "",
-    },
-    // a glitch on the clock, and on the data
-    SampleRow {
-        hold: 0,
-        samples: "0010011",
-        want: "00",
-    },
-    SampleRow {
-        hold: 1,
-        samples: "0010011",
-        want: "0",
-    },
-    SampleRow {
-        hold: 0,
-        samples: "2203322",
-        want: "0",
-    },
-    SampleRow {
-        hold: 1,
-        samples: "2203322",
-        want: "1",
-    },
-    // levels stand for two samples, and data changes with the edge
-    SampleRow {
-        hold: 1,
-        samples: "0033220011",
-        want: "00",
-    },
-    SampleRow {
-        hold: 1,
-        samples: "22330033",
-        want: "10",
-    },
-    // two samples are too few, and three are enough
-    SampleRow {
-        hold: 2,
-        samples: "00011000111",
-        want: "0",
-    },
-    // and a sample between begins them anew
-    SampleRow {
-        hold: 2,
-        samples: "01011",
-        want: "",
-    },
-    // the data has a glitch as its clock rises
-    SampleRow {
-        hold: 1,
-        samples: "aaa4eeff",
-        want: "i1",
-    },
-];
+///
+/// First come bits of either line alone, data that changes with the edge, and both lines in one sample. Then the second
+/// clock rises a sample before the first, samples change nothing, a clock falls, and there is no sample. Then come
+/// glitches on the clock and on the data, levels that stand for two samples, and data that changes with the edge. Two
+/// samples are too few where three are enough, and a sample between begins them anew. Last, data has a glitch as its
+/// clock rises.
+const SAMPLE_ROWS: &str = "\
+    0: 01 => 0\n\
+    0: 23 => 1\n\
+    0: 04 => o\n\
+    0: 8c => i\n\
+    0: 03 => 0\n\
+    0: 21 => 1\n\
+    0: 27 => 1o\n\
+    0: 8d => 0i\n\
+    0: aef => i1\n\
+    0: 1101 => 0\n\
+    0: 3210 => 1\n\
+    0:  =>\n\
+    0: 0010011 => 00\n\
+    1: 0010011 => 0\n\
+    0: 2203322 => 0\n\
+    1: 2203322 => 1\n\
+    1: 0033220011 => 00\n\
+    1: 22330033 => 10\n\
+    2: 00011000111 => 0\n\
+    2: 01011 =>\n\
+    1: aaa4eeff => i1";
 
 /// Adds a bit, if there is one.
-macro_rules! mark {
-    ($rt:expr, $text:expr, $bit:expr, $one:literal, $zero:literal) => {
-        match $bit {
-            Some(true) => $text.push_str($one).expect($rt, "text"),
-            Some(false) => $text.push_str($zero).expect($rt, "text"),
-            None => {}
-        }
-    };
+fn push_mark(rt: &impl Abort, text: &mut String, bit: Option<bool>, one: &str, zero: &str) {
+    match bit {
+        Some(true) => text.push_str(one).expect(rt, "text"),
+        Some(false) => text.push_str(zero).expect(rt, "text"),
+        None => {}
+    }
 }
 
 /// The number of a hexadecimal digit.
@@ -149,23 +54,35 @@ fn sample_of(digit: u8) -> u8 {
     }
 }
 
+/// The bits that samples bring. Those that the sampler tells are no bits where there is none.
+fn sampled(rt: &impl Abort, alloc: Global, hold: u32, samples: &str) -> String {
+    let mut text = String::new(alloc);
+    let mut samples = samples.bytes();
+    let Some(first) = samples.next() else {
+        return text;
+    };
+    let mut sampler = Sampler::new(hold, sample_of(first));
+    for digit in samples {
+        let edges = sampler.sample(sample_of(digit));
+        let before = text.len();
+        push_mark(rt, &mut text, edges.first, "1", "0");
+        push_mark(rt, &mut text, edges.second, "i", "o");
+        same(rt, edges.is_none(), text.len() == before, "no bit");
+    }
+    text
+}
+
+fn check_samples(rt: &impl Abort, alloc: Global, line: &str) {
+    let (hold, rest) = line.split_once(':').expect(rt, "a hold");
+    let (samples, want) = rest.split_once("=>").expect(rt, "samples");
+    let hold = hold.parse::<u32>().expect(rt, "a number");
+    let text = sampled(rt, alloc, hold, samples.trim());
+    same(rt, text.as_str(), want.trim(), line);
+}
+
 #[test]
 fn rows_of_samples(rt: HostRuntime) {
-    let alloc = rt.alloc();
-    for row in &SAMPLE_ROWS {
-        let mut samples = row.samples.bytes();
-        let mut text = String::new(alloc);
-        if let Some(first) = samples.next() {
-            let mut sampler = Sampler::new(row.hold, sample_of(first));
-            for digit in samples {
-                let edges = sampler.sample(sample_of(digit));
-                let before = text.len();
-                mark!(&rt, text, edges.first, "1", "0");
-                mark!(&rt, text, edges.second, "i", "o");
-                same(&rt, edges.is_none(), text.len() == before, "no bit");
-            }
-        }
-        let case = format_args!("{} with {}", row.samples, row.hold);
-        same(&rt, text.as_str(), row.want, case);
+    for line in SAMPLE_ROWS.lines() {
+        check_samples(&rt, rt.alloc(), line);
     }
 }

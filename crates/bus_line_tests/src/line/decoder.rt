@@ -108,60 +108,62 @@ fn worked_lists_bit_by_bit(rt: HostRuntime) {
 }
 
 /// Each case with its origin, the bits between two flags, and the report.
-const FRAMES: [(&str, u64, &str, &str); 7] = [
-    (
-        "a frame from the place 100 on",
-        100,
-        "00001000 11000001 00000000 101111101 10100111",
-        "108 149 frame 108300fde5",
-    ),
-    (
-        "to all stations, two inserted 0s",
-        0,
-        "111110111 110000001 10010000 01011010 11011100",
-        "8 50 frame ff83095a3b",
-    ),
-    (
-        "to all stations, a command",
-        0,
-        "111110111 110000001 00000000 11011001 01100101",
-        "8 50 frame ff83009ba6",
-    ),
-    (
-        "an address and a control octet alone",
-        0,
-        "00001000 11000001 10100010 00110100",
-        "8 40 frame 1083452c",
-    ),
-    (
-        "another control octet",
-        0,
-        "00001000 11001000 00110011 00011101",
-        "8 40 frame 1013ccb8",
-    ),
-    (
-        "three octets and their check",
-        0,
-        "00001000 11000001 10000000 00101110 00101111",
-        "8 48 frame 10830174f4",
-    ),
-    (
-        "five 1 bits before the closing flag",
-        0,
-        "00011111",
-        "8 16 damaged unstuffed",
-    ),
-];
+const FRAMES: &str = "\
+    a frame from the place 100 on: 100: \
+        00001000 11000001 00000000 101111101 10100111 => 108 149 frame 108300fde5\n\
+    to all stations, two inserted 0s: 0: \
+        111110111 110000001 10010000 01011010 11011100 => 8 50 frame ff83095a3b\n\
+    to all stations, a command: 0: \
+        111110111 110000001 00000000 11011001 01100101 => 8 50 frame ff83009ba6\n\
+    an address and a control octet alone: 0: \
+        00001000 11000001 10100010 00110100 => 8 40 frame 1083452c\n\
+    another control octet: 0: \
+        00001000 11001000 00110011 00011101 => 8 40 frame 1013ccb8\n\
+    three octets and their check: 0: \
+        00001000 11000001 10000000 00101110 00101111 => 8 48 frame 10830174f4\n\
+    five 1 bits before the closing flag: 0: \
+        00011111 => 8 16 damaged unstuffed";
+
+/// A case, a number of it, bits, and what is wanted.
+#[derive(Drop)]
+struct NumberedRow<'a> {
+    case: &'a str,
+    number: u64,
+    bits: &'a str,
+    want: &'a str,
+}
+
+fn numbered_row<'a>(rt: &impl Abort, line: &'a str) -> NumberedRow<'a> {
+    let (case, rest) = line.split_once(':').expect(rt, "a case");
+    let (number, rest) = rest.split_once(':').expect(rt, "a number");
+    let (bits, want) = rest.split_once("=>").expect(rt, "bits");
+    NumberedRow {
+        case,
+        number: number.trim().parse::<u64>().expect(rt, "a number"),
+        bits,
+        want: want.trim(),
+    }
+}
+
+fn check_frame(rt: &impl Abort, alloc: Global, line: &str) {
+    let row = numbered_row(rt, line);
+    let mut bits = bits_of(rt, alloc, FLAG);
+    bits.extend_from_slice(&bits_of(rt, alloc, row.bits))
+        .expect(rt, "memory");
+    bits.extend_from_slice(&bits_of(rt, alloc, FLAG))
+        .expect(rt, "memory");
+    let decoded = decoded_alike(rt, alloc, &bits, 5, row.number);
+    same(rt, decoded.reports.as_str(), row.want, row.case);
+}
+
+const FLAG: &str = "01111110";
 
 /// Frames of both addresses, of two octets and more, where the longest has five; and the places
 /// count from the origin.
 #[test]
 fn worked_frames(rt: HostRuntime) {
-    for (case, origin, bits, want) in FRAMES {
-        let text = format!(in rt.alloc(); "01111110 {bits} 01111110").expect(&rt, "memory");
-        let bits = bits_of(&rt, rt.alloc(), &text);
-        let decoded = decoded_alike(&rt, rt.alloc(), &bits, 5, origin);
-        same(&rt, decoded.reports.as_str(), want, case);
+    for line in FRAMES.lines() {
+        check_frame(&rt, rt.alloc(), line);
     }
 }
 
@@ -186,45 +188,28 @@ fn octets_of_a_frame(rt: HostRuntime) {
     );
 }
 
-/// Each case with its bits and the octets that stand in the buffer after the last of them: eight later bits settle
-/// a bit, and an abort leaves no piece open.
-const BUFFERED: [(&str, &str, usize); 5] = [
-    (
-        "a flag, an octet and seven zeros",
-        "01111110 00000000 0000000",
-        0,
-    ),
-    (
-        "a flag and 24 zeros",
-        "01111110 00000000 00000000 00000000",
-        2,
-    ),
-    (
-        "a flag, 24 zeros and six ones",
-        "01111110 00000000 00000000 00000000 111111",
-        2,
-    ),
-    (
-        "a flag, 24 zeros and an abort",
-        "01111110 00000000 00000000 00000000 1111111",
-        0,
-    ),
-    (
-        "a flag and 32 zeros",
-        "01111110 00000000 00000000 00000000 00000000",
-        3,
-    ),
-];
+/// Each case with the octets that stand in the buffer after the last of its bits, and these: eight later bits settle a
+/// bit, and an abort leaves no piece open.
+const BUFFERED: &str = "\
+    a flag, an octet and seven zeros: 0: 01111110 00000000 0000000 =>\n\
+    a flag and 24 zeros: 2: 01111110 00000000 00000000 00000000 =>\n\
+    a flag, 24 zeros and six ones: 2: 01111110 00000000 00000000 00000000 111111 =>\n\
+    a flag, 24 zeros and an abort: 0: 01111110 00000000 00000000 00000000 1111111 =>\n\
+    a flag and 32 zeros: 3: 01111110 00000000 00000000 00000000 00000000 =>";
+
+fn check_buffered(rt: &impl Abort, alloc: Global, line: &str) {
+    let row = numbered_row(rt, line);
+    let mut decoder = LineDecoder::<OctetCheck>::new(3, 0).expect(rt, "a decoder");
+    for bit in &bits_of(rt, alloc, row.bits) {
+        decoder.push(*bit).expect(rt, "a place");
+    }
+    same(rt, decoder.buffered() as u64, row.number, row.case);
+}
 
 #[test]
 fn octets_in_the_buffer(rt: HostRuntime) {
-    for (case, bits, want) in BUFFERED {
-        let bits = bits_of(&rt, rt.alloc(), bits);
-        let mut decoder = LineDecoder::<OctetCheck>::new(3, 0).expect(&rt, "a decoder");
-        for bit in &bits {
-            decoder.push(*bit).expect(&rt, "a place");
-        }
-        same(&rt, decoder.buffered(), want, case);
+    for line in BUFFERED.lines() {
+        check_buffered(&rt, rt.alloc(), line);
     }
 }
 

@@ -17,18 +17,20 @@ const LONGEST: usize = 5;
 
 /// What traffic is made of: a flag, flags one after the other and with one 0 between them, a good frame
 /// and one with a wrong octet, runs of 1s and of 0s, noise.
-const PARTS: [&str; 10] = [
-    "01111110",
-    "01111110 01111110 01111110 01111110 01111110 01111110 01111110 01111110",
-    "011111101111110 01111110 01111110",
-    "01111110 00001000 11000001 00000000 101111101 10100111 01111110",
-    "01111110 00001000 11000001 00000001 101111101 10100111 01111110",
-    "111111111111111111111",
-    "111110111110111110",
-    "0110100101110100110010110",
-    "000000000000000000000000000000000000000000000000000000000000000000",
-    "0111110110",
-];
+const PARTS: &str = "\
+    01111110\n\
+    01111110 01111110 01111110 01111110 01111110 01111110 01111110 01111110\n\
+    011111101111110 01111110 01111110\n\
+    01111110 00001000 11000001 00000000 101111101 10100111 01111110\n\
+    01111110 00001000 11000001 00000001 101111101 10100111 01111110\n\
+    111111111111111111111\n\
+    111110111110111110\n\
+    0110100101110100110010110\n\
+    000000000000000000000000000000000000000000000000000000000000000000\n\
+    0111110110";
+
+/// How many parts these are.
+const PART_COUNT: usize = 10;
 
 /// What a decoder says of itself.
 #[derive(Clone, Copy, PartialEq, Eq)]
@@ -46,6 +48,10 @@ pub(super) fn state_of(decoder: &LineDecoder<OctetCheck>) -> State {
     }
 }
 
+fn part_of(rt: &impl Abort, number: usize) -> &'static str {
+    PARTS.lines().nth(number % PART_COUNT).expect(rt, "a part")
+}
+
 /// Parts and beginnings of parts, one after the other; the same seed gives the same list.
 pub(super) fn traffic(rt: &impl Abort, alloc: Global, seed: u64) -> Vec<bool> {
     let mut bits = Vec::new(alloc);
@@ -55,7 +61,7 @@ pub(super) fn traffic(rt: &impl Abort, alloc: Global, seed: u64) -> Vec<bool> {
             break;
         }
         state = number_after(state);
-        let part = PARTS[(state >> 60) as usize % PARTS.len()];
+        let part = part_of(rt, (state >> 60) as usize);
         let most = (state >> 40) as usize % 80;
         for bit in bits_of(rt, alloc, part).iter().take(most) {
             bits.push(*bit).expect(rt, "memory");

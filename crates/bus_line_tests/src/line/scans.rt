@@ -117,104 +117,35 @@ fn scans(rt: HostRuntime) {
     holds(&rt, many > 5000, "calls that take many bits");
 }
 
-/// Words with how often each comes, how many of their bits a first call gets, and their reports where the longest
-/// frame has forty octets.
-struct ScanRow {
-    words: &'static [(&'static str, usize)],
-    first: usize,
-    want: &'static str,
+/// How many of their bits a first call gets, bits and how often they come where it is more than once, and their reports
+/// where the longest frame has forty octets.
+///
+/// First come an idle, a 0, and ones again; then flags, and where the eighth would be an abort, which ends no piece.
+/// Then an open piece, and after the cut eight flags. Then the second flag ends 56 bits after the first, or 104; or it
+/// stands across the place 112, or across 120. Last comes an inserted 0 six bits before the place 56, or 64, and as
+/// many data bits as whole octets have.
+const SCANNED: &str = "\
+    120: 1*15 0 1*104 => 0 15 idle, 16 31 idle\n\
+    136: 01111110*7 11111110 0*64 01111110 =>\n\
+    24: 01111110 0*16 01111110*8 0*8 => 8 24 damaged short\n\
+    144: 01111110 0*48 01111110 0*72 01111110 => 8 56 damaged fcs, 64 136 damaged fcs\n\
+    192: 01111110 0*96 01111110 0*72 01111110 => 8 104 damaged fcs, 112 184 damaged fcs\n\
+    248: 01111110 0*100 01111110 0*120 01111110 0*4 => 8 108 damaged unaligned, 116 236 damaged fcs\n\
+    256: 01111110 0*108 01111110 0*120 01111110 0*4 => 8 116 damaged unaligned, 124 244 damaged fcs\n\
+    192: 01111110 0*37 111110 0*62 01111110 0*71 => 8 113 damaged fcs\n\
+    200: 01111110 0*45 111110 0*62 01111110 0*71 => 8 121 damaged fcs";
+
+fn number_of(rt: &impl Abort, word: &str) -> usize {
+    word.trim().parse::<usize>().expect(rt, "a number")
 }
 
-const FLAG: &str = "01111110";
-
-const SCANNED: [ScanRow; 9] = [
-    // an idle, a 0, and ones again
-    ScanRow {
-        words: &[("1", 15), ("0", 1), ("1", 104)],
-        first: 120,
-        want: "0 15 idle, 16 31 idle",
-    },
-    // flags, and where the eighth would be an abort, which ends no piece
-    ScanRow {
-        words: &[(FLAG, 7), ("11111110", 1), ("0", 64), (FLAG, 1)],
-        first: 136,
-        want: "",
-    },
-    // an open piece, and after the cut eight flags
-    ScanRow {
-        words: &[(FLAG, 1), ("0", 16), (FLAG, 8), ("0", 8)],
-        first: 24,
-        want: "8 24 damaged short",
-    },
-    // the second flag ends 56 bits after the first, or 104
-    ScanRow {
-        words: &[(FLAG, 1), ("0", 48), (FLAG, 1), ("0", 72), (FLAG, 1)],
-        first: 144,
-        want: "8 56 damaged fcs, 64 136 damaged fcs",
-    },
-    ScanRow {
-        words: &[(FLAG, 1), ("0", 96), (FLAG, 1), ("0", 72), (FLAG, 1)],
-        first: 192,
-        want: "8 104 damaged fcs, 112 184 damaged fcs",
-    },
-    // the second flag stands across the place 112, or across 120
-    ScanRow {
-        words: &[
-            (FLAG, 1),
-            ("0", 100),
-            (FLAG, 1),
-            ("0", 120),
-            (FLAG, 1),
-            ("0", 4),
-        ],
-        first: 248,
-        want: "8 108 damaged unaligned, 116 236 damaged fcs",
-    },
-    ScanRow {
-        words: &[
-            (FLAG, 1),
-            ("0", 108),
-            (FLAG, 1),
-            ("0", 120),
-            (FLAG, 1),
-            ("0", 4),
-        ],
-        first: 256,
-        want: "8 116 damaged unaligned, 124 244 damaged fcs",
-    },
-    // an inserted 0 six bits before the place 56, or 64, and as many data bits as whole octets have
-    ScanRow {
-        words: &[
-            (FLAG, 1),
-            ("0", 37),
-            ("111110", 1),
-            ("0", 62),
-            (FLAG, 1),
-            ("0", 71),
-        ],
-        first: 192,
-        want: "8 113 damaged fcs",
-    },
-    ScanRow {
-        words: &[
-            (FLAG, 1),
-            ("0", 45),
-            ("111110", 1),
-            ("0", 62),
-            (FLAG, 1),
-            ("0", 71),
-        ],
-        first: 200,
-        want: "8 121 damaged fcs",
-    },
-];
-
 /// The bits of these words.
-fn bits_of_words(rt: &impl Abort, alloc: Global, words: &[(&str, usize)]) -> Vec<bool> {
+fn bits_of_words(rt: &impl Abort, alloc: Global, words: &str) -> Vec<bool> {
     let mut bits = Vec::new(alloc);
-    for (word, count) in words {
-        let some = bits_of(rt, alloc, word);
-        for _ in 0..*count {
+    for word in words.split_whitespace() {
+        let (some, count) = word.split_once('*').unwrap_or((word, "1"));
+        let some = bits_of(rt, alloc, some);
+        for _ in 0..number_of(rt, count) {
             bits.extend_from_slice(&some).expect(rt, "memory");
         }
     }
@@ -247,22 +178,23 @@ fn push_scanned(
     same(rt, at, end, "bits scanned");
 }
 
+fn check_reports(rt: &impl Abort, alloc: Global, line: &str) {
+    let (first, rest) = line.split_once(':').expect(rt, "a count");
+    let (words, want) = rest.split_once("=>").expect(rt, "words");
+    let first = number_of(rt, first);
+    let bits = bits_of_words(rt, alloc, words);
+    let octets = octets_of(rt, alloc, &bits);
+    let mut decoder = Decoder::new(40, 0).expect(rt, "a decoder");
+    let mut text = String::new(alloc);
+    push_scanned(rt, &mut text, &mut decoder, &octets, 0, first);
+    push_scanned(rt, &mut text, &mut decoder, &octets, first, bits.len());
+    same(rt, text.as_str(), want.trim(), line);
+}
+
 #[test]
 fn scanned_reports(rt: HostRuntime) {
-    let alloc = rt.alloc();
-    for row in &SCANNED {
-        let bits = bits_of_words(&rt, alloc, row.words);
-        let octets = octets_of(&rt, alloc, &bits);
-        let mut decoder = Decoder::new(40, 0).expect(&rt, "a decoder");
-        let mut text = String::new(alloc);
-        push_scanned(&rt, &mut text, &mut decoder, &octets, 0, row.first);
-        push_scanned(&rt, &mut text, &mut decoder, &octets, row.first, bits.len());
-        same(
-            &rt,
-            text.as_str(),
-            row.want,
-            format_args!("{} bits", bits.len()),
-        );
+    for line in SCANNED.lines() {
+        check_reports(&rt, rt.alloc(), line);
     }
 }
 

@@ -30,21 +30,25 @@ fn due_place(piece: &Piece) -> usize {
     place as usize
 }
 
+/// A place for the report that is due at each bit.
+fn places_of(rt: &impl Abort, alloc: Global, bits: &[bool]) -> Vec<Option<OwnedPiece>> {
+    let mut due = Vec::new(alloc);
+    for _ in bits {
+        due.push(None).expect(rt, "memory");
+    }
+    due
+}
+
 /// The reports of the whole list of these bits, where a frame has at most `longest` octets and its check.
 pub(super) fn side_of(rt: &impl Abort, alloc: Global, bits: Vec<bool>, longest: usize) -> Side {
     assert!(rt;
         bits.len() <= 10000 && 3 <= longest && longest <= 256,
         "a list"
     );
-    let mut due = Vec::new(alloc);
-    for _ in &bits {
-        due.push(None).expect(rt, "memory");
-    }
+    let mut due = places_of(rt, alloc, &bits);
     for owned in reports_whole(alloc, &bits, longest).expect(rt, "memory") {
-        let at = due
-            .get_mut(due_place(&owned.as_piece()))
-            .expect(rt, "a place");
-        *at = Some(owned);
+        let place = due_place(&owned.as_piece());
+        *due.get_mut(place).expect(rt, "a place") = Some(owned);
     }
     Side { bits, due }
 }
@@ -166,6 +170,26 @@ impl ReportObserver<u64> for Comparing<'_> {
     ghost has_less = { λ l more less h r. tt };
 }
 
+/// Scans so many pairs from one on to an observer.
+fn scan_part<C: Check>(
+    rt: &impl Abort,
+    alloc: Global,
+    analyser: &mut PairAnalyser<C>,
+    sides: [&Side; 2],
+    from: usize,
+    count: usize,
+    observer: &mut Comparing<'_>,
+) -> u64 {
+    let bits = octets_from(rt, alloc, &sides[0].bits, from);
+    let others = octets_from(rt, alloc, &sides[1].bits, from);
+    assert!(rt; bits.len() <= 10000 && others.len() <= 10000);
+    assert!(rt; count <= 8 * bits.len() && count <= 8 * others.len());
+    let mut observed = 0;
+    let taken = analyser.scan(&bits, &others, count, observer, &mut observed);
+    same(rt, taken, count, "how many pairs are scanned");
+    observed
+}
+
 /// Whether the pairs, scanned from octets of either line in two calls, are shown as the merged reports in order and
 /// nothing else.
 pub(super) fn reports<C: Check>(
@@ -181,19 +205,12 @@ pub(super) fn reports<C: Check>(
         taken: 0,
         differs: false,
     };
-    let mut observed = 0;
-    let (one, other) = (
-        first.bits.len() / 3,
-        first.bits.len() - first.bits.len() / 3,
-    );
-    for (from, count) in [(0, one), (one, other)] {
-        let bits = octets_from(rt, alloc, &first.bits, from);
-        let others = octets_from(rt, alloc, &second.bits, from);
-        assert!(rt; bits.len() <= 10000 && others.len() <= 10000);
-        assert!(rt; count <= 8 * bits.len() && count <= 8 * others.len());
-        let taken = analyser.scan(&bits, &others, count, &mut observer, &mut observed);
-        same(rt, taken, count, "how many pairs are scanned");
-    }
+    let third = first.bits.len() / 3;
+    let rest = first.bits.len().saturating_sub(third);
+    let sides = [first, second];
+    let one = scan_part(rt, alloc, analyser, sides, 0, third, &mut observer);
+    let other = scan_part(rt, alloc, analyser, sides, third, rest, &mut observer);
+    let observed = one.saturating_add(other);
     !observer.differs && observer.taken == due.len() && observed == due.len() as u64
 }
 
@@ -275,33 +292,15 @@ fn none_differs(rt: &impl Abort, alloc: Global, first: &str, second: &str, count
 }
 
 /// Words of two lines, as many bits on both.
-struct Behind {
-    first: &'static str,
-    second: &'static str,
-}
-
-const BEHIND: [Behind; 4] = [
-    // a flag or an abort mark ends a short piece, on the second line a bit later
-    Behind {
-        first: "flag 000 0111",
-        second: "flag 0000 011",
-    },
-    // a frame on either line, which may end at one place
-    Behind {
-        first: "flag call 01111",
-        second: "flag reply 01111",
-    },
-    // a frame on the first line, and on the second fifteen ones, which may end at one place
-    Behind {
-        first: "flag call 01111",
-        second: "short 000000000000000000 111111111111",
-    },
-    // fifteen ones or a flag, on the second line two bits later
-    Behind {
-        first: "0 1111111111111",
-        second: "000 11111111111",
-    },
-];
+///
+/// A flag or an abort mark ends a short piece, on the second line a bit later. A frame on either line may end at one
+/// place; so may a frame on the first line, and on the second fifteen ones. Last, fifteen ones or a flag, on the second
+/// line two bits later.
+const BEHIND: &str = "\
+    flag 000 0111 | flag 0000 011\n\
+    flag call 01111 | flag reply 01111\n\
+    flag call 01111 | short 000000000000000000 111111111111\n\
+    0 1111111111111 | 000 11111111111";
 
 /// Behind a flag on both lines, every list of at most seven pairs.
 #[test]
@@ -320,9 +319,10 @@ fn eight_pairs_behind_flags(rt: HostRuntime) {
 /// Every list of at most six pairs where reports are near.
 #[test]
 fn six_pairs_near_reports(rt: HostRuntime) {
-    for row in &BEHIND {
+    for line in BEHIND.lines() {
+        let (first, second) = line.split_once('|').expect(&rt, "two lines");
         for count in 0..=6 {
-            none_differs(&rt, rt.alloc(), row.first, row.second, count);
+            none_differs(&rt, rt.alloc(), first, second, count);
         }
     }
 }

@@ -11,51 +11,40 @@ use bus_watch::{FeedFault, Line, NewFault, PairAnalyser};
 use std::alloc::Global;
 use std::process::Abort;
 
-/// The words of two lists, the shorter going on with ones, and the steps with a check that costs one an octet.
-struct StepsRow {
-    first: &'static str,
-    second: &'static str,
-    spent: Spent,
+/// The steps with a check that costs one an octet of two lists, the shorter going on with ones.
+fn check_steps(rt: &impl Abort, alloc: Global, first: &str, second: &str, want: Spent) {
+    let lines = two_lines(rt, alloc, first, second, true);
+    let mut analyser = analyser::<OctetCheck>(rt, alloc);
+    pushed(rt, alloc, &mut analyser, &lines.pairs);
+    same(rt, analyser.spent(), want, second);
 }
 
-const STEPS: [StepsRow; 2] = [
-    // a frame and an idle on either line
-    StepsRow {
-        first: "flag call flag",
-        second: "ones-57 flag reply flag",
-        spent: Spent {
-            shifted: 228,
-            assembled: 80,
-            folded: 10,
-            stored: 10,
-            copied: 10,
-            handled: 18,
-        },
-    },
-    // an idle on the first, and a frame on the second alone
-    StepsRow {
-        first: "",
-        second: "flag call flag",
-        spent: Spent {
-            shifted: 114,
-            assembled: 40,
-            folded: 5,
-            stored: 5,
-            copied: 5,
-            handled: 9,
-        },
-    },
-];
+/// A frame and an idle on either line.
+const OF_TWO: Spent = Spent {
+    shifted: 228,
+    assembled: 80,
+    folded: 10,
+    stored: 10,
+    copied: 10,
+    handled: 18,
+};
+
+/// An idle on the first, and a frame on the second alone.
+const OF_ONE: Spent = Spent {
+    shifted: 114,
+    assembled: 40,
+    folded: 5,
+    stored: 5,
+    copied: 5,
+    handled: 9,
+};
 
 #[test]
 fn steps_of_two_lines(rt: HostRuntime) {
     let alloc = rt.alloc();
-    for row in &STEPS {
-        let lines = two_lines(&rt, alloc, row.first, row.second, true);
-        let mut analyser = analyser::<OctetCheck>(&rt, alloc);
-        pushed(&rt, alloc, &mut analyser, &lines.pairs);
-        same(&rt, analyser.spent(), row.spent, row.second);
-    }
+    let reply = "ones-57 flag reply flag";
+    check_steps(&rt, alloc, "flag call flag", reply, OF_TWO);
+    check_steps(&rt, alloc, "", "flag call flag", OF_ONE);
 }
 
 fn check_kept(
@@ -118,60 +107,54 @@ fn new_at(
     PairAnalyser::new(alloc, read(rt, alloc, CALLS), depth, origin)
 }
 
+fn check_new(rt: &impl Abort, alloc: Global, depth: usize, origin: u64, want: NewFault) {
+    let fault = new_at(rt, alloc, depth, origin).err();
+    let case = format_args!("depth {depth} from {origin}");
+    same(rt, fault, Some(want), case);
+}
+
 /// The depths and origins that are refused, and the last places.
 #[test]
 fn limits_of_two_lines(rt: HostRuntime) {
     let alloc = rt.alloc();
-    for depth in [0, 1025] {
-        let fault = new_at(&rt, alloc, depth, 0).err();
-        same(
-            &rt,
-            fault,
-            Some(NewFault::DepthRange),
-            format_args!("depth {depth}"),
-        );
-    }
-    let past_all = (1 << 60) + 1;
-    let fault = new_at(&rt, alloc, 1, past_all).err();
-    same(
-        &rt,
-        fault,
-        Some(NewFault::Origin),
-        "an origin past all places",
-    );
+    check_new(&rt, alloc, 0, 0, NewFault::DepthRange);
+    check_new(&rt, alloc, 1025, 0, NewFault::DepthRange);
+    check_new(&rt, alloc, 1, (1 << 60) + 1, NewFault::Origin);
     let mut analyser = new_at(&rt, alloc, 1, (1 << 60) - 3).expect(&rt, "an analyser");
+    check_last_fed(&rt, alloc, &mut analyser);
+    let is_refused = analyser.push(true, true).is_err();
+    holds(&rt, is_refused, "a fourth pair is refused");
+}
+
+/// Three places before the last, four pairs are refused whole, and three are taken.
+fn check_last_fed(rt: &impl Abort, alloc: Global, analyser: &mut PairAnalyser<OctetCheck>) {
     let mut sink = PairCollector::new(alloc, [0, 0]);
     let pairs = [(true, false); 4];
-    let fault = feed(&rt, &mut analyser, &pairs, &mut sink).err();
-    same(&rt, fault, Some(FeedFault::PlaceLimit), "four pairs fed");
-    same(&rt, analyser.spent().shifted, 0, "the bits of four pairs");
-    feed(&rt, &mut analyser, &pairs[..3], &mut sink).expect(&rt, "room");
-    same(&rt, analyser.spent().shifted, 6, "the bits of three pairs");
-    holds(
-        &rt,
-        analyser.push(true, true).is_err(),
-        "a fourth pair is refused",
-    );
+    let fault = feed(rt, analyser, &pairs, &mut sink).err();
+    same(rt, fault, Some(FeedFault::PlaceLimit), "four pairs fed");
+    same(rt, analyser.spent().shifted, 0, "the bits of four pairs");
+    feed(rt, analyser, &pairs[..3], &mut sink).expect(rt, "room");
+    same(rt, analyser.spent().shifted, 6, "the bits of three pairs");
+}
+
+/// So many pairs are taken, and then none.
+fn check_taken(rt: &impl Abort, alloc: Global, room: u64) {
+    let origin = FAR.wrapping_sub(room);
+    let mut analyser = new_at(rt, alloc, 1, origin).expect(rt, "an analyser");
+    let case = format_args!("{room} places to take");
+    for _ in 0..room {
+        holds(rt, analyser.push(true, false).is_ok(), &case);
+    }
+    same(rt, analyser.spent().shifted, room.saturating_mul(2), &case);
+    let fault = analyser.push(true, false).err();
+    same(rt, fault, Some(PlaceLimit), &case);
 }
 
 /// Pairs are taken up to the place before 2^60, and no more.
 #[test]
 fn last_taken_pairs(rt: HostRuntime) {
-    let alloc = rt.alloc();
     for room in [0u64, 1, 3, 48] {
-        let origin = FAR.wrapping_sub(room);
-        let mut analyser = new_at(&rt, alloc, 1, origin).expect(&rt, "an analyser");
-        let case = format_args!("{room} places to take");
-        for _ in 0..room {
-            holds(&rt, analyser.push(true, false).is_ok(), &case);
-        }
-        same(&rt, analyser.spent().shifted, room.saturating_mul(2), &case);
-        same(
-            &rt,
-            analyser.push(true, false).err(),
-            Some(PlaceLimit),
-            &case,
-        );
+        check_taken(&rt, rt.alloc(), room);
     }
 }
 

@@ -13,60 +13,22 @@ use std::process::Abort;
 /// How many pairs a list has.
 const PAIRS: usize = 1500;
 
-/// The words of two lines at once.
-#[derive(Drop)]
-struct Part {
-    first: &'static str,
-    second: &'static str,
-}
+/// What traffic is made of: words of two lines at once.
+const PARTS: &str = "\
+    flag flag flag flag flag call flag flag flag | 0 flag flag flag flag flag flag reply flag flag\n\
+    flag call flag | ones-57 flag reply flag\n\
+    flag call flag | flag reply flag\n\
+    flag call flag | 0 flag reply flag reply flag\n\
+    0 flag call flag | flag reply flag\n\
+    flag call flag notice flag | short 0110100101110100110010110 short flag reply flag\n\
+    flag call flag short short flag | flag untyped flag 0 flag\n\
+    flag call 0 flag | flag short short flag\n\
+    idle | 0110100101110100110010110\n\
+    0110100101110100110010110 | ones-57\n\
+    flag 0 | flag 111110111110";
 
-/// What traffic is made of.
-const PARTS: [Part; 11] = [
-    Part {
-        first: "flag flag flag flag flag call flag flag flag",
-        second: "0 flag flag flag flag flag flag reply flag flag",
-    },
-    Part {
-        first: "flag call flag",
-        second: "ones-57 flag reply flag",
-    },
-    Part {
-        first: "flag call flag",
-        second: "flag reply flag",
-    },
-    Part {
-        first: "flag call flag",
-        second: "0 flag reply flag reply flag",
-    },
-    Part {
-        first: "0 flag call flag",
-        second: "flag reply flag",
-    },
-    Part {
-        first: "flag call flag notice flag",
-        second: "short 0110100101110100110010110 short flag reply flag",
-    },
-    Part {
-        first: "flag call flag short short flag",
-        second: "flag untyped flag 0 flag",
-    },
-    Part {
-        first: "flag call 0 flag",
-        second: "flag short short flag",
-    },
-    Part {
-        first: "idle",
-        second: "0110100101110100110010110",
-    },
-    Part {
-        first: "0110100101110100110010110",
-        second: "ones-57",
-    },
-    Part {
-        first: "flag 0",
-        second: "flag 111110111110",
-    },
-];
+/// How many parts these are.
+const PART_COUNT: usize = 11;
 
 /// What an analyser says of itself.
 #[derive(Clone, Copy, PartialEq, Eq)]
@@ -93,6 +55,13 @@ fn push_some(rt: &impl Abort, all: &mut Vec<bool>, bits: &[bool], count: usize) 
     all.extend_from_slice(some).expect(rt, "memory");
 }
 
+/// The bits of a part, the shorter line going on with one bit value.
+fn part_of(rt: &impl Abort, alloc: Global, number: usize, rest: bool) -> TwoLines {
+    let part = PARTS.lines().nth(number % PART_COUNT).expect(rt, "a part");
+    let (first, second) = part.split_once('|').expect(rt, "two lines");
+    two_lines(rt, alloc, first, second, rest)
+}
+
 /// Parts and beginnings of parts, one after the other; the same seed gives the same lists.
 fn traffic(rt: &impl Abort, alloc: Global, seed: u64) -> TwoLines {
     let mut first = Vec::new(alloc);
@@ -104,9 +73,7 @@ fn traffic(rt: &impl Abort, alloc: Global, seed: u64) -> TwoLines {
             break;
         }
         state = number_after(state);
-        let part = &PARTS[(state >> 48) as usize % PARTS.len()];
-        let rest = (state >> 45) % 2 == 1;
-        let part = two_lines(rt, alloc, part.first, part.second, rest);
+        let part = part_of(rt, alloc, (state >> 48) as usize, (state >> 45) % 2 == 1);
         let count = room.min((state >> 33) as usize % 256);
         push_some(rt, &mut first, &part.first, count);
         push_some(rt, &mut second, &part.second, count);

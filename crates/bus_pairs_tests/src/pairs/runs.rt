@@ -75,68 +75,33 @@ fn both_are_logged(rt: HostRuntime) {
     }
 }
 
-/// How a run ends early.
-struct FaultRow {
+/// A run into a log with so much room ends early.
+fn check_fault(
+    rt: &impl Abort,
+    alloc: Global,
     room: usize,
     depth: usize,
     origin: u64,
     want: RunFault,
+) {
+    let mut log = PairLog::new(alloc, room).expect(rt, "a log");
+    let ended = run(rt, alloc, depth, origin, &mut log);
+    let case = format_args!("room for {room}, depth {depth} from {origin}");
+    same(rt, ended.err(), Some(want), &case);
+    holds(rt, log.reports().len() <= log.room(), &case);
 }
 
-const FAULTS: [FaultRow; 6] = [
-    FaultRow {
-        room: 2,
-        depth: 0,
-        origin: 0,
-        want: RunFault::New(NewFault::DepthRange),
-    },
-    FaultRow {
-        room: 2,
-        depth: 1025,
-        origin: FAR + 1,
-        want: RunFault::New(NewFault::DepthRange),
-    },
-    FaultRow {
-        room: 2,
-        depth: 1,
-        origin: FAR + 1,
-        want: RunFault::New(NewFault::Origin),
-    },
-    FaultRow {
-        room: 2,
-        depth: 1,
-        origin: FAR - 56,
-        want: RunFault::Feed(FeedFault::PlaceLimit),
-    },
-    // there is no room for the reports, and then for one of them
-    FaultRow {
-        room: 0,
-        depth: 1,
-        origin: 0,
-        want: RunFault::Feed(FeedFault::Sink { consumed: 57 }),
-    },
-    FaultRow {
-        room: 1,
-        depth: 1,
-        origin: FAR - 57,
-        want: RunFault::Feed(FeedFault::Sink { consumed: 57 }),
-    },
-];
-
+/// Depths and places out of range; then there is no room for the reports, and then for one of them.
 #[test]
 fn faults_of_runs(rt: HostRuntime) {
     let alloc = rt.alloc();
-    for row in &FAULTS {
-        let FaultRow {
-            room,
-            depth,
-            origin,
-            want,
-        } = *row;
-        let mut log = PairLog::new(alloc, room).expect(&rt, "a log");
-        let ended = run(&rt, alloc, depth, origin, &mut log);
-        let case = format_args!("room for {room}, depth {depth} from {origin}");
-        same(&rt, ended.err(), Some(want), &case);
-        holds(&rt, log.reports().len() <= log.room(), &case);
-    }
+    let depth = RunFault::New(NewFault::DepthRange);
+    check_fault(&rt, alloc, 2, 0, 0, depth);
+    check_fault(&rt, alloc, 2, 1025, FAR + 1, depth);
+    check_fault(&rt, alloc, 2, 1, FAR + 1, RunFault::New(NewFault::Origin));
+    let far = RunFault::Feed(FeedFault::PlaceLimit);
+    check_fault(&rt, alloc, 2, 1, FAR - 56, far);
+    let full = RunFault::Feed(FeedFault::Sink { consumed: 57 });
+    check_fault(&rt, alloc, 0, 1, 0, full);
+    check_fault(&rt, alloc, 1, 1, FAR - 57, full);
 }

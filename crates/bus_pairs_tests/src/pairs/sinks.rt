@@ -3,109 +3,63 @@
 use super::{PairCollector, TwoLines, analyser, feed, pushed, two_lines};
 use crate::expect::{holds, same};
 use bus_fcs::{BitCheck, Check, OctetCheck};
-use bus_rows::joined;
+use bus_rows::push_part;
 use bus_seen::NONE;
 use bus_watch::{Counts, FeedFault, PairAnalyser, PairSink};
 use std::alloc::Global;
 use std::fmt::Display;
 use std::process::Abort;
 
-const TOLD_CALL: &str = "8 49 frame 108300fde5 station 16 type 0 on 1";
+/// What a sink is told of a frame.
+fn told_of(word: &str) -> &'static str {
+    match word {
+        "call" => "8 49 frame 108300fde5 station 16 type 0 on 1",
+        "reply" =>
+            "8 49 frame 108380f561 station 16 type 128, answered 8 49 station 16 type 0 on 2",
+        "stray" => "57 98 frame 108380f561 station 16 type 128, stray on 2",
+        "notice" => "57 99 frame ff83095a3b station 255 type 9 on 1",
+        _ => "no frame",
+    }
+}
 
-const TOLD_REPLY: &str =
-    "8 49 frame 108380f561 station 16 type 128, answered 8 49 station 16 type 0 on 2";
-
-const TOLD_STRAY: &str = "57 98 frame 108380f561 station 16 type 128, stray on 2";
-
-const TOLD_NOTICE: &str = "57 99 frame ff83095a3b station 255 type 9 on 1";
+/// What it is told of these frames.
+fn told(rt: &impl Abort, alloc: Global, words: &str) -> String {
+    let mut text = String::new(alloc);
+    for word in words.split_whitespace() {
+        push_part(&mut text, told_of(word)).expect(rt, "text");
+    }
+    text
+}
 
 /// A sink that refuses one or two of four reports, of which the first two are due at one place.
-struct PairRefusal {
+#[derive(Drop)]
+struct Refusal<'a> {
     /// The reports that it refuses, counted from 1.
     refuses: [u64; 2],
     /// How many pairs are consumed when it refuses first, and how many when it refuses again.
-    consumed: &'static [usize],
+    consumed: &'a [usize],
     /// How many reports it refused when feeding first stopped.
     refusals: u64,
-    /// What it has then.
-    told: &'static [&'static str],
+    /// The frames that it has then.
+    told: &'a str,
     /// What it has after all pairs.
-    all: &'static [&'static str],
+    all: &'a str,
 }
 
-const PAIR_REFUSALS: [PairRefusal; 8] = [
-    PairRefusal {
-        refuses: [1, 0],
-        consumed: &[57],
-        refusals: 1,
-        told: &[TOLD_REPLY],
-        all: &[TOLD_REPLY, TOLD_STRAY, TOLD_NOTICE],
-    },
-    PairRefusal {
-        refuses: [2, 0],
-        consumed: &[57],
-        refusals: 1,
-        told: &[TOLD_CALL],
-        all: &[TOLD_CALL, TOLD_STRAY, TOLD_NOTICE],
-    },
-    PairRefusal {
-        refuses: [1, 2],
-        consumed: &[57],
-        refusals: 2,
-        told: &[],
-        all: &[TOLD_STRAY, TOLD_NOTICE],
-    },
-    PairRefusal {
-        refuses: [3, 0],
-        consumed: &[106],
-        refusals: 1,
-        told: &[TOLD_CALL, TOLD_REPLY],
-        all: &[TOLD_CALL, TOLD_REPLY, TOLD_NOTICE],
-    },
-    PairRefusal {
-        refuses: [4, 0],
-        consumed: &[107],
-        refusals: 1,
-        told: &[TOLD_CALL, TOLD_REPLY, TOLD_STRAY],
-        all: &[TOLD_CALL, TOLD_REPLY, TOLD_STRAY],
-    },
-    PairRefusal {
-        refuses: [1, 3],
-        consumed: &[57, 106],
-        refusals: 1,
-        told: &[TOLD_REPLY],
-        all: &[TOLD_REPLY, TOLD_NOTICE],
-    },
-    PairRefusal {
-        refuses: [2, 4],
-        consumed: &[57, 107],
-        refusals: 1,
-        told: &[TOLD_CALL],
-        all: &[TOLD_CALL, TOLD_STRAY],
-    },
-    PairRefusal {
-        refuses: [3, 4],
-        consumed: &[106, 107],
-        refusals: 1,
-        told: &[TOLD_CALL, TOLD_REPLY],
-        all: &[TOLD_CALL, TOLD_REPLY],
-    },
-];
-
-/// Ends the test where a sink has other than these texts.
+/// Ends the test where a sink has other than these frames.
 fn check_told(
     rt: &impl Abort,
     alloc: Global,
     sink: &PairCollector,
-    texts: &[&str],
+    words: &str,
     case: impl Display + Drop,
 ) {
-    let want = joined(alloc, texts).expect(rt, "memory");
+    let want = told(rt, alloc, words);
     same(rt, sink.text.as_str(), want.as_str(), case);
 }
 
 /// Feeding stops after each place at which a report is refused, and goes on from there.
-fn check_refusal<C: Check>(rt: &impl Abort, alloc: Global, lines: &TwoLines, row: &PairRefusal) {
+fn check_refusal<C: Check>(rt: &impl Abort, alloc: Global, lines: &TwoLines, row: &Refusal<'_>) {
     let mut fed = analyser::<C>(rt, alloc);
     let mut sink = PairCollector::new(alloc, row.refuses);
     let mut before = 0;
@@ -123,8 +77,7 @@ fn check_refusal<C: Check>(rt: &impl Abort, alloc: Global, lines: &TwoLines, row
     }
     let rest = lines.pairs.get(before..).expect(rt, "pairs");
     feed(rt, &mut fed, rest, &mut sink).expect(rt, "room");
-    let case = "what is told of all pairs";
-    check_told(rt, alloc, &sink, row.all, case);
+    check_told(rt, alloc, &sink, row.all, "what is told of all pairs");
     holds(rt, !sink.lacks, "memory for a text");
     check_unharmed(rt, alloc, &fed, lines);
 }
@@ -162,26 +115,43 @@ fn check_unharmed<C: Check>(
     );
 }
 
+/// With both checks, a sink that refuses these reports, stops there, refused so many then, and has these frames then
+/// and after all pairs.
+fn check_both(
+    rt: &impl Abort,
+    alloc: Global,
+    refuses: [u64; 2],
+    consumed: &[usize],
+    refusals: u64,
+    told: &str,
+    all: &str,
+) {
+    let first = "flag call flag notice flag";
+    let lines = two_lines(rt, alloc, first, "flag reply flag reply flag", false);
+    same(rt, lines.pairs.len(), 107, "how many pairs there are");
+    let row = Refusal {
+        refuses,
+        consumed,
+        refusals,
+        told,
+        all,
+    };
+    check_refusal::<BitCheck>(rt, alloc, &lines, &row);
+    check_refusal::<OctetCheck>(rt, alloc, &lines, &row);
+}
+
 /// Two reports at one place, where the second is offered also if the first was refused, and one on
 /// either line a bit apart.
 #[test]
 fn refusing_sinks(rt: HostRuntime) {
     let alloc = rt.alloc();
-    let lines = two_lines(
-        &rt,
-        alloc,
-        "flag call flag notice flag",
-        "flag reply flag reply flag",
-        false,
-    );
-    same(
-        &rt,
-        lines.pairs.len(),
-        107,
-        "how many pairs the frames have",
-    );
-    for row in &PAIR_REFUSALS {
-        check_refusal::<BitCheck>(&rt, alloc, &lines, row);
-        check_refusal::<OctetCheck>(&rt, alloc, &lines, row);
-    }
+    check_both(&rt, alloc, [1, 0], &[57], 1, "reply", "reply stray notice");
+    check_both(&rt, alloc, [2, 0], &[57], 1, "call", "call stray notice");
+    check_both(&rt, alloc, [1, 2], &[57], 2, "", "stray notice");
+    let (two, three) = ("call reply", "call reply stray");
+    check_both(&rt, alloc, [3, 0], &[106], 1, two, "call reply notice");
+    check_both(&rt, alloc, [4, 0], &[107], 1, three, three);
+    check_both(&rt, alloc, [1, 3], &[57, 106], 1, "reply", "reply notice");
+    check_both(&rt, alloc, [2, 4], &[57, 107], 1, "call", "call stray");
+    check_both(&rt, alloc, [3, 4], &[106, 107], 1, two, two);
 }

@@ -20,14 +20,6 @@ pub(super) const NONE: Spent = Spent {
     handled: 0,
 };
 
-/// A worked list and its steps with either check.
-#[derive(Drop)]
-struct Row {
-    bits: &'static str,
-    by_bits: Spent,
-    by_octets: Spent,
-}
-
 /// The steps of a call and its reply, but those of the check.
 const OF_CALL_AND_REPLY: Spent = Spent {
     shifted: 106,
@@ -52,40 +44,6 @@ const OF_ABORT_AND_IDLE: Spent = Spent {
     ..NONE
 };
 
-const ROWS: [Row; 5] = [
-    Row {
-        bits: "",
-        by_bits: NONE,
-        by_octets: NONE,
-    },
-    Row {
-        bits: "flag",
-        by_bits: Spent { shifted: 8, ..NONE },
-        by_octets: Spent { shifted: 8, ..NONE },
-    },
-    Row {
-        bits: "flag call flag reply flag",
-        by_bits: Spent {
-            folded: 80,
-            ..OF_CALL_AND_REPLY
-        },
-        by_octets: Spent {
-            folded: 10,
-            ..OF_CALL_AND_REPLY
-        },
-    },
-    Row {
-        bits: "flag 00001000 1111111",
-        by_bits: OF_ABORT,
-        by_octets: OF_ABORT,
-    },
-    Row {
-        bits: "flag 00001000 1111111 11111111",
-        by_bits: OF_ABORT_AND_IDLE,
-        by_octets: OF_ABORT_AND_IDLE,
-    },
-];
-
 /// Pushes the bits of words.
 fn push_words<C: Check>(rt: &impl Abort, alloc: Global, analyser: &mut Analyser<C>, words: &str) {
     for bit in &bits_of(rt, alloc, words) {
@@ -99,26 +57,45 @@ fn counted<C: Check>(rt: &impl Abort, alloc: Global, words: &str) -> Spent {
     analyser.spent()
 }
 
+/// The steps of a list with either check.
+fn check_steps(rt: &impl Abort, alloc: Global, words: &str, by_bits: Spent, by_octets: Spent) {
+    same(rt, counted::<BitCheck>(rt, alloc, words), by_bits, words);
+    let counted = counted::<OctetCheck>(rt, alloc, words);
+    same(rt, counted, by_octets, words);
+}
+
+/// And their sums.
+fn check_totals(rt: &impl Abort, alloc: Global, words: &str, by_bits: u128, by_octets: u128) {
+    let total = counted::<BitCheck>(rt, alloc, words).total();
+    same(rt, total, by_bits, words);
+    let total = counted::<OctetCheck>(rt, alloc, words).total();
+    same(rt, total, by_octets, words);
+}
+
 /// The counters of worked lists, by both checks, and the sums of a call and its reply.
 #[test]
 fn steps(rt: HostRuntime) {
-    for row in &ROWS {
-        let by_bits = counted::<BitCheck>(&rt, rt.alloc(), row.bits);
-        same(&rt, by_bits, row.by_bits, row.bits);
-        let by_octets = counted::<OctetCheck>(&rt, rt.alloc(), row.bits);
-        same(&rt, by_octets, row.by_octets, row.bits);
-    }
-    let totals: [(&str, u128, u128); 3] = [
-        ("flag call flag reply flag", 298, 228),
-        ("flag 00001000 1111111", 33, 33),
-        ("flag 00001000 1111111 11111111", 44, 44),
-    ];
-    for (words, by_bits, by_octets) in totals {
-        let counted_by_bits = counted::<BitCheck>(&rt, rt.alloc(), words);
-        same(&rt, counted_by_bits.total(), by_bits, words);
-        let counted_by_octets = counted::<OctetCheck>(&rt, rt.alloc(), words);
-        same(&rt, counted_by_octets.total(), by_octets, words);
-    }
+    let alloc = rt.alloc();
+    check_steps(&rt, alloc, "", NONE, NONE);
+    let flag = Spent { shifted: 8, ..NONE };
+    check_steps(&rt, alloc, "flag", flag, flag);
+    let answered = "flag call flag reply flag";
+    let by_bits = Spent {
+        folded: 80,
+        ..OF_CALL_AND_REPLY
+    };
+    let by_octets = Spent {
+        folded: 10,
+        ..OF_CALL_AND_REPLY
+    };
+    check_steps(&rt, alloc, answered, by_bits, by_octets);
+    check_totals(&rt, alloc, answered, 298, 228);
+    let abort = "flag 00001000 1111111";
+    check_steps(&rt, alloc, abort, OF_ABORT, OF_ABORT);
+    check_totals(&rt, alloc, abort, 33, 33);
+    let idle = "flag 00001000 1111111 11111111";
+    check_steps(&rt, alloc, idle, OF_ABORT_AND_IDLE, OF_ABORT_AND_IDLE);
+    check_totals(&rt, alloc, idle, 44, 44);
 }
 
 /// The steps of a command 1025 times.

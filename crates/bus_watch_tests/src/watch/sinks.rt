@@ -4,7 +4,7 @@ use super::{bits_of, new_analyser, read};
 use crate::expect::{holds, same};
 use bus_dictionary::Dictionary;
 use bus_fcs::{BitCheck, Check, OctetCheck};
-use bus_rows::{CALLS, joined};
+use bus_rows::{CALLS, push_part};
 use bus_seen::{NONE, push_seen};
 use bus_watch::{
     Analyser, Counts, FeedFault, ReportSink, Run, RunFault, Seen, SinkRefused, run_all,
@@ -81,65 +81,53 @@ pub(super) fn run<C: Check>(
     run_all(alloc, dictionary, 16, 0, pieces, sink)
 }
 
-const TOLD_CALL: &str = "8 49 frame 108300fde5 station 16 type 0";
+/// What a sink is told of a frame.
+fn told_of(word: &str) -> &'static str {
+    match word {
+        "call" => "8 49 frame 108300fde5 station 16 type 0",
+        "reply" => "57 98 frame 108380f561 station 16 type 128, answered 8 49 station 16 type 0",
+        "notice" => "106 148 frame ff83095a3b station 255 type 9",
+        _ => "no frame",
+    }
+}
 
-const TOLD_REPLY: &str =
-    "57 98 frame 108380f561 station 16 type 128, answered 8 49 station 16 type 0";
-
-const TOLD_NOTICE: &str = "106 148 frame ff83095a3b station 255 type 9";
+/// What it is told of these frames.
+fn told(rt: &impl Abort, alloc: Global, words: &str) -> String {
+    let mut text = String::new(alloc);
+    for word in words.split_whitespace() {
+        push_part(&mut text, told_of(word)).expect(rt, "text");
+    }
+    text
+}
 
 /// A sink that refuses one of three reports.
 #[derive(Drop)]
-struct Refusal {
+struct Refusal<'a> {
     /// The report that it refuses, counted from 1.
     refuses: u64,
     /// How many bits are consumed then.
     consumed: usize,
-    /// What the sink has then.
-    told: &'static [&'static str],
+    /// The frames that the sink has then.
+    told: &'a str,
     /// How often station 16 answered by then.
     answered: u64,
-    /// What the sink has after the rest of the bits.
-    all: &'static [&'static str],
+    /// The frames that it has after the rest of the bits.
+    all: &'a str,
 }
 
-const REFUSALS: [Refusal; 3] = [
-    Refusal {
-        refuses: 1,
-        consumed: 57,
-        told: &[],
-        answered: 0,
-        all: &[TOLD_REPLY, TOLD_NOTICE],
-    },
-    Refusal {
-        refuses: 2,
-        consumed: 106,
-        told: &[TOLD_CALL],
-        answered: 1,
-        all: &[TOLD_CALL, TOLD_NOTICE],
-    },
-    Refusal {
-        refuses: 3,
-        consumed: 156,
-        told: &[TOLD_CALL, TOLD_REPLY],
-        answered: 1,
-        all: &[TOLD_CALL, TOLD_REPLY],
-    },
-];
-
-/// Ends the test where a sink has other than these texts.
+/// Ends the test where a sink has other than these frames.
 fn check_told(
     rt: &impl Abort,
     alloc: Global,
     sink: &Collector,
-    texts: &[&str],
+    words: &str,
     case: impl Display + Drop,
 ) {
-    let want = joined(alloc, texts).expect(rt, "memory");
+    let want = told(rt, alloc, words);
     same(rt, sink.text.as_str(), want.as_str(), case);
 }
 
-fn check_refusal<C: Check>(rt: &impl Abort, alloc: Global, bits: &[bool], row: &Refusal) {
+fn check_refusal<C: Check>(rt: &impl Abort, alloc: Global, bits: &[bool], row: &Refusal<'_>) {
     let (refuses, consumed) = (row.refuses, row.consumed);
     let mut analyser = new_analyser::<C>(rt, alloc, CALLS, 2, 0);
     let mut sink = Collector::new(alloc, refuses);
@@ -161,7 +149,7 @@ fn check_refusal<C: Check>(rt: &impl Abort, alloc: Global, bits: &[bool], row: &
 }
 
 /// The same list as a run of two pieces: the bits that are consumed count from the first piece on.
-fn check_run<C: Check>(rt: &impl Abort, alloc: Global, bits: &[bool], row: &Refusal) {
+fn check_run<C: Check>(rt: &impl Abort, alloc: Global, bits: &[bool], row: &Refusal<'_>) {
     let (refuses, consumed) = (row.refuses, row.consumed);
     let (front, rest) = bits.split_at_checked(70).expect(rt, "too few bits");
     let mut sink = Collector::new(alloc, refuses);
@@ -173,16 +161,41 @@ fn check_run<C: Check>(rt: &impl Abort, alloc: Global, bits: &[bool], row: &Refu
     check_told(rt, alloc, &sink, row.told, &case);
 }
 
-/// Sinks that refuse one report of three frames, with both checks.
+/// With both checks, a sink that refuses this report at this bit has these frames then, and these after all bits.
+fn check_both(rt: &impl Abort, alloc: Global, row: &Refusal<'_>) {
+    let bits = bits_of(rt, alloc, "flag call flag reply flag notice flag");
+    same(rt, bits.len(), 156, "how many bits the frames have");
+    check_refusal::<BitCheck>(rt, alloc, &bits, row);
+    check_refusal::<OctetCheck>(rt, alloc, &bits, row);
+    check_run::<BitCheck>(rt, alloc, &bits, row);
+    check_run::<OctetCheck>(rt, alloc, &bits, row);
+}
+
+/// Sinks that refuse one report of three frames.
 #[test]
 fn refusing_sinks(rt: HostRuntime) {
-    let alloc = rt.alloc();
-    let bits = bits_of(&rt, alloc, "flag call flag reply flag notice flag");
-    same(&rt, bits.len(), 156, "how many bits the frames have");
-    for row in &REFUSALS {
-        check_refusal::<BitCheck>(&rt, alloc, &bits, row);
-        check_refusal::<OctetCheck>(&rt, alloc, &bits, row);
-        check_run::<BitCheck>(&rt, alloc, &bits, row);
-        check_run::<OctetCheck>(&rt, alloc, &bits, row);
-    }
+    let first = Refusal {
+        refuses: 1,
+        consumed: 57,
+        told: "",
+        answered: 0,
+        all: "reply notice",
+    };
+    check_both(&rt, rt.alloc(), &first);
+    let second = Refusal {
+        refuses: 2,
+        consumed: 106,
+        told: "call",
+        answered: 1,
+        all: "call notice",
+    };
+    check_both(&rt, rt.alloc(), &second);
+    let third = Refusal {
+        refuses: 3,
+        consumed: 156,
+        told: "call reply",
+        answered: 1,
+        all: "call reply",
+    };
+    check_both(&rt, rt.alloc(), &third);
 }
