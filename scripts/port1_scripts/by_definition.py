@@ -5,7 +5,7 @@
     by-definition ledger [OPTIONS] < CAPTURE
     by-definition python
 
-`list` and `check` write what port1 is proved to write; OPTIONS are those of port1, and --dictionary FILE may stand for
+`list` and `check` write what the library calls behind port1 are proved to write; OPTIONS are those of port1, and --dictionary FILE may stand for
 --dict TEXT. `ledger` writes the counts that bound the work: settled places, octets that are stored, octets of frames,
 and steps of reports; of two lines for each. `python` writes what is run, definition by definition, below the functions
 of the toolchain that a table does. No decoder is written here: what a frame is stands in the definitions alone, and
