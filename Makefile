@@ -3,7 +3,8 @@
 #     make                              proves and builds program and library, with `rt`, where anything has changed, and
 #                                       reports how far it is
 #     make try                          lists an example by the library call, compiled without a proof, in half a minute
-#     make check                        runs the tests of the gate without the proofs (tests/run)
+#     make check                        installs what the tests take (tests/setup), or prints the line that does, and runs
+#                                       those of the gate without the proofs (tests/run)
 #     make version                      writes the program's version into header, man page, Python module and docs/C.md
 #     make page                         builds the page, page/out/port1.html: the analyser as one file for a browser
 #     make install PREFIX=$HOME/.local  all of the following
@@ -94,7 +95,8 @@ try:
 	@packages/try
 
 check: $(PROGRAM) $(SAMPLER)
-	tests/run
+	tests/setup
+	tests/run --all
 
 page:
 	packages/build port1_c lib

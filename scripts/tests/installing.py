@@ -282,7 +282,7 @@ def make_check(folder: Path) -> List[str]:
     """What `make check` runs, and `make page`, which is to report the proofs before it builds."""
     needs("make")
     problems = []
-    for target, wanted in {"check": ["tests/run"], "page": ["packages/build port1_c lib", "page/build"]}.items():
+    for target, wanted in {"check": ["tests/setup", "tests/run --all"], "page": ["packages/build port1_c lib", "page/build"]}.items():
         words = ["make", "-n", "-C", TOP, target, f"PROGRAM={os.environ['PORT1']}"]
         ran = subprocess.run(words, capture_output=True, text=True, timeout=SECONDS)
         found = [line for line in ran.stdout.splitlines() if not line.startswith("make")]
