@@ -86,14 +86,14 @@ last-ones =
         ap (list_all (λ bit. bit)) (last-more j b bit few)
         ∙ (list_all-append (λ bit. bit) (last j b) (bit ∷ []) ∙ more j b bit before few)
 
-rests-ones : (b : List Bool) → rests b ≡ leb 15 (ones_after 15 b)
+pub rests-ones : (b : List Bool) → rests b ≡ leb 15 (ones_after 15 b)
 rests-ones b =
     let here : length b + (15 - 15) ≡ length b = omega arith in
     rw here at (last-ones b 15 (omega arith))
 
 -- silence
 module _ (xs : List Arrival) (bit : Bool) where
-  first-same : own Second (xs ++ (First, bit) ∷ []) ≡ own Second xs
+  pub first-same : own Second (xs ++ (First, bit) ∷ []) ≡ own Second xs
   first-same = own-append Second xs ((First, bit) ∷ []) ∙ append-nil (own Second xs)
 
   first-count : length (own First (xs ++ (First, bit) ∷ [])) ≡ length (own First xs) + 1
@@ -103,7 +103,7 @@ module _ (xs : List Arrival) (bit : Bool) where
     length-append (own First xs) (bit ∷ []),
   )
 
-  silence-first : 1 ≤ length (own Second xs) → silence (xs ++ (First, bit) ∷ []) ≡ silence xs + 1
+  pub silence-first : 1 ≤ length (own Second xs) → silence (xs ++ (First, bit) ∷ []) ≡ silence xs + 1
   silence-first some =
       let k = length (own Second xs) - 1 in
       omega (
@@ -138,7 +138,7 @@ same-test most silent next run ones is within waits = elim (cases_lt run 15) [
   | inr all ↦ grind (arith, nat_tests)
 ]
 
-has-bits : (b : List Bool) → ones_after 15 b < 15 → 1 ≤ length b
+pub has-bits : (b : List Bool) → ones_after 15 b < 15 → 1 ≤ length b
 has-bits [] fewer = absurd (omega (arith, fewer))
 has-bits (x ∷ b) fewer = omega arith
 
@@ -166,11 +166,11 @@ ones-filled k ys x true =
     fifteen n = omega arith
 
 -- a line that waits for a bit is as silent with what was put in as without
-abbrev Waits : ℕ → List Arrival → Type 0
+abbrev pub Waits : ℕ → List Arrival → Type 0
 Waits most xs = ones_after 15 (own Second (rested most xs)) < 15 →
     (silence (rested most xs) ≡ silence xs) × (1 ≤ length (own Second xs))
 
-waits : (most : ℕ) (xs : List Arrival) → Waits most xs
+pub waits : (most : ℕ) (xs : List Arrival) → Waits most xs
 waits most = one-by-one (Waits most) (λ fewer. absurd (omega (arith, fewer))) more
   where
     first : (xs : List Arrival) (bit is : Bool) → Waits most xs →
