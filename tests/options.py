@@ -1,4 +1,5 @@
-"""Compares the man page and the completions with the help texts: every option and kind, and no other."""
+"""Compares the man page and the completions with the help texts: every option and kind, and no other; and all that
+brings a second line to rest with the rule of rest: the silence, unless it is said."""
 
 import re
 import subprocess
@@ -20,6 +21,21 @@ ZSH_OPTION = re.compile(r"['{,](--?[\w-]+)(?=[\[,}])")
 
 # An option in a line of a completion for fish.
 FISH_OPTION = re.compile(r" -(s|l) ([\w-]+)")
+
+# Where the silence stands that brings a second line to rest, unless it is said. The first is that of the rule.
+SILENCES = {
+    "crates/bus_tap/src/rest.rt": r"pub const SILENCE: u64 = (\d+);",
+    "crates/bus_arguments/src/arguments.rt": r"^const REST: u64 = (\d+);",
+    "crates/bus_arguments/src/arguments/rows.rt": r'name: "rest",\n    defaults: &\["(\d+)"\]',
+    "c/include/port1.h": r"^#define PORT1_SILENCE (\d+)$",
+    "bindings/python/port1/taps.py": r"^SILENCE = (\d+)$",
+    "page/src/engine/clocked.js": r"^export const SILENCE = (\d+)n;",
+    "scripts/port1_scripts/by_definition.py": r"^SILENCE = (\d+)$",
+    "cli/help/list.txt": r"--rest <N> .*\[default: (\d+)\]",
+    "cli/help/check.txt": r"--rest <N> .*\[default: (\d+)\]",
+    "cli/port1.1": r"^The default is (\d+); with 0 none are put in\.$",
+    "docs/CAPTURES.md": r"After (\d+) places without one \(`--rest N`\)",
+}
 
 Options = Dict[str, Set[str]]
 
@@ -132,6 +148,19 @@ def differences(wanted: Set[str], got: Set[str]) -> List[str]:
     return problems + [f"it has {word}, the help text has not" for word in sorted(got - wanted)]
 
 
+def silence_in(file: str) -> List[str]:
+    return re.findall(SILENCES[file], (TOP / file).read_text(encoding="utf-8"), re.MULTILINE)
+
+
+def results_of_silence() -> Iterator[Tuple[str, List[str]]]:
+    """Whether each file tells one silence, that of the rule."""
+    wanted, *others = SILENCES
+    for file in [wanted, *others]:
+        got = silence_in(file)
+        is_it = len(got) == 1 and got == silence_in(wanted)
+        yield f"silence in {file}", [] if is_it else [f"wanted {silence_in(wanted)}, got {got}"]
+
+
 def results_of_options() -> Iterator[Tuple[str, List[str]]]:
     """Each place where options or kinds stand, and how it differs from the help texts."""
     wanted = options_of_help()
@@ -158,3 +187,4 @@ def results_of_options() -> Iterator[Tuple[str, List[str]]]:
         yield f"kinds in {place}", differences(kinds_of_help(), words)
     commands = {word for word in words_of_bash("port1 ") if word[0] != "-"}
     yield "commands in bash", differences({*COMMANDS, "help"}, commands)
+    yield from results_of_silence()

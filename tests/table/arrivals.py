@@ -37,6 +37,8 @@ RESTED = [
     ("never", "0", "2 68 90 open\n"),
     ("after 10 places", "10", "2 68 90 abort\n2 99 100 idle\n"),
     ("after 411 places", "411", "2 68 90 abort\n2 500 501 idle\n"),
+    ("after all places", "467", "2 68 90 abort\n2 556 557 idle\n"),
+    ("after a place more than there are", "468", "2 68 90 open\n"),
 ]
 
 # Of a broken reply; without a dictionary.
@@ -118,7 +120,7 @@ CHECKED = report(
     "last 1 8 49 108300fde5",
     "last 2 68 109 108380f561",
     frames=2,
-    idles=1,
+    idles=2,
     answered=1,
 )
 

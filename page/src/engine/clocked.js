@@ -6,8 +6,8 @@ import { Reporter } from "./reporter.js";
 /** @typedef {import("../../../scripts/modules/dictionary/dictionary.js").Entry} Entry */
 /** @typedef {import("./library.js").Library} Library */
 
-/** So many bits of the first line without one of the second bring the second to rest. */
-const SILENCE = 400n;
+/** So many bits of the first line without one of the second bring the second to rest, unless it is said. */
+export const SILENCE = 40n;
 
 /** Decodes two lines with a clock each, whose bits come in the order of arrival. */
 export class ClockedDecoder {
