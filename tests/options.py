@@ -37,6 +37,9 @@ SILENCES = {
     "docs/CAPTURES.md": r"After (\d+) places without one \(`--rest N`\)",
 }
 
+# The completions of port1-sample that are looked at as texts.
+SAMPLER = ["_port1-sample", "port1-sample.fish"]
+
 Options = Dict[str, Set[str]]
 
 
@@ -90,9 +93,9 @@ def words_of_bash(line: str) -> Set[str]:
     quoted = " ".join(f"'{word}'" for word in words)
     script = (
         f'. "$1"; COMP_WORDS=({quoted}); COMP_CWORD={len(words) - 1}; '
-        "_port1; printf '%s\\n' \"${COMPREPLY[@]}\""
+        f"_{words[0].replace('-', '_')}; printf '%s\\n' \"${{COMPREPLY[@]}}\""
     )
-    completion = TOP / "cli" / "completions" / "port1.bash"
+    completion = TOP / "cli" / "completions" / f"{words[0]}.bash"
     ran = subprocess.run(["bash", "-c", script, "bash", completion], capture_output=True, text=True, check=True)
     return set(ran.stdout.split())
 
@@ -159,6 +162,30 @@ def results_of_silence() -> Iterator[Tuple[str, List[str]]]:
         got = silence_in(file)
         is_it = len(got) == 1 and got == silence_in(wanted)
         yield f"silence in {file}", [] if is_it else [f"wanted {silence_in(wanted)}, got {got}"]
+
+
+def options_of_sampler(sampler: Path) -> Dict[str, Set[str]]:
+    """The options of port1-sample by its help text, its man page and the texts of its completions."""
+    help_text = subprocess.run([sampler, "--help"], capture_output=True, text=True, check=True).stdout
+    page = (TOP / "cli" / "port1-sample.1").read_text(encoding="ascii")
+    items = " ".join(re.findall(r"^\.It (Fl .*)$", page, re.MULTILINE))
+    texts = {name: (TOP / "cli" / "completions" / name).read_text(encoding="ascii") for name in SAMPLER}
+    return {
+        "help": {word for match in HELP_OPTION.finditer(help_text) for word in match.groups() if word},
+        "man page": {f"-{each}" for each in re.findall(r"Fl (\w)\b(?!\w)", items)}
+        | {f"--{each}" for each in re.findall(r"Fl Fl ([\w-]+)", items)},
+        "bash": words_of_bash("port1-sample "),
+        "zsh": set(re.findall(r"(?<=['{,])(?:\([^)]*\))?(--?[a-zA-Z][\w-]*)(?=[\[,}])", texts["_port1-sample"])),
+        "fish": {
+            f"-{word}" if form == "s" else f"--{word}" for form, word in FISH_OPTION.findall(texts["port1-sample.fish"])
+        },
+    }
+
+
+def results_of_sampler(sampler: Path) -> Iterator[Tuple[str, List[str]]]:
+    wanted, *others = options_of_sampler(sampler).items()
+    for place, options in others:
+        yield f"options of port1-sample in {place}", differences(wanted[1], options)
 
 
 def results_of_options() -> Iterator[Tuple[str, List[str]]]:
