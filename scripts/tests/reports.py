@@ -178,7 +178,7 @@ def report_of_a_recording(folder: Path) -> List[str]:
     problems += ["a folder was made in vain"] if one.exists() else []
     problems += made_by(one, [EXAMPLES / "one-call.vcd", one, "clk", "dat"], 0, "clk has 57 edges")
     problems += made_by(soon, ["--rest=10", f"--dictionary={dictionary}", wires, soon], 0, "RXC has 57 edges")
-    problems += made_by(two, ["--rest=10", EXAMPLES / "one-call.vcd", two, "clk", "dat"], 2, "not provided:\n  --arrivals")
+    problems += made_by(two, ["--rest=10", EXAMPLES / "one-call.vcd", two, "clk", "dat"], 2, "error: --rest is for a recording of two lines\n")
     table = folder / "cut.csv"
     table.write_bytes(wires.read_bytes()[:-4])
     problems += made_by(cut, [f"--dictionary={dictionary}", table, cut], 2, "the recording ends within row ")

@@ -6,7 +6,7 @@ import { Fault } from "../fault.js";
 import { channelsOf, formOfRecording } from "../recording/forms.js";
 import { sessionOf } from "../recording/session.js";
 import { wiresAmong } from "../recording/usual.js";
-import { run, warn, whole, wordsOf, write, writeText } from "./command.js";
+import { misuse, run, warn, whole, wordsOf, write, writeText } from "./command.js";
 import { FilePart, inflated } from "./file.js";
 import { page, programNamed } from "./program.js";
 
@@ -113,6 +113,7 @@ run(async () => {
   const { values, words } = wordsOf(OPTIONS, ["RECORDING", "FOLDER"], 6);
   const [recording, folder, ...named] = words;
   const channels = named.length > 0 ? named : await wiresOf(recording);
+  if (channels.length <= 2 && values.rest !== undefined) throw misuse("--rest is for a recording of two lines");
   const steps = made(folder);
   const [bits, listing, dictionary] = [FILES.bits, FILES.listing, FILES.dictionary].map((name) => steps.path(name));
   steps.command("recording-to-bits", [...passedOn(values), ...channels], recording, FILES.bits, FILES.notes);

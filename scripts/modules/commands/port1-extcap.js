@@ -3,7 +3,7 @@ import { openSync, readFileSync } from "node:fs";
 import { ListingReader } from "../listing/read.js";
 import { PCAPNG_HEAD, pcapngOf } from "../pcap/forms.js";
 import { Packets } from "../pcap/packets.js";
-import { RATE } from "../port1.js";
+import { RATE, SILENCE } from "../port1.js";
 import { PAIRS, arrivalsOf } from "../watch/forms.js";
 import { Source } from "../watch/source.js";
 import { misuse, run, warn, whole, wordsOf, write, writeText } from "./command.js";
@@ -24,7 +24,7 @@ const TYPES = "dlt {number=268}{name=SDLC}{display=SDLC}\n";
 const DIALOG = `arg {number=0}{call=--source}{display=Command that writes bits}{type=string}{placeholder=sigrok-cli .. | recording-to-bits ..}
 arg {number=1}{call=--dictionary}{display=Dictionary}{type=fileselect}{mustexist=true}
 arg {number=2}{call=--two}{display=Pairs of bits, not in order of arrival}{type=boolflag}
-arg {number=3}{call=--rest}{display=Silence that ends an answer, in bits; 0 for none}{type=unsigned}{default=40}
+arg {number=3}{call=--rest}{display=Silence that ends an answer, in bits; 0 for none}{type=unsigned}{default=${SILENCE}}
 `;
 
 /** How long a frame is held back for what may still be said of it, in milliseconds. */
