@@ -160,7 +160,8 @@ ones-filled k ys x true =
     let ones = own Second (fill true) in
     ap (λ (b : List Bool). min 15 (ones_after k b))
     (ap (own Second) (sym (append_assoc ys (x ∷ []) (fill true))) ∙ own-append Second (ys ++ x ∷ []) (fill true))
-    ∙ (ap (min 15) (ones-append k (own Second (ys ++ x ∷ [])) ones) ∙ fifteen (ones_after k (own Second (ys ++ x ∷ []))))
+    ∙ (ap (min 15) (ones-append k (own Second (ys ++ x ∷ [])) ones)
+    ∙ fifteen (ones_after k (own Second (ys ++ x ∷ []))))
   where
     fifteen : (n : ℕ) → min 15 (ones_after n (own Second (fill true))) ≡ 15
     fifteen n = omega arith
@@ -194,7 +195,11 @@ waits most = one-by-one (Waits most) (λ fewer. absurd (omega (arith, fewer))) m
     more xs (Second, bit) before =
         rw (rested-more most xs (Second, bit) false (comes-second most (rested most xs) bit)) (λ fewer. (
           silence-second (rested most xs) bit ∙ sym (silence-second xs bit),
-          omega (arith, ap length (own-append Second xs ((Second, bit) ∷ [])), length-append (own Second xs) (bit ∷ [])),
+          omega (
+            arith,
+            ap length (own-append Second xs ((Second, bit) ∷ [])),
+            length-append (own Second xs) (bit ∷ []),
+          ),
         ))
 
 pub comes-first : (r : RestState) (xs : List Arrival) (bit : Bool) → IsRestAfter r xs → r.silent ≤ r.most →

@@ -1,7 +1,7 @@
 //! Laws over the definitions.
 
-ghost use Rattle.bus_tap.specs.Laws.{CountedIsIt, RestLeavesFirst, RestNeedsSilence, RestStays, SameSamplesBringNothing};
-ghost use Rattle.bus_tap.specs.Laws.{SilenceBringsRest};
+ghost use Rattle.bus_tap.specs.Laws.{CountedIsIt, RestLeavesFirst, RestNeedsSilence, RestStays};
+ghost use Rattle.bus_tap.specs.Laws.{SameSamplesBringNothing, SilenceBringsRest};
 
 /// Rest is put into the second line alone, so that no place changes.
 pub fn rest_leaves_the_first_line()

@@ -6,7 +6,7 @@ import { Fault } from "../fault.js";
 import { channelsOf, formOfRecording } from "../recording/forms.js";
 import { sessionOf } from "../recording/session.js";
 import { wiresAmong } from "../recording/usual.js";
-import { run, warn, wordsOf, write, writeText } from "./command.js";
+import { misuse, run, warn, whole, wordsOf, write, writeText } from "./command.js";
 import { FilePart, inflated } from "./file.js";
 import { page, programNamed } from "./program.js";
 
@@ -85,7 +85,7 @@ class Steps {
 }
 
 const OPTIONS = {
-  ...{ dictionary: String, title: String, samplerate: String, invert: String },
+  ...{ dictionary: String, title: String, samplerate: String, invert: String, rest: whole },
   falling: /** @type {true} */ (true),
 };
 
@@ -113,13 +113,15 @@ run(async () => {
   const { values, words } = wordsOf(OPTIONS, ["RECORDING", "FOLDER"], 6);
   const [recording, folder, ...named] = words;
   const channels = named.length > 0 ? named : await wiresOf(recording);
+  if (channels.length <= 2 && values.rest !== undefined) throw misuse("--rest is for a recording of two lines");
   const steps = made(folder);
   const [bits, listing, dictionary] = [FILES.bits, FILES.listing, FILES.dictionary].map((name) => steps.path(name));
   steps.command("recording-to-bits", [...passedOn(values), ...channels], recording, FILES.bits, FILES.notes);
   const notes = readFileSync(steps.path(FILES.notes), "utf8");
   warn(`channels ${channels.join(", ")}`);
   write(Buffer.from(notes), 2);
-  const list = ["list", "--bits", ...(channels.length > 2 ? ["--arrivals"] : [])];
+  const rest = values.rest === undefined ? [] : [`--rest=${values.rest}`];
+  const list = ["list", "--bits", ...(channels.length > 2 ? ["--arrivals"] : []), ...rest];
   if (values.dictionary) copyFileSync(values.dictionary, dictionary);
   else {
     steps.run(programNamed("port1"), list, bits, FILES.listing);

@@ -27,7 +27,7 @@ async function within(body) {
 const FORMS = [[PAIRS, "0123", "0123"], [ARRIVALS, "01oi", "01"]];
 
 for (const [form, marks, counted] of FORMS) {
-  test(`octets and places of ${form.option}, in pieces of any size`, () => {
+  test(`octets and places of ${form.options}, in pieces of any size`, () => {
     const random = randomOf(3);
     const text = Array.from({ length: 4000 }, () => random.one([...marks, "\n"])).join("");
     const packer = new Packer(form);

@@ -61,6 +61,7 @@ returns-clause-after c = λ xs after quiet.
     let past = c.past_second-past.result in
     let inside = c.if-past-gt0.self-inside in
     let front = arrivals_from bits lines 0 past in
+    let all = arrivals_from bits lines 0 c.args.count in
     let old : IsRestAfter (rest_state c.self.inside) xs = rw (c.self.view_is) after in
     let most = ap (λ (r : RestState). r.most) c.self.view_is in
     let sum : past + (c.args.count - past) ≡ c.args.count = omega (arith, c.past_second-past.ensures.within) in
@@ -75,7 +76,8 @@ returns-clause-after c = λ xs after quiet.
             (
               refl,
               λ some. silent-front c.self.inside.most bits lines xs past c.args.count sum alone
-                  (c.past_second-past.ensures.last (omega (arith, w.if-past-gt0.true))) (omega (arith, w.if-past-gt0.true)),
+                  (c.past_second-past.ensures.last (omega (arith, w.if-past-gt0.true)))
+                  (omega (arith, w.if-past-gt0.true)),
             ),
           )
       | else-past-gt0 w ↦
@@ -96,6 +98,6 @@ returns-clause-after c = λ xs after quiet.
       ones = stands.1.0
           ∙ (ap (λ (b : List Bool). min 15 (ones_after c.self.inside.ones b))
           (sym (same-second inside.most bits lines xs past c.args.count sum alone))
-          ∙ ones-on c.self.inside.ones (rested inside.most xs) (rested inside.most (xs ++ arrivals_from bits lines 0 c.args.count))
-          (arrivals_from bits lines 0 c.args.count) (rw (stands.0) old.ones) (rw (stands.0, most) quiet));
+          ∙ ones-on c.self.inside.ones (rested inside.most xs) (rested inside.most (xs ++ all)) all
+          (rw (stands.0) old.ones) (rw (stands.0, most) quiet));
     }
