@@ -264,7 +264,7 @@ def problems_of_wires(page: Path, name: str) -> List[str]:
 
 
 # Notes of recording-to-bits, and what the report shows where.
-NOTES = "recording-to-bits: TXC has 9 edges\nrecording-to-bits: warning: the edges of TXC jump: samples may have been lost (at 0.250000 s)\n"
+NOTES = "recording-to-bits: TXC has 9 edges\nrecording-to-bits: warning: the edges of TXC jump: its wire has glitches, or samples were lost (at 0.250000 s)\n"
 
 REPORTED = [
     ("#title", "^Cabinet <7> & more$"),

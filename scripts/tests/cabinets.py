@@ -158,7 +158,7 @@ def jumps_of(samples: "np.ndarray", rate: int) -> Told:
     """How often, and where first, a distance of two rises of the first clock is another than the one before."""
     rises = rises_of(samples, 0)
     jumps = np.flatnonzero(np.abs(np.diff(np.diff(rises))) > rate / cabinet.RATE / 3)
-    text = "the edges of 0 jump: samples may have been lost"
+    text = "the edges of 0 jump: its wire has glitches, or samples were lost"
     return Told(f"{text} ({len(jumps)} times, first at {{}} s)", [rises[jumps[0] + 2] / rate])
 
 
@@ -187,11 +187,12 @@ def doubtful(rate: int) -> Iterator[Doubtful]:
     yield Doubtful("a stop at the end", [told], ended)
     lost = np.delete(samples, np.arange(edges[3000], edges[3000] + 9 * rate // 1_000_000))
     yield Doubtful("samples lost", [jumps_of(lost, rate)], lost)
-    wrong_edge = "the data changes at the edge of {} that is taken: try it {} --falling"
+    wrong_edge = "the data changes at the edge of {} that is taken: {}"
     for name, clocks, mends in [("both", [txc, rxc], ["--falling"]), ("first", [txc], ["--invert=0"])]:
-        warnings = [Told(wrong_edge.format(clock, "with")) for clock in clocks]
+        cure = "try it with --falling" if len(clocks) > 1 else "say --invert 0, or exchange the wires of its pair"
+        warnings = [Told(wrong_edge.format(clock, cure)) for clock in clocks]
         yield Doubtful(f"edges of {name}", warnings, inverted(samples, *clocks), mends)
-    warnings = [Told(wrong_edge.format(clock, "without")) for clock in (txc, rxc)]
+    warnings = [Told(wrong_edge.format(clock, "try it without --falling")) for clock in (txc, rxc)]
     yield Doubtful("falling edges in vain", warnings, samples, [], ["--falling"])
     told = Told("1 rests at 0: if the two wires of its pair are exchanged, say --invert 1")
     yield Doubtful("a pair exchanged", [told], inverted(samples, txd), ["--invert=1"])

@@ -237,7 +237,7 @@ RUNS = [
         [SCRIPT, "a", "d"],
         WIRES + b"#0 0a 0b 1d #10 1a #15 0a #20 1a #25 0a #120 1a\n",
         b"111\n",
-        f"{SCRIPT}: a has 3 edges\n{SCRIPT}: warning: the edges of a jump: samples may have been lost (at sample 120)\n",
+        f"{SCRIPT}: a has 3 edges\n{SCRIPT}: warning: the edges of a jump: its wire has glitches, or samples were lost (at sample 120)\n",
     ),
     Run(
         "a rate in place of the one that a dump tells: its times are as many bits, of which a hundred have no edge",
@@ -252,7 +252,7 @@ RUNS = [
         WIRES + b"#7000 0a 0b 1d #7010 1a #7015 0a #7020 1a #7025 0a #7120 1a\n",
         b"111\n",
         f"{SCRIPT}: a has 3 edges\n"
-        f"{SCRIPT}: warning: the edges of a jump: samples may have been lost (at sample 7120)\n",
+        f"{SCRIPT}: warning: the edges of a jump: its wire has glitches, or samples were lost (at sample 7120)\n",
     ),
     Run(
         "a timescale of no length",

@@ -143,6 +143,7 @@ export class Sampler {
       },
       lines,
       jumps: this.seen(first + LINE_FACTS.jumps),
+      secondJumps: this.seen(second + LINE_FACTS.jumps),
     };
   }
 }

@@ -22,9 +22,17 @@ const WARNINGS = {
   falling: (name) => [`The data changes just where a bit is taken, at the falling edges of ${name}.`, "", "edge"],
   own: (name) => [`${name} does not change with the clock: it has a clock of its own.`, "Say which channel that is.", "wires"],
   gap: (name) => [`${name} stops, and places with it.`, "Is that the controller, or its wire?", "second"],
-  end: (name) => [`${name} stops, and does not go on until the recording ends.`, "Is that the controller, or its wire?", "second"],
-  lost: (name) => [`The edges of ${name} jump: samples may have been lost.`, SLOWER, "second"],
+  end: (name) => [`${name} stops, and does not go on until the recording ends.`, "Is its wire loose, or is nothing sent?", "second"],
+  turned: (name) => [
+    `The data changes just where a bit is taken, at the edges of ${name}, and not so on the other line.`,
+    "Exchange the two wires of its pair.",
+  ],
+  slow: (name) => [`${name} has fewer than four samples a bit.`, "Record 1 million samples a second or more."],
+  lost: (name) => [`The edges of ${name} jump: its wire has glitches, or samples were lost.`, SLOWER, "second"],
 };
+
+/** What is said of wires in each other's place, as the script writes it. */
+const EXCHANGED = new Set(["crossed", "clocks", "pairs", "data"]);
 
 /**
  * @param {import("../../../scripts/modules/recording/doubts.js").Warning} warning
@@ -32,7 +40,7 @@ const WARNINGS = {
  * @returns {Words}
  */
 export function wordsOf({ sort, name, count, second, text }, clock) {
-  const [said, cure = "", act = ""] = WARNINGS[sort]?.(name) ?? [text];
+  const [said, cure = "", act = ""] = WARNINGS[sort]?.(name) ?? [text, "", EXCHANGED.has(sort) ? "wires" : ""];
   const times = count > 1 ? `${count} times, first at ` : "At ";
   const when = second === null ? (count > 1 ? ` ${count} times.` : "") : ` ${times}${clock.moment(second * clock.rate, clock.rate)}.`;
   return { text: said + when, cure, act: act === "second" && second === null ? "" : act };

@@ -88,6 +88,7 @@ const SHORT = {
   lines: () => "The two lines seem exchanged",
   rest: () => "The bus goes dead before the end",
   mute: () => "No station answers",
+  wires: () => "A line has no frames: look at its wires",
   quiet: ({ places: [{ first, past }], rate }) => `No command at all for ${lengthOf(past - first, rate)}`,
   gap: ({ kind, places: [{ first, past }], rate }) =>
     `Station ${kind.station}: nothing of type ${kind.type} for ${lengthOf(past - first, rate)}`,

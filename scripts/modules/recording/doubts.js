@@ -1,4 +1,5 @@
 import { RATE } from "../port1.js";
+import { exchangedOf } from "./exchanged.js";
 import { counted } from "./text.js";
 
 /** @typedef {import("./moments.js").Moments} Moments */
@@ -8,30 +9,42 @@ import { counted } from "./text.js";
  * @typedef {{ count: number, first: number, last: number }} Seen
  */
 
+/** @typedef {{ level: number, changes: Seen }} Wire */
+
 /**
  * What a sampler counted of a recording.
  * @typedef {object} Facts
  * @property {number} samples
- * @property {Record<"txc"|"txd"|"rxc"|"rxd", { level: number, changes: Seen }>} wires
+ * @property {Record<"txc"|"txd"|"rxc"|"rxd", Wire>} wires
  * @property {{ bits: Seen, gap: { length: number, place: number }, high: Seen }[]} lines for each line its bits, the
  *   longest distance of two bits in a row and where it begins, and changes of the data while the clock is high
  * @property {Seen} jumps of the first clock's distance of two bits
+ * @property {Seen} secondJumps of that of the second clock
  */
 
 /**
- * What makes a result doubtful, by its sort, of a channel with a name.
- * @type {Record<string, (name: string) => string>}
+ * What makes a result doubtful, by its sort, of a channel with a name, and of another.
+ * @type {Record<string, (name: string, other: string) => string>}
  */
 const TEXTS = {
+  crossed: (name, clock) => `${name} has the edges of a clock, and ${clock} has not: are the two exchanged?`,
+  clocks: (name, clock) =>
+    `${name} always runs, as the controller's clock does, and ${clock} does not: are the two exchanged?`,
+  pairs: (name, clock) =>
+    `${name} always runs, as the controller's clock does, and ${clock} does not: are the two pairs exchanged?`,
+  data: (name, other) => `${name} and ${other} do not change with their clocks: are the two exchanged?`,
+  slow: (name) => `${name} has fewer than four samples a bit: record 1 million samples a second or more`,
   still: (name) => `${name} has no edges`,
   flat: (name) => `${name} never changes`,
   rising: (name) => `the data changes at the edge of ${name} that is taken: try it with --falling`,
   falling: (name) => `the data changes at the edge of ${name} that is taken: try it without --falling`,
+  turned: (name) =>
+    `the data changes at the edge of ${name} that is taken: say --invert ${name}, or exchange the wires of its pair`,
   own: (name) => `${name} does not change with the clock: it has a clock of its own, whose channel is to be named`,
   inverted: (name) => `${name} rests at 0: if the two wires of its pair are exchanged, say --invert ${name}`,
   gap: (name) => `${name} stops`,
   end: (name) => `${name} stops, and does not go on until the recording ends`,
-  lost: (name) => `the edges of ${name} jump: samples may have been lost`,
+  lost: (name) => `the edges of ${name} jump: its wire has glitches, or samples were lost`,
 };
 
 /**
@@ -46,7 +59,7 @@ const TEXTS = {
  */
 
 /** The sorts of data that changes at the edge that is taken. */
-const EDGES = ["rising", "falling"];
+const EDGES = ["rising", "falling", "turned"];
 
 /** The first clock runs all the time, and data changes: so many bits without are no jitter, and no chance. */
 export const LONG = 16;
@@ -64,12 +77,21 @@ const OWN = 3 / 8;
 /** A line that stays at 0 for so many bits is at rest: one at rest is 1 (ISO/IEC 13239, idle). */
 const REST = 256;
 
+/** No answer takes so many bits: data that has not changed for so long while the other line's did is dead. */
+const DEAD = 8192;
+
+/** So much of the time in which data changed is a long rest of it. */
+const LONG_REST = 1 / 4;
+
+/** Fewer samples of a bit do not show both its edges for certain. */
+const FEWEST_SAMPLES = 4;
+
 const WHEN = /^(.*?)(?: \((?:for [^()]* from )?(?:(\d+) times, first )?(?:at )?(?:([\d.]+) s|sample \d+)(?: on)?\))?$/;
 
 /** @type {[string, RegExp][]} */
 const PATTERNS = Object.entries(TEXTS).map(([sort, textOf]) => [
   sort,
-  new RegExp(`^${textOf("\0").replace(/[()]/g, "\\$&").replace("\0", "(.+?)").replaceAll("\0", ".+?")}$`),
+  new RegExp(`^${textOf("\0", "\0").replace(/[()?]/g, "\\$&").replace("\0", "(.+?)").replaceAll("\0", ".+?")}$`),
 ]);
 
 /**
@@ -117,58 +139,123 @@ export function samplesOfBit({ lines }, ticks) {
 export function doubtsOf(facts, names, { rising, when }) {
   const bit = samplesOfBit(facts, when.ticks);
   const isShared = names[0] === names[2];
+  const exchanges = names.length === 4 && !isShared && bit > 0 ? exchangedOf(facts, bit) : [];
+  const wires = exchanges.map((exchange) => exchange.wires).flat();
+  const exchanged = exchanges.map(({ sort, wires: [one, other] }) => {
+    return warning(sort, names[one], { other: names[other] });
+  });
   const ofLines = facts.lines.slice(0, names.length / 2).flatMap((line, at) => {
+    if (wires.some((wire) => wire >> 1 === at)) return [];
     const [clock, data] = names.slice(2 * at);
-    const wire = facts.wires[at === 0 ? "txd" : "rxd"];
     const isOwn = isShared && at === 1;
-    const ofClock = isOwn ? [] : clockDoubts(line, clock, at === 0, { facts, bit, when });
-    const ofData = dataDoubts(line, wire, { line: at + 1, clock, data, isOwn, rising, bit });
+    const ofClock = isOwn ? [] : clockDoubts(line, clock, at, { facts, bit, when });
+    const ofData = dataDoubts(line, at, { clock, data, isOwn, isAlone: names.length < 4, rising, facts, bit, when });
     // While the clock stands still, data may change at any level of it.
     return [...ofClock, ...ofData.filter(({ sort }) => ofClock.length === 0 || !EDGES.includes(sort))];
   });
-  return ofLines;
+  const slow = slowness(facts, names[0], when);
+  // Edges that are seen by chance jump.
+  return [...slow, ...exchanged, ...ofLines.filter(({ sort }) => slow.length === 0 || sort !== "lost")];
 }
 
-/** @param {string} sort @param {string} name @param {Moments} [when] @param {number} [sample] @returns {Warning} */
-function warning(sort, name, when, sample, told = "", count = 1) {
-  const at = when && sample !== undefined ? ` (${told || `at ${when.of(sample)}`})` : "";
-  const second = when && sample !== undefined ? when.second(sample) : null;
-  return { sort, name, count, second, text: `${TEXTS[sort](name)}${at}` };
+/**
+ * That there are too few samples, by the rate that is known and by the edges.
+ * @param {Facts} facts
+ * @param {string} name
+ * @param {Moments} when
+ */
+function slowness(facts, name, { ticks }) {
+  if (!ticks || facts.lines[0].bits.count < LONG) return [];
+  return Math.max(ticks / RATE, samplesOfBit(facts, null)) < FEWEST_SAMPLES ? [warning("slow", name)] : [];
+}
+
+/**
+ * @param {string} sort
+ * @param {string} name
+ * @param {{ other?: string, when?: Moments, sample?: number, told?: string, count?: number }} [more]
+ * @returns {Warning}
+ */
+function warning(sort, name, more = {}) {
+  const { other = "", when, sample, told, count = 1 } = more;
+  const isPlaced = when !== undefined && sample !== undefined;
+  const at = isPlaced ? ` (${told ?? `at ${when.of(sample)}`})` : "";
+  const second = isPlaced ? when.second(sample) : null;
+  return { sort, name, count, second, text: `${TEXTS[sort](name, other)}${at}` };
 }
 
 /**
  * @param {Facts["lines"][0]} line
  * @param {string} name
- * @param {boolean} isFirst whether it is the first clock, which ought to run all the time
+ * @param {number} at 0 for the first clock, which ought to run all the time
  * @param {{ facts: Facts, bit: number, when: Moments }} all
  */
-function clockDoubts({ bits, gap }, name, isFirst, { facts, bit, when }) {
+function clockDoubts({ bits, gap }, name, at, { facts, bit, when }) {
   if (bits.count === 0) return [warning("still", name)];
-  if (!isFirst || bit === 0) return [];
-  const { jumps, samples } = facts;
+  if (bit === 0) return [];
+  const { jumps, secondJumps, samples, wires } = facts;
   const isLong = (/** @type {number} */ length) => length > LONG * bit;
-  const gaps = isLong(gap.length)
-    ? [warning("gap", name, when, gap.place, `for ${when.length(gap.length)} from ${when.of(gap.place)} on`)]
-    : [];
-  const end = isLong(samples - bits.last) ? [warning("end", name, when, bits.last)] : [];
-  const { count, first } = jumps;
-  const times = count === 1 ? `at ${when.of(first)}` : `${count} times, first at ${when.of(first)}`;
-  const lost = count > 0 && gaps.length === 0 ? [warning("lost", name, when, first, times, count)] : [];
-  return [...gaps, ...end, ...lost];
+  const isDead = at === 0 ? isLong(samples - bits.last) : wires.rxd.changes.last - bits.last > REST * bit;
+  const end = isDead ? [warning("end", name, { when, sample: bits.last })] : [];
+  const isFree = !isLong(gap.length) && !isLong(bits.first) && !isLong(samples - bits.last);
+  if (at === 1) return [...end, ...(isFree ? lostOf(name, secondJumps, when) : [])];
+  const told = `for ${when.length(gap.length)} from ${when.of(gap.place)} on`;
+  const gaps = isLong(gap.length) ? [warning("gap", name, { when, sample: gap.place, told })] : [];
+  const isOfStop = gaps.length > 0 || (isDead && jumps.first > bits.last - LONG * bit);
+  return [...gaps, ...end, ...(isOfStop ? [] : lostOf(name, jumps, when))];
+}
+
+/** @param {string} name of a clock @param {Seen} jumps @param {Moments} when */
+function lostOf(name, { count, first }, when) {
+  const told = count === 1 ? `at ${when.of(first)}` : `${count} times, first at ${when.of(first)}`;
+  return count > 0 ? [warning("lost", name, { when, sample: first, told, count })] : [];
+}
+
+/**
+ * Whether the data of a line does not change any more, though nothing says that its line is at rest.
+ * @param {Facts["lines"][0]} line
+ * @param {Wire} wire
+ * @param {Seen|null} other changes of the other line's data
+ * @param {number} bit
+ */
+function isDeadData({ bits }, { level, changes }, other, bit) {
+  const least = Math.max(DEAD * bit, LONG_REST * (changes.last - changes.first));
+  if (level === 1) return other !== null && other.last - changes.last > least;
+  const begins = changes.count % 2; // the level of the wire before its first change, as the last one is 0
+  if (changes.first > LONG * bit) return begins === 1;
+  return bits.last - changes.last > least;
 }
 
 /**
  * @param {Facts["lines"][0]} line
- * @param {{ level: number, changes: Seen }} wire of the data
- * @param {{ line: number, clock: string, data: string, isOwn: boolean, rising: boolean, bit: number }} all
+ * @param {number} at
+ * @param {{ clock: string, data: string, isOwn: boolean, isAlone: boolean, rising: boolean, facts: Facts, bit: number,
+ *   when: Moments }} all
  */
-function dataDoubts({ bits, high }, { level, changes }, { line, clock, data, isOwn, rising, bit }) {
+function dataDoubts(line, at, { clock, data, isOwn, isAlone, rising, facts, bit, when }) {
+  const { bits, high } = line;
+  const { txd, rxd } = facts.wires;
+  const [wire, other] = at === 0 ? [txd, rxd] : [rxd, txd];
+  const { level, changes } = wire;
   if (bits.count === 0) return [];
   if (changes.count === 0) return bits.count < LONG ? [] : [warning("flat", data)];
   const isSure = changes.count >= ENOUGH;
-  const isAtRest = bit > 0 && bits.last - changes.last > REST * bit;
-  const inverted = level === 0 && isAtRest ? [{ ...warning("inverted", data), line }] : [];
+  const rest = level === 0 ? facts.samples - changes.last : 0;
+  const isAtZero = bit > 0 && rest > REST * bit;
+  const isLeft = bit > 0 && isSure && (level === 1 || isAtZero);
+  const dead = isLeft && isDeadData(line, wire, isAlone ? null : other.changes, bit);
+  const inverted = isAtZero && !dead ? [{ ...warning("inverted", data), line: at + 1 }] : [];
+  const ofLevel = dead ? [warning("end", data, { when, sample: changes.last })] : inverted;
   const share = isSure ? high.count / changes.count : 0;
-  if (isOwn) return share > OWN ? [warning("own", data), ...inverted] : inverted;
-  return share > HALF ? [warning(rising ? "rising" : "falling", clock), ...inverted] : inverted;
+  if (isOwn) return share > OWN ? [warning("own", data), ...ofLevel] : ofLevel;
+  if (share <= HALF) return ofLevel;
+  const isTurned = !isAlone && isRight(facts.lines[1 - at], other);
+  return [warning(isTurned ? "turned" : rising ? "rising" : "falling", clock), ...ofLevel];
 }
+
+/**
+ * Whether bits of a line are certainly taken at the right edge.
+ * @param {Facts["lines"][0]} line
+ * @param {Wire} data
+ */
+const isRight = ({ bits, high }, { changes: { count } }) =>
+  bits.count > 0 && count >= ENOUGH && high.count < OWN * count;

@@ -8,7 +8,10 @@ import { LONG, doubtsOf, samplesOfBit } from "./doubts.js";
 const QUIET = 10 * RATE;
 
 /** Doubts that a whole recording has or has not. */
-const STEADY = new Set(["still", "flat", "rising", "falling", "own", "inverted"]);
+const STEADY = new Set([
+  ...["still", "flat", "rising", "falling", "turned", "own", "inverted", "slow"],
+  ...["crossed", "clocks", "pairs", "data"],
+]);
 
 const WIRES = /** @type {const} */ (["txc", "txd", "rxc", "rxd"]);
 
@@ -62,7 +65,7 @@ export class Events {
       return [`${name} stops (for ${when.length(gap.length)} from ${when.of(gap.place)} on)`];
     }
     const times = `${count === 1 ? "" : `${count} times, last `}at ${when.of(jumps.last)}`;
-    return count > 0 ? [`the edges of ${name} jump: samples may have been lost (${times})`] : [];
+    return count > 0 ? [`the edges of ${name} jump: its wire has glitches, or samples were lost (${times})`] : [];
   }
 
   /** @param {Facts} facts @param {number} bit @param {Moments} when */

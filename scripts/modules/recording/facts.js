@@ -37,5 +37,6 @@ export function factsIn(lines) {
     wires: { txc: wire("txc"), txd: wire("txd"), rxc: wire("rxc"), rxd: wire("rxd") },
     lines: [lineOf("first", "txd"), lineOf("second", "rxd")],
     jumps: seen("first-jumps"),
+    secondJumps: seen("second-jumps"),
   };
 }

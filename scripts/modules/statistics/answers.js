@@ -11,20 +11,20 @@ class Unanswered extends Counts {
 export class Answers {
   constructor() {
     this.answers = 0;
-    this.onSecond = 0; // frames of any kind on line 2
+    this.damaged = 0; // pieces before the last answer
     this.missing = new Unanswered();
   }
 
-  /** @param {import("./bus.js").Row} row @param {number} at its number */
-  take({ kind, first, past, line, station, type }, at) {
+  /** @param {import("./bus.js").Row} row @param {number} at its number @param {number} damaged pieces so far */
+  take({ kind, first, past, line, station, type }, at, damaged) {
     if (kind === "missing") {
       this.missing.begin ??= { row: at, first, past };
       this.missing.add(station, type);
     }
     if (kind !== "frame") return;
-    if (line === 2) this.onSecond += 1;
     if (line === 1 || type === null || type < ANSWER) return;
     this.answers += 1;
+    this.damaged = damaged;
     if (this.missing.total > 0) this.missing = new Unanswered();
   }
 }

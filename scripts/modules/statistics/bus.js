@@ -1,5 +1,6 @@
 import { isUnfit } from "../listing/kinds.js";
 import { ANSWER } from "../port1.js";
+import { Alone } from "./alone.js";
 import { Answers } from "./answers.js";
 import { Commands } from "./commands.js";
 import { Counts, Kinds } from "./kinds.js";
@@ -32,12 +33,14 @@ export class Bus {
     /** @type {Kinds<Commands>} */
     this.commands = new Kinds();
     this.backward = 0; // commands on the second line
+    this.answersOnFirst = 0;
     this.strays = new Counts();
     this.pending = new Counts();
     /** @type {number|null} */
     this.waiting = null; // the place after the command that waits at the end
     this.rests = new Rests(rate);
     this.answers = new Answers();
+    this.alone = new Alone();
     this.misfits = { length: new Counts(), unknown: new Counts() }; // frames without an entry that fits
     /** @type {Row|null} */
     this.before = null; // the line that settles a verdict: the last one that is no stray
@@ -80,6 +83,7 @@ export class Bus {
         this.misfits[row.name === "length" ? "length" : "unknown"].add(row.station, row.type);
       }
     }
+    if (row.type !== null && row.type >= ANSWER && row.line === 1) this.answersOnFirst += 1;
     if (row.type !== null && row.type < ANSWER) {
       if (row.line === 2) {
         this.backward += 1;
@@ -139,7 +143,8 @@ export class Bus {
       this.past = Math.max(this.past, row.past);
       this.lines = row.line === null ? 1 : 2;
       this.rests.take(row, this.rows);
-      this.answers.take(row, this.rows);
+      this.answers.take(row, this.rows, this.damaged);
+      this.alone.take(row, this.rows, this.damaged);
       this.rows += 1;
       this.take(row, this.before);
       if (row.kind !== "stray") {

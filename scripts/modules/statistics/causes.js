@@ -22,6 +22,9 @@ const LONG_SECONDS = 1;
 /** So many commands in a row without an answer, of all stations, are one sentence. */
 const FEWEST_UNANSWERED = 3;
 
+/** So many frames of line 2 in a row without a command are more than a station sends at once. */
+const FEWEST_UNHEARD = 4;
+
 /**
  * A length of time, long ones in seconds.
  * @param {number} bits
@@ -81,17 +84,93 @@ export function quietBus(bus, sentences) {
   return [{ sort: "quiet", text, count: places.length, places: sorted, takes }];
 }
 
+/** What damage makes. */
+const OF_DAMAGE = new Set(["damage", "spoilt"]);
+
+/** What line of the bus each is. */
+const TASKS = { 1: "where commands are", 2: "where answers are" };
+
+/** @param {import("./bus.js").Bus} bus @param {1|2} wanted */
+const damagedOn = ({ damage }, wanted) =>
+  damage.sorts.filter(({ line }) => line === wanted).reduce((sum, { count }) => sum + count, 0);
+
 /**
- * That no station answers, from the beginning or from a time on, of which otherwise each station has a sentence.
+ * What is to be looked at where a line has damaged pieces and no frame.
+ * @param {import("./bus.js").Bus} bus
+ * @param {(1|2)[]} lines
+ */
+function misread(bus, lines) {
+  const pieces = counted(lines.reduce((sum, line) => sum + damagedOn(bus, line), 0), "damaged piece");
+  if (lines.length === 2) {
+    return (
+      `Both lines have ${pieces} and no frame: are the clock and the data of each the right wires, and are the two ` +
+      "wires of a pair exchanged?"
+    );
+  }
+  return (
+    `Line ${lines[0]}, ${TASKS[lines[0]]}, has ${pieces} and no frame: are its clock and its data the right wires, ` +
+    "and are the two wires of a pair exchanged?"
+  );
+}
+
+/**
+ * Lines without a frame, or of which one does not have its own: then no other sentence says more of the wires.
+ * @param {import("./bus.js").Bus} bus
+ * @param {Sentence[]} sentences
+ * @returns {Cause[]}
+ */
+export function wrongWires(bus, sentences) {
+  if (bus.lines === 1 || sentences.some(({ sort }) => sort === "lines")) return [];
+  const { frames } = bus.alone;
+  const damaged = { 1: damagedOn(bus, 1), 2: damagedOn(bus, 2) };
+  const dead = /** @type {const} */ ([1, 2]).filter((line) => frames[line] === 0);
+  if (bus.damaged + frames[1] + frames[2] < FEWEST_UNANSWERED) return [];
+  if (dead.length < 2) return dead[0] === 2 ? [neverAnswered(bus)] : unheard(bus);
+  const text = misread(bus, dead.filter((line) => damaged[line] > 0));
+  const takes = (/** @type {Sentence} */ { sort }) => sort === "damage";
+  return [{ sort: "wires", text, count: bus.damaged, places: [{ row: 0, first: bus.first, past: bus.first }], takes }];
+}
+
+/**
+ * That frames come on line 2, and none on line 1, from the beginning, from a time on or for a while.
+ * @param {import("./bus.js").Bus} bus
+ * @returns {Cause[]}
+ */
+function unheard(bus) {
+  const { longest, run, frames } = bus.alone;
+  if (longest.frames < FEWEST_UNHEARD) return [];
+  const { begin, past, damaged, strays } = longest;
+  const isNever = frames[1] === 0;
+  const { units } = bus;
+  const from = units.moment(begin?.past ?? bus.first);
+  const during = longest === run ? ` from ${from} on,` : ` from ${from} to ${units.moment(past ?? 0)},`;
+  const when = isNever ? "" : during;
+  const text =
+    isNever && damagedOn(bus, 1) > 0
+      ? misread(bus, [1])
+      : `No frame came on line 1, ${TASKS[1]},${when} but ${counted(longest.frames, "frame")} on line 2: ` +
+        (isNever ? "was the first pair recorded, and is each of its wires on?" : "is a wire of the first pair loose?");
+  const isAllDamage = isNever || damaged === 0;
+  /** @param {import("./gaps.js").Gap} gap */
+  const isWithin = (gap) => gap.first + gap.length > (begin?.first ?? bus.first) && gap.first < (past ?? Infinity);
+  /** @param {Sentence} sentence */
+  const takes = ({ sort, count, hole }) =>
+    (sort === "stray" && (isNever || count === strays)) ||
+    (isAllDamage && OF_DAMAGE.has(sort)) ||
+    (hole !== undefined && isWithin(hole.gap));
+  const place = begin ?? { row: 0, first: bus.first, past: bus.first };
+  return [{ sort: "wires", text, line: 1, count: longest.frames, places: [place], takes }];
+}
+
+/**
+ * That no station answers any more, of which otherwise each station has a sentence.
  * @param {import("./bus.js").Bus} bus
  * @param {Sentence[]} sentences
  * @returns {Cause[]}
  */
 export function noAnswers(bus, sentences) {
-  const { answers, missing, onSecond } = bus.answers;
-  if (sentences.some(({ sort }) => sort === "lines")) return [];
-  const isOneSided = bus.lines === 2 && onSecond === 0 && bus.frames >= FEWEST_UNANSWERED;
-  if (isOneSided) return [neverAnswered(bus)];
+  const { answers, missing } = bus.answers;
+  if (sentences.some(({ sort }) => sort === "lines") || (bus.lines === 2 && bus.alone.frames[2] === 0)) return [];
   const kinds = missing.kinds.sorted();
   if (missing.begin === null || missing.total < FEWEST_UNANSWERED || kinds.length < 2) return [];
   const when = answers === 0 ? "" : ` from ${bus.units.moment(missing.begin.first)} on`;
@@ -100,8 +179,10 @@ export function noAnswers(bus, sentences) {
   /** @param {Sentence} sentence */
   const isOwn = ({ kind, commands }) =>
     kind?.type == null ? answers === 0 : missing.of(kind) === commands?.verdicts.missing;
+  const isAllDamage = bus.answers.damaged === 0 && damagedOn(bus, 2) === bus.damaged;
   /** @param {Sentence} sentence */
-  const takes = (sentence) => isUnanswered(sentence) && isOwn(sentence);
+  const takes = (sentence) =>
+    (isUnanswered(sentence) && isOwn(sentence)) || (isAllDamage && OF_DAMAGE.has(sentence.sort));
   return [{ sort: "mute", text, count: missing.total, places: [missing.begin], takes }];
 }
 
@@ -110,16 +191,19 @@ export function noAnswers(bus, sentences) {
  * @param {import("./bus.js").Bus} bus
  * @returns {Cause}
  */
-function neverAnswered({ damage, first, answers: { missing } }) {
-  const damaged = damage.sorts.filter(({ line }) => line === 2).reduce((sum, { count }) => sum + count, 0);
-  const pieces = counted(damaged, "damaged piece");
+function neverAnswered(bus) {
+  const { first, damaged, answers: { missing } } = bus;
+  const own = damagedOn(bus, 2);
   const text =
-    damaged > 0
-      ? `Line 2, where answers are, has ${pieces} and no frame: are its clock and its data the right wires, and are the ` +
-        "two wires of a pair exchanged?"
-      : "No frame came on line 2, where answers are: was the second pair recorded, or does no station answer?";
+    own > 0
+      ? misread(bus, [2])
+      : `No frame came on line 2, ${TASKS[2]}: was the second pair recorded, or does no station answer?`;
   const places = [missing.begin ?? { row: 0, first, past: first }];
-  return { sort: "mute", text, count: missing.total, places, takes: isUnanswered };
+  /** @param {Sentence} sentence */
+  const isOfDamage = ({ sort }) => (own === damaged && OF_DAMAGE.has(sort)) || (own > 0 && sort === "spoilt");
+  /** @param {Sentence} sentence */
+  const takes = (sentence) => isUnanswered(sentence) || isOfDamage(sentence);
+  return { sort: "mute", text, count: missing.total, places, takes };
 }
 
 /** @param {Sentence} sentence */

@@ -8,7 +8,7 @@ const MOST_NAMED = 6;
 /**
  * What a sentence is about, and what stands in place of several.
  * @typedef {"lines"|"gap"|"silent"|"missing"|"late"|"slow"|"spoilt"|"damage"|"length"|"unknown"|"stray"|"more"|"rest"|
- *   "quiet"|"mute"} Sort
+ *   "quiet"|"mute"|"wires"} Sort
  */
 
 /**
@@ -256,11 +256,19 @@ function sentencesOfRest(bus) {
   return found.filter(({ count }) => count !== 0);
 }
 
+/** Lines that are exchanged read well: where much is damaged, data is read with the clock of the other line. */
+const MUCH_DAMAGE = 0.1;
+
 /** @param {import("./bus.js").Bus} bus @returns {Sentence[]} */
 function sentencesOfLines(bus) {
   const forward = sum(bus.commands.sorted().map(([, commands]) => commands.sent));
-  const text = `${counted(bus.backward, "command")} came on line 2: are the two lines exchanged?`;
-  return bus.backward > forward ? [{ sort: "lines", text, line: 2, count: bus.backward }] : [];
+  if (Math.max(bus.backward, bus.answersOnFirst) <= forward) return [];
+  const isOfData = bus.backward <= forward || bus.damaged > MUCH_DAMAGE * bus.frames;
+  const what = isOfData ? "data wires of the two pairs" : "two lines";
+  const isOnFirst = bus.backward <= forward;
+  const [count, line] = isOnFirst ? [counted(bus.answersOnFirst, "answer"), 1] : [counted(bus.backward, "command"), 2];
+  const text = `${count} came on line ${line}: are the ${what} exchanged?`;
+  return [{ sort: "lines", text, line: isOnFirst ? 1 : 2, count: isOnFirst ? bus.answersOnFirst : bus.backward }];
 }
 
 /**

@@ -1,4 +1,4 @@
-import { deadEnd, noAnswers, quietBus } from "./causes.js";
+import { deadEnd, noAnswers, quietBus, wrongWires } from "./causes.js";
 import { holes } from "./gaps.js";
 import { sentencesBySort } from "./sentences.js";
 import { slowOf } from "./slow.js";
@@ -24,7 +24,10 @@ export const NOTHING_KNOWN = { end: null, entries: null };
 const MOST_TOLD = 6;
 
 /** The sorts that can put a cabinet into flash. */
-const FAULTS = new Set(["lines", "rest", "quiet", "mute", "gap", "silent"]);
+const FAULTS = new Set(["lines", "wires", "rest", "quiet", "mute", "gap", "silent"]);
+
+/** The sorts that exchanged lines explain. */
+const OF_EXCHANGED = new Set(["stray", "damage"]);
 
 /** So many missing answers in a row, or one in so many commands, can, too. */
 const ROW = 3;
@@ -63,9 +66,13 @@ export function judgedBus(bus, { end, entries }) {
   const gaps = holes(bus);
   const sorts = sentencesBySort(bus, gaps, slowOf(bus, entries));
   const all = sorts.flat();
-  const causes = [...deadEnd(bus, end), ...noAnswers(bus, all), ...quietBus(bus, all)];
+  const wires = wrongWires(bus, all);
+  const others = all.filter((sentence) => !wires.some(({ takes }) => takes(sentence)));
+  const causes = [...wires, ...deadEnd(bus, end), ...noAnswers(bus, others), ...quietBus(bus, others)];
+  const areExchanged = all.some(({ sort }) => sort === "lines");
   /** @param {Sentence} sentence */
-  const isOwn = (sentence) => !causes.some(({ takes }) => takes(sentence));
+  const isOwn = (sentence) =>
+    !causes.some(({ takes }) => takes(sentence)) && !(areExchanged && OF_EXCHANGED.has(sentence.sort));
   const left = sorts.flatMap((sentences) => told(sentences.filter(isOwn).map(judged)));
   const found = [...causes.map(judged), ...left];
   const ofLevel = (/** @type {string} */ wanted) => found.filter(({ level }) => level === wanted);

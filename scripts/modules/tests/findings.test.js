@@ -126,8 +126,14 @@ const CASES = [
     level: "fault",
   },
   {
-    name: "damage and no frame on line 2: one sentence beside the damage",
+    name: "damage and no frame on line 2: one sentence",
     talk: talk(50, { "station 1": missing, "station 2": missing }).damaged(2, 100),
+    found: [["mute", "fault", 100, 0.01]],
+    level: "fault",
+  },
+  {
+    name: "no frame on line 2, and damage on line 1: a sentence each",
+    talk: talk(50, { "station 1": missing, "station 2": missing }).damaged(1, 100),
     found: [
       ["mute", "fault", 100, 0.01],
       ["damage", "doubt", 1, 0.1],

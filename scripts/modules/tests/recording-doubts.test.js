@@ -26,7 +26,7 @@ const GOOD = {
   "txd-high": "20 80 3000",
   "rxd-high": "20 80 3000",
   "first-jumps": "0 0 0",
-  "second-jumps": "7 500 600",
+  "second-jumps": "0 0 0",
 };
 
 const factsWith = (facts) => factsIn(Object.entries({ ...GOOD, ...facts }).map((fact) => fact.join(" ")));
@@ -38,13 +38,26 @@ function warned(facts, names = NAMES, how = {}) {
 
 const EDGE = "the data changes at the edge of TXC that is taken: try it";
 
+const EDGE_OF_SECOND = EDGE.replace("TXC", "RXC");
+
+/** The data of the first line changes while its clock is high. */
+const HIGH = { "txd-high": "300 4 3900" };
+
+/** A hundred thousand bits. */
+const LONG = { samples: "400000", "first-bits": "100000 2 399998", "rxd-changes": "400 4 390000", "second-bits": "100000 3 399999" };
+
+/** What the controller's clock has is data, and what it is not. */
+const DATA_AS_CLOCK = { "txc-changes": "400 2 3999", "first-bits": "200 2 3998" };
+
 /** Facts, and the sorts, places and texts of the warnings. */
 const CASES = [
   ["a good recording", {}, []],
   ["no edges", { "first-bits": "0 0 0", "second-bits": "0 0 0" }, ["TXC has no edges", "RXC has no edges"]],
   ["flat data", { "txd-changes": "0 0 0", "rxd-changes": "0 0 0" }, ["TXD never changes", "RXD never changes"]],
   ["flat data of few bits", { "txd-changes": "0 0 0", "first-bits": "15 2 58", samples: "60", "txc-level": "0" }, []],
-  ["the wrong edge", { "txd-high": "300 4 3900" }, [`${EDGE} with --falling`]],
+  ["the wrong edge", { ...HIGH, "rxd-high": "300 4 3900" }, [`${EDGE} with --falling`, `${EDGE_OF_SECOND} with --falling`]],
+  ["the wrong edge of one clock of two", HIGH, [EDGE.replace("try it", "say --invert TXC, or exchange the wires of its pair")]],
+  ["the wrong edge of one, and too little of the other", { ...HIGH, "rxd-changes": "7 4 3900" }, [`${EDGE} with --falling`]],
   ["few changes", { "txd-changes": "7 4 3900", "txd-high": "7 4 3900" }, []],
   ["a stop of the first clock", { "first-gap": "65 800" }, ["TXC stops (for 65 samples from sample 800 on)"]],
   ["a rest of the first clock that is none", { "first-gap": "63 800" }, []],
@@ -56,9 +69,17 @@ const CASES = [
     { "first-gap": "65 800", "first-jumps": "2 865 869" },
     ["TXC stops (for 65 samples from sample 800 on)"],
   ],
-  ["samples lost", { "first-jumps": "1 70 70" }, ["the edges of TXC jump: samples may have been lost (at sample 70)"]],
-  ["samples lost twice", { "first-jumps": "2 70 90" }, ["the edges of TXC jump: samples may have been lost (2 times, first at sample 70)"]],
+  ["samples lost", { "first-jumps": "1 70 70" }, ["the edges of TXC jump: its wire has glitches, or samples were lost (at sample 70)"]],
+  ["samples lost twice", { "first-jumps": "2 70 90" }, ["the edges of TXC jump: its wire has glitches, or samples were lost (2 times, first at sample 70)"]],
   ["data that rests at 0", { "txd-level": "0", "txd-changes": "400 4 2970" }, ["TXD rests at 0: if the two wires of its pair are exchanged, say --invert TXD"]],
+  ["data that stays at 0", { "txd-level": "0", "txd-changes": "401 68 2970" }, ["TXD stops, and does not go on until the recording ends (at sample 2970)"]],
+  ["data that stays at 1", { ...LONG, "txd-changes": "400 68 900" }, ["TXD stops, and does not go on until the recording ends (at sample 900)"]],
+  ["data of a bus that says nothing more", { ...LONG, "txd-changes": "400 68 900", "rxd-changes": "400 68 1200" }, []],
+  ["a second clock that stops", { "second-bits": "700 3 2800" }, ["RXC stops, and does not go on until the recording ends (at sample 2800)"]],
+  ["a second clock that jumps", { "second-jumps": "7 500 600" }, ["the edges of RXC jump: its wire has glitches, or samples were lost (7 times, first at sample 500)"]],
+  ["a second clock that rests, and jumps with that", { "second-gap": "65 800", "second-jumps": "2 865 869" }, []],
+  ["clock and data", { ...DATA_AS_CLOCK, "txd-changes": "2000 2 3999" }, ["TXD has the edges of a clock, and TXC has not: are the two exchanged?"]],
+  ["data of either line", { "txd-high": "200 4 3900", "rxd-high": "200 4 3900" }, ["TXD and RXD do not change with their clocks: are the two exchanged?"]],
   ["data that is 0 for a while", { "txd-level": "0", "txd-changes": "400 4 2980" }, []],
 ];
 
@@ -68,12 +89,29 @@ for (const [name, facts, texts] of CASES) {
 
 test("times in seconds, from the begin of the recording on", () => {
   const [{ text, second, count, sort, name }] = warned({ "first-jumps": "2 614400 614400" }, NAMES, { ticks: 614400, begin: 307200 });
-  assert.equal(text, "the edges of TXC jump: samples may have been lost (2 times, first at 1.500000 s)");
+  assert.equal(text, "the edges of TXC jump: its wire has glitches, or samples were lost (2 times, first at 1.500000 s)");
   assert.deepEqual([second, count, sort, name], [1.5, 2, "lost", "TXC"]);
 });
 
+test("a controller's clock that rests again and again, as that of the stations does", () => {
+  const seldom = { "txc-changes": "200 2 3999", "txd-changes": "90 4 3900", "first-jumps": "20 100 3000" };
+  const said = "RXC always runs, as the controller's clock does, and TXC does not: are the two";
+  for (const [bits, what] of [["100 2 3998", "pairs "], ["100 90 3998", ""]]) {
+    const [{ text, sort, name }, ...more] = warned({ ...seldom, "first-bits": bits }, NAMES, { ticks: 614400 });
+    assert.deepEqual([text, more], [`${said} ${what}exchanged?`, []]);
+    assert.deepEqual(warningOf(text), { sort, name, count: 1, second: null, text });
+  }
+});
+
+test("too few samples", () => {
+  const [{ text }] = warned({ samples: "3000", "first-bits": "1000 2 2998" }, NAMES, { ticks: 460800 });
+  assert.equal(text, "TXC has fewer than four samples a bit: record 1 million samples a second or more");
+});
+
 test("bits at falling edges", () => {
-  assert.deepEqual(warned({ "txd-high": "300 4 3900" }, NAMES, { rising: false }).map(({ text }) => text), [`${EDGE} without --falling`]);
+  const both = { ...HIGH, "rxd-high": "300 4 3900" };
+  const texts = [`${EDGE} without --falling`, `${EDGE_OF_SECOND} without --falling`];
+  assert.deepEqual(warned(both, NAMES, { rising: false }).map(({ text }) => text), texts);
 });
 
 test("one clock for two lines", () => {

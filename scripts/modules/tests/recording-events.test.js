@@ -97,7 +97,7 @@ const CASES = [
     "3.15: TXC goes on (by 2.900010 s)",
   ]],
   ["samples lost", [{ seconds: 1 }, { stop: 0.00001, seconds: 1 }], [
-    "1.25: the edges of TXC jump: samples may have been lost (2 times, last at 1.000020 s)",
+    "1.25: the edges of TXC jump: its wire has glitches, or samples were lost (2 times, last at 1.000020 s)",
   ]],
   ["data that rests for ten seconds", [{ seconds: 1 }, { seconds: 11, resting: 0b1000 }, { seconds: 11 }], [
     "11.00: RXD has not changed since 0.999980 s",
