@@ -88,7 +88,7 @@ function killed(folder, count, each) {
 async function incidentsOf(folder, count, each) {
   const { journal, limits, old } = killed(folder, count, each);
   const ring = new Ring(join(folder, "ring"), 1, { most: 1 << 30, floor: 0, warn: assert.fail });
-  ring.add(new Uint8Array((SECONDS * RATE) / 4), 0);
+  ring.add(new Uint8Array((SECONDS * RATE) / 4), 0, SECONDS * RATE);
   ring.close();
   const program = join(folder, "port1");
   writeFileSync(join(folder, "listing"), LINES.map((line) => `${line}\n`).join(""));

@@ -182,9 +182,11 @@ export class Incidents {
    * Tells an incident.
    * @param {Incident} incident
    * @param {string|null} saved the name of its folder, if it has one
+   * @param {import("./saver.js").Missing[]} [holes]
    */
-  told(incident, saved) {
-    this.office.log({ event: "incident", ...this.recordOf(incident), saved });
+  told(incident, saved, holes = []) {
+    const missing = holes.length > 0 ? { holes } : {};
+    this.office.log({ event: "incident", ...this.recordOf(incident), ...missing, saved });
     this.waiting = this.waiting.filter((other) => other !== incident);
     this.office.keep();
   }

@@ -2,7 +2,7 @@ import { spawn } from "node:child_process";
 import { rowsOfInput } from "../commands/input.js";
 import { RATE } from "../port1.js";
 import { wordsOfList } from "./decoder.js";
-import { captureOf, octetsBefore } from "./forms.js";
+import { captureOf } from "./forms.js";
 import { Incidents } from "./incidents.js";
 import { Triggers } from "./triggers.js";
 
@@ -88,11 +88,26 @@ export async function judgedRest({ run, zero, triggers: known, incidents: before
  * @param {import("./ring.js").Ring} ring
  * @param {import("./limits.js").Asked} asked
  */
-async function judge(triggers, incidents, ring, { form, program, dictionary }) {
+async function judge(triggers, incidents, ring, asked) {
   const { judged } = triggers;
   const from = Math.max((judged?.past ?? 0) - BEFORE, ring.beginOf(incidents.run, MOST));
-  const { octets, place } = ring.read(form, incidents.run, from, Infinity);
-  if (octets.length === 0) return;
+  const [piece, ...others] = ring.read(asked.form, incidents.run, from, Infinity);
+  if (piece) await judgePiece(triggers, incidents, piece, judged, asked);
+  for (const other of others) {
+    incidents.seam(other.place);
+    triggers.seam(other.place);
+    await judgePiece(triggers, incidents, other, null, asked);
+  }
+}
+
+/**
+ * @param {Triggers} triggers
+ * @param {Incidents} incidents
+ * @param {import("./pieces.js").Piece} piece
+ * @param {import("./triggers.js").Mark|null} judged the last line that was
+ * @param {import("./limits.js").Asked} asked
+ */
+async function judgePiece(triggers, incidents, { octets, place, past }, judged, { form, program, dictionary }) {
   let mark = 0;
   const tick = (/** @type {number} */ to) => {
     mark = to;
@@ -104,5 +119,5 @@ async function judge(triggers, incidents, ring, { form, program, dictionary }) {
     if (row.first - SLACK > mark + STEP) tick(row.first - SLACK);
     triggers.hear([row]);
   }
-  tick(place + octetsBefore(form, octets, Infinity).passed);
+  tick(past);
 }

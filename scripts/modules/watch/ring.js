@@ -3,7 +3,7 @@ import { readdirSync, renameSync, rmSync, statSync, statfsSync, writeSync } from
 import { join } from "node:path";
 import { pipeline } from "node:stream/promises";
 import { createGzip, gunzipSync } from "node:zlib";
-import { octetsBefore } from "./forms.js";
+import { between, joined } from "./pieces.js";
 
 /** The octets of a segment: a new one begins with the first piece after so many. Of pairs they are 54.6 seconds. */
 export const SEGMENT = 1 << 21;
@@ -30,11 +30,7 @@ export function roomIn(folder) {
 }
 
 /** @typedef {{ name: string, size: number }} Segment a file, and its octets */
-
-/**
- * Packed bits, and the place where they begin.
- * @typedef {{ octets: Buffer, place: number }} Bits
- */
+/** @typedef {import("./pieces.js").Hole} Hole */
 
 /** The last bits, packed, in segments on disk of which the oldest go first; those that are full are compressed. */
 export class Ring {
@@ -43,20 +39,24 @@ export class Ring {
   /** @type {number|null} */
   file = null;
   failed = 0; // octets that the disk did not take
+  past = 0; // the place after what was to be kept
+  /** @type {number|null} */
+  hole = null; // the place from which on the disk takes nothing
   packing = Promise.resolve();
 
   /**
    * @param {string} folder
    * @param {number} run
-   * @param {{ most: number, floor: number, warn: (text: string) => void }} limits octets of the ring, and those that
-   *   are to be left on the disk
+   * @param {{ most: number, floor: number, warn: (text: string) => void, missed?: (hole: Hole) => void }} limits octets
+   *   of the ring, and those that are to be left on the disk; and what hears of a hole that is over
    */
-  constructor(folder, run, { most, floor, warn }) {
+  constructor(folder, run, { most, floor, warn, missed = () => undefined }) {
     this.folder = folder;
     this.run = run;
     this.most = most;
     this.floor = floor;
     this.warn = warn;
+    this.missed = missed;
     mkdirSync(folder, { recursive: true });
     const names = readdirSync(folder).sort();
     names.filter((name) => name.endsWith(".new")).forEach((name) => rmSync(join(folder, name), { force: true }));
@@ -75,21 +75,43 @@ export class Ring {
   }
 
   /**
-   * Adds octets, the first of which begins at a place.
+   * Adds octets.
    * @param {Uint8Array} octets
-   * @param {number} place
+   * @param {number} place at which the first one begins
+   * @param {number} past the place after them
    */
-  add(octets, place) {
+  add(octets, place, past) {
+    this.past = past;
     try {
       if (this.file === null || this.segments[this.segments.length - 1].size >= SEGMENT) this.turn(place);
       if (this.file === null) throw new Error("less is free on the disk than is to be left");
-      for (let at = 0; at < octets.length; ) at += writeSync(/** @type {number} */ (this.file), octets, at);
-      this.segments[this.segments.length - 1].size += octets.length;
+      this.write(octets);
+      this.goOn(place);
     } catch (fault) {
       this.failed += octets.length;
+      this.hole ??= place;
       this.close();
       this.warn(`the ring: ${/** @type {Error} */ (fault).message}`);
     }
+  }
+
+  /** @param {Uint8Array} octets */
+  write(octets) {
+    const last = this.segments[this.segments.length - 1];
+    for (let at = 0; at < octets.length; ) {
+      const count = writeSync(/** @type {number} */ (this.file), octets, at);
+      at += count;
+      last.size += count;
+    }
+  }
+
+  /**
+   * Tells a hole that ends at a place.
+   * @param {number} place
+   */
+  goOn(place) {
+    if (this.hole !== null) this.missed({ first: this.hole, past: place });
+    this.hole = null;
   }
 
   close() {
@@ -152,28 +174,32 @@ export class Ring {
   }
 
   /**
-   * The octets of a run's places that are still there, and the place where they begin.
+   * The bits of a run's places that are still there, in pieces without a hole.
    * @param {import("./forms.js").Form} form
    * @param {number} run
    * @param {number} first
    * @param {number} past
-   * @returns {Bits}
    */
   read(form, run, first, past) {
     const own = this.segments.map(({ name }) => segmentOf(name)).filter((segment) => segment.run === run);
     /** @param {unknown} _ @param {number} at */
     const isWanted = (_, at) => own[at].place < past && (own[at + 1]?.place ?? Infinity) > first;
-    const wanted = own.filter(isWanted);
-    const all = Buffer.concat(wanted.map(({ name }) => this.octetsOf(name)));
-    const begin = wanted[0]?.place ?? 0;
-    const from = octetsBefore(form, all, Math.max(0, first - begin));
-    const to = octetsBefore(form, all, Math.max(0, past - begin));
-    return { octets: all.subarray(from.at, to.at), place: begin + from.passed };
+    const wanted = own.filter(isWanted).map(({ name, place }) => ({ octets: this.octetsOf(name), place }));
+    const pieces = joined(form, wanted).map((piece) => between(form, piece, first, past));
+    return pieces.filter(({ octets }) => octets.length > 0);
   }
 
-  /** @param {string} name */
+  /**
+   * The octets of a segment, of which there are none where it cannot be read.
+   * @param {string} name
+   */
   octetsOf(name) {
-    const octets = readFileSync(this.path(name));
-    return name.endsWith(".gz") ? gunzipSync(octets) : octets;
+    try {
+      const octets = readFileSync(this.path(name));
+      return name.endsWith(".gz") ? gunzipSync(octets) : octets;
+    } catch (fault) {
+      this.warn(`the ring: ${name}: ${/** @type {Error} */ (fault).message}`);
+      return Buffer.alloc(0);
+    }
   }
 }

@@ -43,7 +43,8 @@ export class Watch {
     this.journal = new Journal(this.path("incidents.jsonl"), asked.write, this.complain);
     this.packer = new Packer(asked.form);
     const { ring: most, floor } = asked.limits;
-    this.ring = new Ring(this.path("ring"), this.number, { most, floor, warn: this.complain });
+    const missed = (/** @type {import("./pieces.js").Hole} */ hole) => this.missed(hole);
+    this.ring = new Ring(this.path("ring"), this.number, { most, floor, warn: this.complain, missed });
     this.saver = new Saver(this.path("incidents"), this.ring, { ...asked, dictionary: () => this.dictionary });
     this.incidents = new Incidents(this.number, asked.limits, this.office());
     this.triggers = new Triggers({
@@ -134,7 +135,7 @@ export class Watch {
     const { packer } = this;
     const place = packer.begin;
     const octets = packer.take(text);
-    if (octets.length > 0) this.ring.add(octets, place);
+    if (octets.length > 0) this.ring.add(octets, place, packer.begin);
     await this.decoder.feed(text, packer.places);
     this.look(this.wall.take(packer.places));
     this.judge();
@@ -152,6 +153,15 @@ export class Watch {
     this.lost += lost;
     this.incidents.seam(this.packer.places);
     this.log("input lost", { seconds: Number(lost.toFixed(3)) });
+  }
+
+  /**
+   * Tells what the ring lacks.
+   * @param {import("./pieces.js").Hole} hole
+   */
+  missed({ first, past }) {
+    const seconds = Number(((past - first) / RATE).toFixed(3));
+    this.log("bits not kept", { wall: iso(this.timeOf(first)), place: first, seconds });
   }
 
   /** Judges by what `port1` has decided, never by what it was fed. */
@@ -206,14 +216,16 @@ export class Watch {
    * @param {import("./incidents.js").Incident} incident
    */
   async save(incident) {
-    let saved = null;
+    /** @type {import("./saver.js").Saved} */
+    let found = { saved: null, holes: [] };
     try {
-      saved = await this.saver.save(incident, this.incidents.recordOf(incident));
+      found = await this.saver.save(incident, this.incidents.recordOf(incident));
     } catch (fault) {
       this.complain(`an incident: ${/** @type {Error} */ (fault).message}`);
     }
+    const { saved, holes } = found;
     if (saved === null) this.unsaved += 1;
-    this.incidents.told(incident, saved);
+    this.incidents.told(incident, saved, holes);
     const { run } = this.asked;
     const folder = saved === null ? "" : join(this.path("incidents"), saved);
     const fault = run ? await called(run, folder, Object.keys(incident.causes)) : "";
@@ -243,6 +255,7 @@ export class Watch {
     this.incidents.tick(places);
     this.incidents.close();
     await this.saving;
+    this.ring.goOn(this.ring.past);
     this.ring.close();
     await this.ring.packing;
     this.keep(isWell);
