@@ -91,8 +91,12 @@ export class Incidents {
     const [sort] = cause.split(" ");
     this.tally.set(sort, (this.tally.get(sort) ?? 0) + 1);
     this.office.keep();
-    if (Object.keys(open.causes).length > 1) return;
-    const { id, run, zero } = open;
+    if (Object.keys(open.causes).length === 1) this.tellBegun(open);
+  }
+
+  /** @param {Incident} incident */
+  tellBegun({ id, run, zero, first, causes }) {
+    const [cause] = Object.keys(causes);
     this.office.log({ event: "begun", wall: iso(zero + first / RATE), run, place: first, id, cause });
   }
 

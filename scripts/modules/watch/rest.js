@@ -34,7 +34,7 @@ const keyOf = ({ event, run, place, id, kind, line, cause }) =>
  * @param {string[]} words
  * @param {Buffer} capture
  */
-async function* linesOf(program, words, capture) {
+export async function* linesOf(program, words, capture) {
   const child = spawn(program, words, { stdio: ["pipe", "pipe", "ignore"], detached: true });
   child.on("error", () => undefined); // it writes nothing then
   child.stdin.on("error", () => undefined);
@@ -72,6 +72,7 @@ export async function judgedRest({ run, zero, triggers: known, incidents: before
   const log = (/** @type {Entry} */ record) => (told.has(keyOf(record)) ? undefined : journal.log(record));
   const incidents = new Incidents(run, asked.limits, { zero: () => zero, keep() {}, save() {}, log });
   incidents.resume(before);
+  if (before.open) incidents.tellBegun(before.open);
   const triggers = new Triggers({
     trigger: (cause, first, past) => incidents.trigger(cause, first, past),
     wellAgain: (about, first, past, since) => incidents.wellAgain(about, first, past, since),
@@ -107,14 +108,14 @@ async function judge(triggers, incidents, ring, asked) {
  * @param {import("./triggers.js").Mark|null} judged the last line that was
  * @param {import("./limits.js").Asked} asked
  */
-async function judgePiece(triggers, incidents, { octets, place, past }, judged, { form, program, dictionary }) {
+async function judgePiece(triggers, incidents, { octets, place, past }, judged, { form, program, dictionary, lines = linesOf }) {
   let mark = 0;
   const tick = (/** @type {number} */ to) => {
     mark = to;
     triggers.tick(mark);
     incidents.tick(mark);
   };
-  const rows = linesOf(program, wordsOfList(form, dictionary, place), captureOf(form, octets));
+  const rows = lines(program, wordsOfList(form, dictionary, place), captureOf(form, octets));
   for await (const row of linesAfter(rows, judged)) {
     if (row.first - SLACK > mark + STEP) tick(row.first - SLACK);
     triggers.hear([row]);

@@ -1,5 +1,5 @@
 import { spawn } from "node:child_process";
-import { closeSync, mkdirSync, openSync, readdirSync, renameSync, rmSync, statSync, writeFileSync } from "node:fs";
+import { closeSync, mkdirSync, openSync, readdirSync, rmSync, statSync, writeFileSync } from "node:fs";
 import { join } from "node:path";
 import { fileURLToPath } from "node:url";
 import { piecesOf } from "../commands/facts.js";
@@ -11,6 +11,7 @@ import { Bus } from "../statistics/bus.js";
 import { DayTime } from "../statistics/day-time.js";
 import { report } from "../statistics/report.js";
 import { wordsOfList } from "./decoder.js";
+import { DISK } from "./disk.js";
 import { captureOf, octetsBefore } from "./forms.js";
 import { holesOf, nearestOf } from "./pieces.js";
 import { roomIn } from "./ring.js";
@@ -107,6 +108,7 @@ export class Saver {
    * @param {string} folder
    * @param {import("./ring.js").Ring} ring
    * @param {{ program: string, form: import("./forms.js").Form, dictionary: () => string,
+   *   disk?: import("./disk.js").Disk,
    *   limits: { before: number, after: number, longest: number, keep: number, floor: number } }} decoding
    */
   constructor(folder, ring, decoding) {
@@ -114,6 +116,7 @@ export class Saver {
     this.ring = ring;
     this.decoding = decoding;
     this.limits = decoding.limits;
+    this.disk = decoding.disk ?? DISK;
     mkdirSync(folder, { recursive: true });
     const halves = readdirSync(folder).filter((name) => name.startsWith("."));
     halves.forEach((name) => removed(join(folder, name)));
@@ -166,8 +169,7 @@ export class Saver {
       rmSync(fresh, { recursive: true, force: true });
       mkdirSync(fresh);
       await this.fill(fresh, incident, found, { ...record, ...(holes.length > 0 && { holes }) });
-      rmSync(join(this.folder, name), { recursive: true, force: true });
-      renameSync(fresh, join(this.folder, name));
+      this.disk.putFolder(fresh, join(this.folder, name));
       return { saved: name, holes };
     } catch (fault) {
       rmSync(fresh, { recursive: true, force: true });

@@ -1,13 +1,13 @@
-import { mkdirSync } from "node:fs";
 import { join } from "node:path";
 import { RATE } from "../port1.js";
 import { called } from "./call.js";
 import { Decoder } from "./decoder.js";
+import { DISK } from "./disk.js";
 import { Packer } from "./forms.js";
 import { Incidents } from "./incidents.js";
-import { Journal, put } from "./journal.js";
+import { Journal } from "./journal.js";
 import { onceAMinute } from "./limits.js";
-import { keep, read, untold } from "./memory.js";
+import { onlyBegun, read, untold } from "./memory.js";
 import { metricsOf } from "./metrics.js";
 import { judgedRest } from "./rest.js";
 import { Ring } from "./ring.js";
@@ -27,6 +27,7 @@ export class Watch {
   unsaved = 0;
   saving = Promise.resolve();
   kept = { time: 0, place: 0 }; // when what is known was written down, in seconds, and where
+  keepBits = KEEP_BITS;
 
   decoder = /** @type {Decoder} */ (/** @type {unknown} */ (null)); // until it begins
 
@@ -35,16 +36,19 @@ export class Watch {
     this.asked = asked;
     this.wall = asked.wall;
     this.dictionary = asked.dictionary;
-    mkdirSync(asked.folder, { recursive: true });
+    const { disk = DISK } = asked;
+    this.disk = disk;
+    disk.makeFolder(asked.folder);
     this.state = this.path("state.json");
-    this.old = read(this.state);
-    this.number = this.old.run + 1;
     this.complain = onceAMinute(asked.warn);
-    this.journal = new Journal(this.path("incidents.jsonl"), asked.write, this.complain);
+    this.old = read(this.state, this.complain, disk);
+    this.journal = new Journal(this.path("incidents.jsonl"), asked.write, this.complain, disk);
     this.packer = new Packer(asked.form);
     const { ring: most, floor } = asked.limits;
     const missed = (/** @type {import("./pieces.js").Hole} */ hole) => this.missed(hole);
-    this.ring = new Ring(this.path("ring"), this.number, { most, floor, warn: this.complain, missed });
+    this.ring = new Ring(this.path("ring"), 0, { most, floor, warn: this.complain, missed, disk });
+    this.number = 1 + Math.max(this.old.run, this.ring.lastRun, this.journal.lastRun);
+    this.ring.run = this.number;
     this.saver = new Saver(this.path("incidents"), this.ring, { ...asked, dictionary: () => this.dictionary });
     this.incidents = new Incidents(this.number, asked.limits, this.office());
     this.triggers = new Triggers({
@@ -85,14 +89,16 @@ export class Watch {
 
   /** Begins: with what the run before knew, and did not tell. */
   async begin() {
-    const since = this.old.wall === null ? {} : { since: iso(this.old.wall) };
+    const last = this.old.wall === null ? this.journal.told().at(-1)?.wall : iso(this.old.wall);
+    const since = last === undefined ? {} : { since: last };
     this.log("start", since);
     const { kinds, incidents, tally } = await this.rest();
     this.triggers.restore(kinds, 0);
     this.incidents.seam(0);
     this.incidents.tally = tally;
-    const told = this.journal.told().filter(({ event }) => event === "incident");
-    this.incidents.takeOver(untold(incidents, told));
+    const entries = this.journal.told();
+    const left = untold(incidents, entries.filter(({ event }) => event === "incident"));
+    this.incidents.takeOver([...left, ...onlyBegun(entries, left)]);
     this.keep();
     await this.decode(0);
   }
@@ -124,7 +130,10 @@ export class Watch {
   keep(isOver = false) {
     const triggers = this.triggers.kept((place) => this.timeOf(place));
     const [wall, zero, incidents] = [this.wall.now(), this.wall.zero, this.incidents.kept()];
-    this.tried("state", () => keep(this.state, { run: this.number, isOver, wall, zero, triggers, incidents }));
+    /** @type {import("./memory.js").Kept} */
+    const known = { run: this.number, isOver, wall, zero, triggers, incidents };
+    this.tried("ring", () => this.ring.sync());
+    this.tried("state", () => this.disk.put(this.state, JSON.stringify(known)));
   }
 
   /**
@@ -170,7 +179,7 @@ export class Watch {
     this.triggers.tick(mark);
     this.incidents.tick(mark);
     const [time, place] = [performance.now() / 1000, mark];
-    if (time - this.kept.time < KEEP && place - this.kept.place < KEEP_BITS) return;
+    if (time - this.kept.time < KEEP && place - this.kept.place < this.keepBits) return;
     this.kept = { time, place };
     this.keep();
     this.measure();
@@ -182,7 +191,7 @@ export class Watch {
     const { prometheus } = this.asked;
     const counts = { lost, unsaved, failed: ring.failed, places, last: this.timeOf(places) };
     if (!prometheus) return;
-    this.tried("metrics", () => put(prometheus, metricsOf(this.triggers, this.incidents.tally, counts)));
+    this.tried("metrics", () => this.disk.put(prometheus, metricsOf(this.triggers, this.incidents.tally, counts)));
   }
 
   /**
