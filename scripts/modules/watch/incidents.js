@@ -23,7 +23,8 @@ const NEAR_SEAM = 1;
 
 /**
  * @typedef {object} Office what incidents need of the watch
- * @property {() => number} zero
+ * @property {(place: number) => number} zero when place 0 was by the clock of a place
+ * @property {() => number} [settled] the place up to which that is sure
  * @property {() => void} keep writes down what is known, which outlives the watch
  * @property {(record: import("./journal.js").Entry) => void} log
  * @property {(incident: Incident) => void} save
@@ -35,6 +36,8 @@ export class Incidents {
   open = null;
   /** @type {Incident[]} those that are to be saved, until they are told */
   waiting = [];
+  /** @type {Incident[]} those that are over, until their times are sure */
+  over = [];
   /** @type {Map<string, { id: string, first: number, past: number, count: number }>} causes that go on too long */
   long = new Map();
   /** @type {Map<string, number>} */
@@ -54,8 +57,10 @@ export class Incidents {
 
   /** What outlives the watch. */
   kept() {
-    const { open, waiting, long, before, count } = this;
-    return { open, waiting, long: [...long], before, count };
+    const { open, waiting, over, long, before, count } = this;
+    const timed = (/** @type {Incident} */ incident) => ({ ...incident, zero: this.office.zero(incident.first) });
+    const all = [...waiting, ...over.map(timed)];
+    return { open: open && timed(open), waiting: all, long: [...long], before, count };
   }
 
   /**
@@ -106,7 +111,8 @@ export class Incidents {
     const isEarly = first < GOES_ON * RATE;
     const earlier = isEarly ? this.before.find(({ cut, causes }) => cut && causes[cause] !== undefined) : undefined;
     const more = earlier ? { continues: earlier.id } : {};
-    return (this.open = { id, run: this.run, first, past, causes: {}, zero: this.office.zero(), cut: false, ...more });
+    const zero = this.office.zero(first);
+    return (this.open = { id, run: this.run, first, past, causes: {}, zero, cut: false, ...more });
   }
 
   /**
@@ -118,7 +124,7 @@ export class Incidents {
    */
   wellAgain(about, first, past, since) {
     if (this.open) this.open.past = Math.max(this.open.past, past);
-    const time = this.office.zero() + past / RATE;
+    const time = this.office.zero(past) + past / RATE;
     const seconds = Number((since === null ? (past - first) / RATE : time - since).toFixed(3));
     this.office.log({ event: "well again", wall: iso(time), run: this.run, place: past, ...about, seconds });
   }
@@ -143,22 +149,35 @@ export class Incidents {
     } else if (open && mark > open.past + times.after * RATE) {
       this.close();
     }
+    this.settle(this.office.settled?.() ?? Infinity);
     for (const [cause, { id, first, past }] of this.long) {
       if (mark <= past + times.longest * RATE) continue;
       this.long.delete(cause);
-      const wall = iso(this.office.zero() + past / RATE);
+      const wall = iso(this.office.zero(past) + past / RATE);
       this.office.log({ event: "over", wall, run: this.run, place: past, id, cause, seconds: (past - first) / RATE });
     }
   }
 
-  /** Ends the incident, if there is one, and has it saved. */
+  /** Ends the incident, if there is one. */
   close() {
     const { open } = this;
     if (open === null) return;
     this.open = null;
-    this.waiting.push(open);
+    this.over.push(open);
+  }
+
+  /**
+   * Has those saved whose times are sure, and what lies beside them.
+   * @param {number} settled the place up to which times are
+   */
+  settle(settled) {
+    const sure = this.over.filter(({ past }) => past + NEAR_SEAM * RATE <= settled);
+    if (sure.length === 0) return;
+    this.over = this.over.filter((incident) => !sure.includes(incident));
+    for (const incident of sure) incident.zero = this.office.zero(incident.first);
+    this.waiting.push(...sure);
     this.office.keep();
-    this.office.save(open);
+    sure.forEach((incident) => this.office.save(incident));
   }
 
   /**

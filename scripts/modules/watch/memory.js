@@ -8,7 +8,8 @@ import { DISK } from "./disk.js";
  * @property {number} run
  * @property {boolean} isOver whether all that came was judged
  * @property {number|null} wall when it was written, in seconds since 1970
- * @property {number} zero when place 0 was
+ * @property {number} zero when place 0 was, by the last place
+ * @property {{ place: number, zero: number }[]} [zeros] the same up to places before which input was lost
  * @property {ReturnType<import("./triggers.js").Triggers["kept"]>} triggers
  * @property {ReturnType<import("./incidents.js").Incidents["kept"]>} incidents
  */
@@ -55,9 +56,13 @@ const areIncidents = (value) =>
   areAll(value.waiting, isIncident) && areAll(value.before, isIncident) && areAll(value.long, isLong);
 
 /** @param {any} value */
+const isStep = (value) => isObject(value) && [value.place, value.zero].every(Number.isFinite);
+
+/** @param {any} value */
 const isKept = (value) =>
   isObject(value) && Number.isInteger(value.run) && value.run >= 0 && typeof value.isOver === "boolean" &&
-  isPlace(value.wall) && Number.isFinite(value.zero) && areTriggers(value.triggers) && areIncidents(value.incidents);
+  isPlace(value.wall) && Number.isFinite(value.zero) && areAll(value.zeros ?? [], isStep) &&
+  areTriggers(value.triggers) && areIncidents(value.incidents);
 
 /**
  * What a text keeps, if it is what a watch wrote.

@@ -5,6 +5,7 @@ import { wordsOfList } from "./decoder.js";
 import { captureOf } from "./forms.js";
 import { Incidents } from "./incidents.js";
 import { Triggers } from "./triggers.js";
+import { stepAt } from "./wall.js";
 
 /** @typedef {import("../listing/listing.js").Row} Row */
 /** @typedef {import("./journal.js").Entry} Entry */
@@ -67,10 +68,11 @@ const isLast = (row, last) =>
  * @param {import("./limits.js").Asked} asked
  * @param {import("./journal.js").Journal} journal
  */
-export async function judgedRest({ run, zero, triggers: known, incidents: before }, ring, asked, journal) {
+export async function judgedRest({ run, zero: last, zeros, triggers: known, incidents: before }, ring, asked, journal) {
+  const zero = (/** @type {number} */ place) => stepAt(zeros ?? [], place)?.zero ?? last;
   const told = new Set(journal.told().map(keyOf));
   const log = (/** @type {Entry} */ record) => (told.has(keyOf(record)) ? undefined : journal.log(record));
-  const incidents = new Incidents(run, asked.limits, { zero: () => zero, keep() {}, save() {}, log });
+  const incidents = new Incidents(run, asked.limits, { zero, keep() {}, save() {}, log });
   incidents.resume(before);
   if (before.open) incidents.tellBegun(before.open);
   const triggers = new Triggers({
@@ -79,7 +81,7 @@ export async function judgedRest({ run, zero, triggers: known, incidents: before
   }, asked.gaps);
   triggers.resume(known);
   await judge(triggers, incidents, ring, asked);
-  const { kinds } = triggers.kept((place) => zero + place / RATE);
+  const { kinds } = triggers.kept((place) => zero(place) + place / RATE);
   return { kinds, incidents: incidents.kept(), tally: incidents.tally };
 }
 

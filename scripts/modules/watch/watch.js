@@ -13,7 +13,7 @@ import { judgedRest } from "./rest.js";
 import { Ring } from "./ring.js";
 import { Saver } from "./saver.js";
 import { Triggers } from "./triggers.js";
-import { iso } from "./wall.js";
+import { iso, stepAt } from "./wall.js";
 
 /** How often what is known is written down, in seconds, and of bits that come faster; incidents that wait, at most. */
 const [KEEP, KEEP_BITS, MOST_WAITING] = [10, 60 * RATE, 4];
@@ -68,7 +68,8 @@ export class Watch {
    */
   office() {
     return {
-      zero: () => this.wall.zero,
+      zero: (place) => this.zeroAt(place),
+      settled: () => this.wall.settled,
       keep: () => this.keep(),
       log: (record) => this.journal.log(record),
       save: (incident) => {
@@ -77,9 +78,17 @@ export class Watch {
     };
   }
 
+  /**
+   * When place 0 was, by the clock of a place.
+   * @param {number} place
+   */
+  zeroAt(place) {
+    return stepAt(this.wall.zeros, place)?.zero ?? this.wall.zero;
+  }
+
   /** @param {number} place */
   timeOf(place) {
-    return this.wall.zero + place / RATE;
+    return this.zeroAt(place) + place / RATE;
   }
 
   /** @param {string} event @param {Record<string, unknown>} [more] */
@@ -129,9 +138,9 @@ export class Watch {
   /** Writes down what outlives the watch. */
   keep(isOver = false) {
     const triggers = this.triggers.kept((place) => this.timeOf(place));
-    const [wall, zero, incidents] = [this.wall.now(), this.wall.zero, this.incidents.kept()];
+    const [{ zero, zeros }, wall, incidents] = [this.wall, this.wall.now(), this.incidents.kept()];
     /** @type {import("./memory.js").Kept} */
-    const known = { run: this.number, isOver, wall, zero, triggers, incidents };
+    const known = { run: this.number, isOver, wall, zero, zeros, triggers, incidents };
     this.tried("ring", () => this.ring.sync());
     this.tried("state", () => this.disk.put(this.state, JSON.stringify(known)));
   }
@@ -160,8 +169,9 @@ export class Watch {
     if (set !== 0) this.log("clock set", { seconds: Number(set.toFixed(3)) });
     if (lost === 0) return;
     this.lost += lost;
-    this.incidents.seam(this.packer.places);
-    this.log("input lost", { seconds: Number(lost.toFixed(3)) });
+    const place = this.wall.zeros.at(-1)?.place ?? 0;
+    this.incidents.seam(place);
+    this.log("input lost", { wall: iso(this.timeOf(place)), place, seconds: Number(lost.toFixed(3)) });
   }
 
   /**
@@ -263,6 +273,8 @@ export class Watch {
     if (isWell) this.triggers.tick(places);
     this.incidents.tick(places);
     this.incidents.close();
+    this.wall.settle();
+    this.incidents.settle(Infinity);
     await this.saving;
     this.ring.goOn(this.ring.past);
     this.ring.close();
