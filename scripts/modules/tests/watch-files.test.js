@@ -112,6 +112,7 @@ test("an incident goes on in the next run where that run was cut off in it, and 
   incidents.takeOver(/** @type {any} */ (before));
   for (const [cause, wanted] of [["burst", undefined], ["rest", "1-2"]]) {
     incidents.trigger(/** @type {string} */ (cause), 10, 20);
+    incidents.take(20);
     assert.equal(incidents.open?.continues, wanted);
     incidents.close();
   }

@@ -4,6 +4,9 @@ import { iso } from "./wall.js";
 /** What comes within so many seconds of the beginning of a run may go on from the one before. */
 const GOES_ON = 60;
 
+/** What was decided up to a place is known so many places later: any answer takes less. */
+const KNOWN = RATE;
+
 /** How near a place without input is told with an incident, in seconds. */
 const NEAR_SEAM = 1;
 
@@ -30,6 +33,28 @@ const NEAR_SEAM = 1;
  * @property {(incident: Incident) => void} save
  */
 
+/**
+ * What came: a cause, or what is well again; and where it began and was decided.
+ * @typedef {object} Event
+ * @property {string} [cause]
+ * @property {import("./triggers.js").About} [about]
+ * @property {number} first
+ * @property {number} past
+ * @property {number|null} [since] when it began, in seconds since 1970, where that was in an earlier run
+ */
+
+/**
+ * The order of what came: by places, however it was heard.
+ * @param {Event} one
+ * @param {Event} other
+ */
+function inOrder(one, other) {
+  const places = one.past - other.past || one.first - other.first;
+  if (places !== 0) return places;
+  const [text, next] = [one, other].map(({ cause, about }) => cause ?? `~${JSON.stringify(about)}`);
+  return text < next ? -1 : Number(text > next);
+}
+
 /** Joins what comes within some seconds to one incident, and ends it. */
 export class Incidents {
   /** @type {Incident|null} */
@@ -44,6 +69,8 @@ export class Incidents {
   tally = new Map();
   /** @type {Incident[]} of the run before */
   before = [];
+  /** @type {Event[]} what came, until all before it is known */
+  ahead = [];
   /** @type {number[]} places before which bits are missing */
   seams = [];
   count = 0;
@@ -60,15 +87,15 @@ export class Incidents {
     const { open, waiting, over, long, before, count } = this;
     const timed = (/** @type {Incident} */ incident) => ({ ...incident, zero: this.office.zero(incident.first) });
     const all = [...waiting, ...over.map(timed)];
-    return { open: open && timed(open), waiting: all, long: [...long], before, count };
+    return { open: open && timed(open), waiting: all, long: [...long], before, count, ahead: this.ahead };
   }
 
   /**
    * Goes on where another one of the same run was.
-   * @param {ReturnType<Incidents["kept"]>} kept
+   * @param {import("./memory.js").Kept["incidents"]} kept
    */
-  resume({ open, waiting, long, before, count }) {
-    Object.assign(this, { open, waiting, long: new Map(long), before, count });
+  resume({ open, waiting, long, before, count, ahead = [] }) {
+    Object.assign(this, { open, waiting, long: new Map(long), before, count, ahead: [...ahead] });
   }
 
   /**
@@ -83,6 +110,36 @@ export class Incidents {
 
   /** @param {string} cause @param {number} first @param {number} past */
   trigger(cause, first, past) {
+    this.ahead.push({ cause, first, past });
+  }
+
+  /**
+   * Something is well again that an incident may be about.
+   * @param {import("./triggers.js").About} about
+   * @param {number} first
+   * @param {number} past
+   * @param {number|null} since when it began, in seconds since 1970, where that was in an earlier run
+   */
+  wellAgain(about, first, past, since) {
+    this.ahead.push({ about, first, past, since });
+  }
+
+  /**
+   * Judges what came, in the order of its places, up to one before which all is known.
+   * @param {number} place
+   */
+  take(place) {
+    const due = this.ahead.filter(({ past }) => past <= place).sort(inOrder);
+    this.ahead = this.ahead.filter((event) => !due.includes(event));
+    for (const event of due) {
+      this.advance(event.past);
+      if (event.cause === undefined) this.tellWell(event);
+      else this.join(event.cause, event.first, event.past);
+    }
+  }
+
+  /** @param {string} cause @param {number} first @param {number} past */
+  join(cause, first, past) {
     const long = this.long.get(cause);
     if (long) {
       Object.assign(long, { past, count: long.count + 1 });
@@ -115,14 +172,8 @@ export class Incidents {
     return (this.open = { id, run: this.run, first, past, causes: {}, zero, cut: false, ...more });
   }
 
-  /**
-   * Something is well again that an incident may be about.
-   * @param {import("./triggers.js").About} about
-   * @param {number} first
-   * @param {number} past
-   * @param {number|null} since when it began, in seconds since 1970, where that was in an earlier run
-   */
-  wellAgain(about, first, past, since) {
+  /** @param {Event} event */
+  tellWell({ about, first, past, since = null }) {
     if (this.open) this.open.past = Math.max(this.open.past, past);
     const time = this.office.zero(past) + past / RATE;
     const seconds = Number((since === null ? (past - first) / RATE : time - since).toFixed(3));
@@ -136,26 +187,44 @@ export class Incidents {
   }
 
   /**
-   * Ends what is over, or lasts too long, once all before a place has been heard.
+   * Judges what came, once all before a place has been heard.
    * @param {number} mark
    */
   tick(mark) {
+    this.take(mark - KNOWN);
+    this.advance(mark - KNOWN);
+    this.settle(this.office.settled?.() ?? Infinity);
+  }
+
+  /**
+   * Ends what is over at a place, or lasts too long.
+   * @param {number} place
+   */
+  advance(place) {
     const { open, times } = this;
     if (open && open.past - open.first > times.longest * RATE) {
       for (const cause of Object.keys(open.causes)) {
         this.long.set(cause, { id: open.id, first: open.first, past: open.past, count: 0 });
       }
       this.close();
-    } else if (open && mark > open.past + times.after * RATE) {
+    } else if (open && place > open.past + times.after * RATE) {
       this.close();
     }
-    this.settle(this.office.settled?.() ?? Infinity);
     for (const [cause, { id, first, past }] of this.long) {
-      if (mark <= past + times.longest * RATE) continue;
+      if (place <= past + times.longest * RATE) continue;
       this.long.delete(cause);
       const wall = iso(this.office.zero(past) + past / RATE);
       this.office.log({ event: "over", wall, run: this.run, place: past, id, cause, seconds: (past - first) / RATE });
     }
+  }
+
+  /**
+   * Judges all that came: nothing comes any more.
+   * @param {number} place
+   */
+  finish(place) {
+    this.take(Infinity);
+    this.advance(place);
   }
 
   /** Ends the incident, if there is one. */

@@ -11,7 +11,8 @@ import { DISK } from "./disk.js";
  * @property {number} zero when place 0 was, by the last place
  * @property {{ place: number, zero: number }[]} [zeros] the same up to places before which input was lost
  * @property {ReturnType<import("./triggers.js").Triggers["kept"]>} triggers
- * @property {ReturnType<import("./incidents.js").Incidents["kept"]>} incidents
+ * @property {Omit<ReturnType<import("./incidents.js").Incidents["kept"]>, "ahead">
+ *   & { ahead?: import("./incidents.js").Event[] }} incidents
  */
 
 const NOTHING = {
@@ -51,9 +52,13 @@ const isLong = (value) =>
   [value[1].first, value[1].past, value[1].count].every(Number.isFinite);
 
 /** @param {any} value */
+const isEvent = (value) => isObject(value) && [value.first, value.past].every(Number.isFinite);
+
+/** @param {any} value */
 const areIncidents = (value) =>
   isObject(value) && Number.isFinite(value.count) && (value.open === null || isIncident(value.open)) &&
-  areAll(value.waiting, isIncident) && areAll(value.before, isIncident) && areAll(value.long, isLong);
+  areAll(value.waiting, isIncident) && areAll(value.before, isIncident) && areAll(value.long, isLong) &&
+  areAll(value.ahead ?? [], isEvent);
 
 /** @param {any} value */
 const isStep = (value) => isObject(value) && [value.place, value.zero].every(Number.isFinite);

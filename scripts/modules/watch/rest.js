@@ -4,7 +4,7 @@ import { RATE } from "../port1.js";
 import { wordsOfList } from "./decoder.js";
 import { captureOf } from "./forms.js";
 import { Incidents } from "./incidents.js";
-import { Triggers } from "./triggers.js";
+import { SURE, Triggers } from "./triggers.js";
 import { stepAt } from "./wall.js";
 
 /** @typedef {import("../listing/listing.js").Row} Row */
@@ -101,6 +101,7 @@ async function judge(triggers, incidents, ring, asked) {
     triggers.seam(other.place);
     await judgePiece(triggers, incidents, other, null, asked);
   }
+  incidents.take(Infinity);
 }
 
 /**
@@ -122,5 +123,5 @@ async function judgePiece(triggers, incidents, { octets, place, past }, judged, 
     if (row.first - SLACK > mark + STEP) tick(row.first - SLACK);
     triggers.hear([row]);
   }
-  tick(past);
+  tick(past - SURE);
 }

@@ -12,7 +12,7 @@ import { metricsOf } from "./metrics.js";
 import { judgedRest } from "./rest.js";
 import { Ring } from "./ring.js";
 import { Saver } from "./saver.js";
-import { Triggers } from "./triggers.js";
+import { SURE, Triggers } from "./triggers.js";
 import { iso, stepAt } from "./wall.js";
 
 /** How often what is known is written down, in seconds, and of bits that come faster; incidents that wait, at most. */
@@ -186,7 +186,7 @@ export class Watch {
   /** Judges by what `port1` has decided, never by what it was fed. */
   judge() {
     const { mark } = this.decoder;
-    this.triggers.tick(mark);
+    this.triggers.tick(mark - SURE);
     this.incidents.tick(mark);
     const [time, place] = [performance.now() / 1000, mark];
     if (time - this.kept.time < KEEP && place - this.kept.place < this.keepBits) return;
@@ -271,7 +271,7 @@ export class Watch {
     const { places } = this.packer;
     if (isWell) await this.decoder.end();
     if (isWell) this.triggers.tick(places);
-    this.incidents.tick(places);
+    this.incidents.finish(places);
     this.incidents.close();
     this.wall.settle();
     this.incidents.settle(Infinity);
