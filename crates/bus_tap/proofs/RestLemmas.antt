@@ -13,7 +13,7 @@ use Rattle.bus_line.specs.Run.{ones_after}
 use Rattle.bus_line.specs.Spelling.{ones}
 use Rattle.bus_pairing.specs.declared.line.Line.TheVariants.{First, Second}
 use Rattle.bus_tap.specs.Arrival.{Arrival, own, firsts_before}
-use Rattle.bus_tap.specs.Rested.{rests, silence, comes_to_rest, fill, filled, rested, RestState, IsRestAfter}
+use Rattle.bus_tap.specs.Rested.{rests, silence, comes_to_rest, fill, with_rest, rested, RestState, IsRestAfter}
 use Rattle.bus_tap.proofs.ArrivalLemmas.{own-append, before-append, before-now, before-within}
 
 pub rested-more : (most : ℕ) (xs : List Arrival) (x : Arrival) (is : Bool) →
@@ -21,7 +21,7 @@ pub rested-more : (most : ℕ) (xs : List Arrival) (x : Arrival) (is : Bool) →
     rested most (xs ++ x ∷ []) ≡ rested most xs ++ (x ∷ fill is)
 rested-more most xs x is same =
     let front = rested most xs in
-    fold-append (λ (before : List Arrival) (x : Arrival). filled most (before ++ x ∷ [])) [] xs (x ∷ [])
+    fold-append (λ (before : List Arrival) (x : Arrival). with_rest most (before ++ x ∷ [])) [] xs (x ∷ [])
     ∙ (ap (λ b. (front ++ x ∷ []) ++ fill b) same ∙ append_assoc front (x ∷ []) (fill is))
 
 -- ones at the end

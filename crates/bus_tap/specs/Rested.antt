@@ -28,13 +28,13 @@ fill true = replicate 15 (Second, true)
 fill false = []
 
 -- these arrivals, and fifteen 1s behind those with which the second line comes to rest
-abbrev pub filled : ℕ → List Arrival → List Arrival
-filled most xs = xs ++ fill (comes_to_rest most xs)
+abbrev pub with_rest : ℕ → List Arrival → List Arrival
+with_rest most xs = xs ++ fill (comes_to_rest most xs)
 
 -- these arrivals, each behind those before it with what was put in among them: a line that rests by such 1s goes on to
 -- rest, and none are put in again before its next 0
 abbrev pub rested : ℕ → List Arrival → List Arrival
-rested most xs = fold (λ before x. filled most (before ++ x ∷ [])) [] xs
+rested most xs = fold (λ before x. with_rest most (before ++ x ∷ [])) [] xs
 
 -- what contracts see of the rule: its silence, the places of it so far, and the 1s at the end of the second line with
 -- those put in, up to fifteen
