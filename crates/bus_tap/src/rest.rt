@@ -43,9 +43,8 @@ impl Model for RestRule {
 }
 
 impl RestRule {
-    /// The silence that suits a traffic cabinet, in bits of the first line. No sender pauses so long within a frame,
-    /// and the shortest command between two answers is longer.
-    pub const SILENCE: u64 = 40;
+    /// The silence that suits a traffic cabinet, in bits of the first line.
+    pub const SILENCE: u64 = 400;
 
     /// The rule before the first arrival. `most` is the silence that brings the second line to rest, in bits
     /// of the first line; with 0 none does.

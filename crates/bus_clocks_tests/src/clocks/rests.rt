@@ -153,10 +153,10 @@ fn usual_silence(rt: HostRuntime) {
         same(
             &rt,
             rule.push(Line::First, true),
-            place == 40,
+            place == 400,
             format_args!("place {place}"),
         );
-        let left = if place < 40 { 39 - place } else { 39 };
+        let left = if place < 400 { 399 - place } else { 399 };
         same(&rt, rule.quiet(), left, format_args!("quiet at {place}"));
     }
     same(&rt, RestRule::new(0).quiet(), u64::MAX, "no rest");
