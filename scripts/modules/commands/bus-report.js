@@ -7,7 +7,7 @@ import { readDictionary } from "../dictionary/dictionary.js";
 import { Fault } from "../fault.js";
 import { channelsOf, formOfRecording } from "../recording/forms.js";
 import { sessionOf } from "../recording/session.js";
-import { hertz } from "../recording/units.js";
+import { samplerate } from "../recording/units.js";
 import { wiresAmong } from "../recording/usual.js";
 import { misuse, run, warn, wordOf, wordsOf, write, writeText } from "./command.js";
 import { piecesOf } from "./facts.js";
@@ -168,7 +168,7 @@ function hasFrames(listing) {
 run(async () => {
   const { values, words } = wordsOf(OPTIONS, ["RECORDING", "FOLDER"], 6);
   const [recording, folder, ...named] = words;
-  if (values.samplerate) wordOf("--samplerate", values.samplerate, hertz);
+  if (values.samplerate) wordOf("--samplerate", values.samplerate, samplerate);
   const given = values.dictionary ? dictionaryIn(values.dictionary) : null;
   const channels = named.length > 0 ? named : await wiresOf(recording);
   if (values.invert) checkInverted(values.invert, channels);

@@ -8,8 +8,8 @@ import { recordingOf } from "../recording/recording.js";
 import { samplingOf } from "../recording/sampling.js";
 import { sessionOf } from "../recording/session.js";
 import { PIECE } from "../recording/source.js";
-import { hertz } from "../recording/units.js";
-import { misuse, positive, run, warn, whole, wordsOf, write } from "./command.js";
+import { samplerate } from "../recording/units.js";
+import { misuse, run, warn, whole, wordsOf, write } from "./command.js";
 import { FilePart, inflated } from "./file.js";
 import { standardInput } from "./input.js";
 import { sampled } from "./sampler.js";
@@ -85,7 +85,13 @@ function lookAt({ names, ticks, begin }, rising) {
   };
 }
 
-const NUMBERS = { octets: positive, samplerate: hertz, hold: whole };
+/** @param {string} text */
+function octetsOf(text) {
+  if (!/^0*[1-8]$/.test(text)) throw new Fault(`${JSON.stringify(text)} is no whole number from 1 to 8`);
+  return Number(text);
+}
+
+const NUMBERS = { octets: octetsOf, samplerate, hold: whole };
 
 const FLAGS = { falling: /** @type {true} */ (true), events: /** @type {true} */ (true) };
 
