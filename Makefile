@@ -3,7 +3,8 @@
 #     make                              proves and builds program and library, with `rt`, where anything has changed, and
 #                                       reports how far it is
 #     make try                          lists an example by the library call, compiled without a proof, in half a minute
-#     make check                        runs the tests of the gate without the proofs (tests/run)
+#     make check                        installs what the tests take (tests/setup), or prints the line that does, and runs
+#                                       those of the gate without the proofs (tests/run)
 #     make version                      writes the program's version into header, man page, Python module and docs/C.md
 #     make page                         builds the page, page/out/port1.html: the analyser as one file for a browser
 #     make install PREFIX=$HOME/.local  all of the following
@@ -94,7 +95,8 @@ try:
 	@packages/try
 
 check: $(PROGRAM) $(SAMPLER)
-	tests/run
+	tests/setup
+	tests/run --all
 
 page:
 	packages/build port1_c lib
@@ -110,10 +112,11 @@ install-program: $(PROGRAM) $(SAMPLER) install-scripts
 		"$(DESTDIR)$(FISHDIR)"
 	install -m 755 $(PROGRAM) "$(DESTDIR)$(BINDIR)/port1"
 	install -m 755 $(SAMPLER) "$(DESTDIR)$(BINDIR)/port1-sample"
-	install -m 644 cli/port1.1 "$(DESTDIR)$(MANDIR)/port1.1"
-	install -m 644 cli/completions/port1.bash "$(DESTDIR)$(BASHDIR)/port1"
-	install -m 644 cli/completions/_port1 "$(DESTDIR)$(ZSHDIR)/_port1"
-	install -m 644 cli/completions/port1.fish "$(DESTDIR)$(FISHDIR)/port1.fish"
+	for name in port1 port1-sample; do \
+		install -m 644 cli/$$name.1 "$(DESTDIR)$(MANDIR)/$$name.1" && \
+		install -m 644 cli/completions/$$name.bash "$(DESTDIR)$(BASHDIR)/$$name" && \
+		install -m 644 cli/completions/_$$name "$(DESTDIR)$(ZSHDIR)/_$$name" && \
+		install -m 644 cli/completions/$$name.fish "$(DESTDIR)$(FISHDIR)/$$name.fish" || exit 1; done
 
 # Puts the files of a folder into one of share/port1/contrib, whose names are older than those here; tests stay here.
 put-in-contrib = find $(1) -mindepth 1 -name tests -prune -o -name port1_scripts -prune -o -name __pycache__ -prune -o \
@@ -175,8 +178,10 @@ dist:
 uninstall:
 	for script in "$(DESTDIR)$(OWNDIR)"/contrib/*; do link="$(DESTDIR)$(BINDIR)/$${script##*/}"; \
 		test ! "$$link" -ef "$$script" || rm -f "$$link"; done
-	rm -f "$(DESTDIR)$(BINDIR)/port1" "$(DESTDIR)$(BINDIR)/port1-sample" "$(DESTDIR)$(MANDIR)/port1.1" \
-		"$(DESTDIR)$(BASHDIR)/port1" "$(DESTDIR)$(ZSHDIR)/_port1" "$(DESTDIR)$(FISHDIR)/port1.fish" "$(DESTDIR)$(LIBDIR)/libport1_c.a" \
+	for name in port1 port1-sample; do \
+		rm -f "$(DESTDIR)$(BINDIR)/$$name" "$(DESTDIR)$(MANDIR)/$$name.1" "$(DESTDIR)$(BASHDIR)/$$name" \
+			"$(DESTDIR)$(ZSHDIR)/_$$name" "$(DESTDIR)$(FISHDIR)/$$name.fish"; done
+	rm -f "$(DESTDIR)$(LIBDIR)/libport1_c.a" \
 		"$(DESTDIR)$(INCLUDEDIR)/port1.h" "$(DESTDIR)$(PKGCONFIGDIR)/port1.pc" "$(DESTDIR)$(LIBDIR)/$(SONAME)" \
 		"$(DESTDIR)$(LIBDIR)/libport1.so" "$(DESTDIR)$(CMAKEDIR)/port1Config.cmake" \
 		"$(DESTDIR)$(CMAKEDIR)/port1ConfigVersion.cmake" \

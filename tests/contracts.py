@@ -7,7 +7,7 @@ from typing import Dict, Iterator, List, NamedTuple, Optional, Set, Tuple
 # What a user of the libraries, the tool or the C library calls; of the crates below the tool what it hands on.
 CRATES = [
     "bus_bits", "bus_formats", "bus_fcs", "bus_line", "bus_dictionary", "bus_pairing", "bus_watch", "bus_tap",
-    "bus_clocks", "port1_c", "bus_examples", "bus_tool", "bus_sample", "bus_sample_tool",
+    "bus_clocks", "port1_c", "bus_examples", "bus_arguments", "bus_tool", "bus_sample", "bus_sample_tool",
 ]
 BELOW = ["bus_text", "bus_calls"]
 
@@ -23,11 +23,16 @@ MODULE = re.compile(r"^pub mod (\w+);", re.MULTILINE)
 
 
 class Clause(NamedTuple):
-    """A clause of a public function; the name is `_` where it has none."""
+    """A clause of a public function, which has its crate before its name where two crates have it; the clause's name is
+    `_` where it has none."""
 
     file: str
     function: str
     name: str
+
+    @property
+    def crate(self) -> str:
+        return self.file.partition("/")[0]
 
 
 def exported(library: str, of: Optional[str] = None) -> Set[str]:
@@ -96,7 +101,17 @@ def public_clauses(crates: Path) -> List[Clause]:
         names = exported(tool, crate) if crate in BELOW else exported(library)
         modules = set() if crate in BELOW else set(MODULE.findall(library))
         found += clauses_of_crate(crates, crate, names, modules)
-    return found
+    return [*told_apart(found)]
+
+
+def told_apart(clauses: List[Clause]) -> Iterator[Clause]:
+    """The clauses, with its crate before the name of a function that several crates have."""
+    having: Dict[str, Set[str]] = {}
+    for each in clauses:
+        having.setdefault(each.function, set()).add(each.crate)
+    for each in clauses:
+        is_one = len(having[each.function]) == 1
+        yield each if is_one else each._replace(function=f"{each.crate}::{each.function}")
 
 
 def tests_in(crates: Path) -> Dict[str, Set[str]]:

@@ -141,7 +141,8 @@ def listings_of(page: Path, jobs: Sequence[Job]) -> List[Tuple[str, Optional[str
         for number, job in enumerate(jobs):
             file = Path(folder, str(number))
             file.write_bytes(job.content)
-            asked.append({"file": str(file), "form": job.form, "kind": job.kind, "dictionary": job.dictionary})
+            rest = {} if job.rest is None else {"rest": job.rest}
+            asked.append({"file": str(file), "form": job.form, "kind": job.kind, "dictionary": job.dictionary, **rest})
         return [(got["text"], got["fault"]) for got in listed(page, asked)]
 
 

@@ -22,6 +22,9 @@ COUNTED = "docs/ARCHITECTURE.md"
 
 ROW = re.compile(r"^\| `(\w+/specs/\w+\.antt)` \| (\d+) \|", re.MULTILINE)
 
+# Where JavaScript stands that is no test.
+MODULES = ["scripts/modules", "page/src"]
+
 SUM = re.compile(r"^These six have (\d+) lines\.", re.MULTILINE)
 
 # The document that lists the other definitions, by crate.
@@ -165,11 +168,12 @@ def folder_of(path: Path) -> Path:
 
 
 def files_with(word: str) -> int:
-    """How many sources and definitions of the crates name a thing, in capitals or small letters."""
+    """How many sources and definitions of the crates, and modules beside them, name a thing, in capitals or small."""
     form = re.compile(rf"\b{word}\b", re.IGNORECASE)
     crates = [path for path in CRATES.iterdir() if (path / "src").is_dir()]
-    texts = (path.read_text(encoding="utf-8") for crate in crates for path in sources(crate) if "proofs" not in path.parts)
-    return sum(1 for text in texts if form.search(text))
+    own = [path for crate in crates for path in sources(crate) if "proofs" not in path.parts]
+    modules = [path for folder in MODULES for path in (TOP / folder).rglob("*.js")]
+    return sum(1 for path in [*own, *modules] if form.search(path.read_text(encoding="utf-8")))
 
 
 def problems_of_changes() -> List[str]:
@@ -179,7 +183,7 @@ def problems_of_changes() -> List[str]:
         change, thing, also = row.strip("| ").split(" | ")
         count = files_with(thing.strip("`"))
         if count < LEAST_FILES:
-            problems.append(f"{change}: {count} files of the crates name {thing}")
+            problems.append(f"{change}: {count} files name {thing}")
         for group in also.split("; "):
             folder = TOP
             for name in re.findall(r"`([\w/-]+(?:\.\w+)*)`", group):

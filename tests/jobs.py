@@ -57,6 +57,7 @@ class Job(NamedTuple):
     form: str
     kind: Union[int, str]
     dictionary: str = ""
+    rest: Optional[int] = None  # what brings the second line to rest, where it is said
 
 
 def bench() -> Bench:
@@ -137,6 +138,9 @@ def generated_jobs(count: int) -> Iterator[Job]:
         marks = arrived(generator, first, second)
         yield text_job(f"two clocks, seed {seed}", marks, "arrivals", dictionary)
         yield Job(f"two clocks, packed, seed {seed}", packed_arrivals(marks), ("--arrivals",), "packed", "arrivals", dictionary)
+        rest = generator.choice([0, 3, 400])
+        words = ("--bits", "--arrivals", f"--rest={rest}")
+        yield Job(f"two clocks, rest {rest}, seed {seed}", marks.encode(), words, "text", "arrivals", dictionary, rest)
 
 
 def traffic_jobs() -> Iterator[Job]:

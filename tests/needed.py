@@ -1,6 +1,8 @@
 """Tests tests/setup with an apt-get that installs nothing or all, and that no test is skipped without a word."""
 
 import contextlib
+import importlib.machinery
+import importlib.util
 import io
 import os
 import re
@@ -8,7 +10,8 @@ import shutil
 import subprocess
 import tempfile
 from pathlib import Path
-from typing import Iterator, List, NamedTuple, Set, Tuple
+from typing import Iterator, List, NamedTuple, Optional, Set, Tuple
+from unittest import mock
 
 from needs import BESIDE, DEBIANS_PYTHON, GATE, SKIPPED, Skipped, report
 
@@ -67,6 +70,30 @@ def problems_of_machine(machine: Machine, folder: Path) -> List[str]:
     return problems
 
 
+class User(NamedTuple):
+    """Who calls tests/setup: the number of the user, the status of sudo, and the words in front of what installs."""
+
+    number: int
+    sudo: int
+    words: Optional[List[str]]
+
+
+USERS = [User(0, 1, []), User(1000, 0, ["sudo", "-n"]), User(1000, 1, None)]
+
+
+def problems_of_user(user: User) -> List[str]:
+    """Root installs, and so does a user whom sudo asks for no password."""
+    loader = importlib.machinery.SourceFileLoader("setup", str(TOP / "tests" / "setup"))
+    module = importlib.util.module_from_spec(importlib.util.spec_from_loader("setup", loader))
+    loader.exec_module(module)
+    ran = subprocess.CompletedProcess([], user.sudo)
+    with mock.patch.object(module.os, "geteuid", lambda: user.number), \
+            mock.patch.object(module.shutil, "which", lambda name: name), \
+            mock.patch.object(module.subprocess, "run", lambda *words, **options: ran):
+        words = module.leave()
+    return [] if words == user.words else [f"{user}: {words}"]
+
+
 def problems_of_report() -> List[str]:
     """Whether a skipped test fails where none may be skipped, and is named in the file of the gate."""
     problems = []
@@ -99,6 +126,8 @@ def problems_of_list() -> List[str]:
 def results_of_needs() -> Iterator[Tuple[str, List[str]]]:
     yield "needs: the list of packages", problems_of_list()
     yield "needs: skipped tests", problems_of_report()
+    for user in USERS:
+        yield f"needs: a user {user.number}, sudo {user.sudo}", problems_of_user(user)
     for machine in MACHINES:
         if os.geteuid() == 0:
             with tempfile.TemporaryDirectory(prefix="port1-") as folder:

@@ -1,4 +1,5 @@
-"""Compares the man page and the completions with the help texts: every option and kind, and no other."""
+"""Compares the man page and the completions with the help texts: every option and kind, and no other; and all that
+brings a second line to rest with the rule of rest: the silence, unless it is said."""
 
 import re
 import subprocess
@@ -20,6 +21,25 @@ ZSH_OPTION = re.compile(r"['{,](--?[\w-]+)(?=[\[,}])")
 
 # An option in a line of a completion for fish.
 FISH_OPTION = re.compile(r" -(s|l) ([\w-]+)")
+
+# Where the silence stands that brings a second line to rest, unless it is said. The first is that of the rule.
+SILENCES = {
+    "crates/bus_tap/src/rest.rt": r"pub const SILENCE: u64 = (\d+);",
+    "crates/bus_arguments/src/arguments.rt": r"^const REST: u64 = (\d+);",
+    "crates/bus_arguments/src/arguments/rows.rt": r'name: "rest",\n    defaults: &\["(\d+)"\]',
+    "c/include/port1.h": r"^#define PORT1_SILENCE (\d+)$",
+    "bindings/python/port1/taps.py": r"^SILENCE = (\d+)$",
+    "scripts/modules/port1.js": r"^export const SILENCE = (\d+);$",
+    "page/index.html": r'id="rest" value="(\d+)"',
+    "scripts/port1_scripts/by_definition.py": r"^SILENCE = (\d+)$",
+    "cli/help/list.txt": r"--rest <N> .*\[default: (\d+)\]",
+    "cli/help/check.txt": r"--rest <N> .*\[default: (\d+)\]",
+    "cli/port1.1": r"^The default is (\d+); with 0 none are put in\.$",
+    "docs/CAPTURES.md": r"After (\d+) places without one \(`--rest N`\)",
+}
+
+# The completions of port1-sample that are looked at as texts.
+SAMPLER = ["_port1-sample", "port1-sample.fish"]
 
 Options = Dict[str, Set[str]]
 
@@ -74,9 +94,9 @@ def words_of_bash(line: str) -> Set[str]:
     quoted = " ".join(f"'{word}'" for word in words)
     script = (
         f'. "$1"; COMP_WORDS=({quoted}); COMP_CWORD={len(words) - 1}; '
-        "_port1; printf '%s\\n' \"${COMPREPLY[@]}\""
+        f"_{words[0].replace('-', '_')}; printf '%s\\n' \"${{COMPREPLY[@]}}\""
     )
-    completion = TOP / "cli" / "completions" / "port1.bash"
+    completion = TOP / "cli" / "completions" / f"{words[0]}.bash"
     ran = subprocess.run(["bash", "-c", script, "bash", completion], capture_output=True, text=True, check=True)
     return set(ran.stdout.split())
 
@@ -132,6 +152,43 @@ def differences(wanted: Set[str], got: Set[str]) -> List[str]:
     return problems + [f"it has {word}, the help text has not" for word in sorted(got - wanted)]
 
 
+def silence_in(file: str) -> List[str]:
+    return re.findall(SILENCES[file], (TOP / file).read_text(encoding="utf-8"), re.MULTILINE)
+
+
+def results_of_silence() -> Iterator[Tuple[str, List[str]]]:
+    """Whether each file tells one silence, that of the rule."""
+    wanted, *others = SILENCES
+    for file in [wanted, *others]:
+        got = silence_in(file)
+        is_it = len(got) == 1 and got == silence_in(wanted)
+        yield f"silence in {file}", [] if is_it else [f"wanted {silence_in(wanted)}, got {got}"]
+
+
+def options_of_sampler(sampler: Path) -> Dict[str, Set[str]]:
+    """The options of port1-sample by its help text, its man page and the texts of its completions."""
+    help_text = subprocess.run([sampler, "--help"], capture_output=True, text=True, check=True).stdout
+    page = (TOP / "cli" / "port1-sample.1").read_text(encoding="ascii")
+    items = " ".join(re.findall(r"^\.It (Fl .*)$", page, re.MULTILINE))
+    texts = {name: (TOP / "cli" / "completions" / name).read_text(encoding="ascii") for name in SAMPLER}
+    return {
+        "help": {word for match in HELP_OPTION.finditer(help_text) for word in match.groups() if word},
+        "man page": {f"-{each}" for each in re.findall(r"Fl (\w)\b(?!\w)", items)}
+        | {f"--{each}" for each in re.findall(r"Fl Fl ([\w-]+)", items)},
+        "bash": words_of_bash("port1-sample "),
+        "zsh": set(re.findall(r"(?<=['{,])(?:\([^)]*\))?(--?[a-zA-Z][\w-]*)(?=[\[,}])", texts["_port1-sample"])),
+        "fish": {
+            f"-{word}" if form == "s" else f"--{word}" for form, word in FISH_OPTION.findall(texts["port1-sample.fish"])
+        },
+    }
+
+
+def results_of_sampler(sampler: Path) -> Iterator[Tuple[str, List[str]]]:
+    wanted, *others = options_of_sampler(sampler).items()
+    for place, options in others:
+        yield f"options of port1-sample in {place}", differences(wanted[1], options)
+
+
 def results_of_options() -> Iterator[Tuple[str, List[str]]]:
     """Each place where options or kinds stand, and how it differs from the help texts."""
     wanted = options_of_help()
@@ -158,3 +215,4 @@ def results_of_options() -> Iterator[Tuple[str, List[str]]]:
         yield f"kinds in {place}", differences(kinds_of_help(), words)
     commands = {word for word in words_of_bash("port1 ") if word[0] != "-"}
     yield "commands in bash", differences({*COMMANDS, "help"}, commands)
+    yield from results_of_silence()

@@ -94,9 +94,15 @@ def part_of(text: str, begin: str, end: str) -> str:
     return text.partition(f"\n{begin}\n")[2].partition(f"\n{end}\n")[0]
 
 
-def digest_of(row: Row) -> str:
-    """A digest of what a row says in words, by which the map holds them."""
-    return hashlib.sha256("|".join(row.words).encode()).hexdigest()[:8]
+def digest_of(said: Sequence[str]) -> str:
+    """A digest of what is said, by which the map holds it as it was last read."""
+    return hashlib.sha256("|".join(said).encode()).hexdigest()[:8]
+
+
+def sealed_by(row: Row, promise: Dict[str, Any]) -> str:
+    """The digest of a row: of its words and clauses, and of the sentences, wrong bodies and tests that the map adds."""
+    keys = ("proved", "readme", "said", "wrong-bodies", "tests")
+    return digest_of([*row.words, *row.clauses, *(each for key in keys for each in [key, *promise.get(key, [])])])
 
 
 def edits_named(row: Row, edits: Set[str]) -> List[str]:

@@ -32,6 +32,7 @@ PLACES = [
     Place("c/include/port1.h", r"^#define PORT1_VERSION_PATCH (\d+)$", 1, 2),
     Place("bindings/python/port1/__init__.py", r'^__version__ = "(.*)"$'),
     Place("cli/port1.1", r"^This page is that of (.*)\.$"),
+    Place("cli/port1-sample.1", r"^This page is that of (.*)\.$"),
     Place("docs/C.md", r'`PORT1_VERSION` is `"([^`]*)"`'),
     Place("docs/C.md", r"^find_package\(port1 (\S+) REQUIRED\)$", 2),
     Place("CHANGELOG.md", r"^## (\d\S*)$"),

@@ -11,7 +11,6 @@
 
 #define MOST 4096
 #define ROOM 512
-#define SILENCE 400
 #define IDLE_ONES 15
 
 static const char *const kinds[] = {"", "frame", "damaged", "overlong", "abort", "idle"};
@@ -100,7 +99,7 @@ int main(int argc, char **argv) {
     wires.first_data = wire(argv[2]);
     wires.second_clock = wire(argv[3]);
     wires.second_data = wire(argv[4]);
-    if (port1_tap_init(&bus.tap, &wires, 1, 0) || port1_rest_init(&bus.rest, SILENCE)
+    if (port1_tap_init(&bus.tap, &wires, 1, 0) || port1_rest_init(&bus.rest, PORT1_SILENCE)
         || port1_clocks_init(&bus.clocks, 256, 0))
         return 2;
     while ((count = fread(octets, 1, sizeof octets, stdin)) > 0)

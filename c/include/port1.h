@@ -347,10 +347,13 @@ uint32_t port1_tap_feed(struct port1_tap *tap, const uint8_t *octets, uint64_t c
 struct port1_rest {
     uint64_t most;   /* the silence that brings the second line to rest, in bits of the first; 0: none does */
     uint64_t silent; /* bits of the first line since the last of the second, up to `most` */
-    uint64_t ones;   /* 1s at the end of the second line, up to fifteen */
+    uint64_t ones;   /* 1s at the end of the second line with those put in, up to fifteen */
 };
 
-/* Makes the rule before the first bit, whatever the memory holds. Returns PORT1_OK. 400 suits a traffic cabinet. */
+/* The silence that suits a traffic cabinet: no sender pauses so long within a frame. */
+#define PORT1_SILENCE 400
+
+/* Makes the rule before the first bit, whatever the memory holds. Returns PORT1_OK. */
 uint32_t port1_rest_init(struct port1_rest *rest, uint64_t most);
 
 /* Takes a bit that arrives. Where `*rests` is then 1, fifteen 1s of the second line arrive right after it, which end a

@@ -112,14 +112,14 @@ MEASURED others(void) {
     status = port1_sender_init(&sender);
     status = port1_pair_init(&pair);
     status = port1_tap_init(&tap, &wires, 1, 2);
-    status = port1_rest_init(&rest, 400);
+    status = port1_rest_init(&rest, PORT1_SILENCE);
     status = port1_clocks_init(&clocks, 256, 0);
 }
 
 int main(void) {
     status = port1_line_init(&line, 256, 0);
     status = port1_tap_init(&tap, &wires, 1, 2);
-    status = port1_rest_init(&rest, 400);
+    status = port1_rest_init(&rest, PORT1_SILENCE);
     status = port1_clocks_init(&clocks, 256, 0);
     for (uint32_t k = 0; k < 256; k++)
         entries[k] = (struct port1_entry){.known = 1, .length = 4, .answered = k < 128, .window = 1536};

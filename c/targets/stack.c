@@ -93,7 +93,7 @@ static void tap_feed(void) {
     for (at = 0; at < sizeof samples;)
         port1_tap_feed(&tap, samples, sizeof samples, 1, &at, arrivals, 8, &arrived);
 }
-static void rest_init(void) { port1_rest_init(&rest, 400); }
+static void rest_init(void) { port1_rest_init(&rest, PORT1_SILENCE); }
 static void rest_push(void) {
     static const struct port1_arrival arrival = {2, 1};
     port1_rest_push(&rest, &arrival, &rests);

@@ -155,7 +155,7 @@ static void any_state(void) {
     WANT(taken > 1000 && limited > 1000 && refused > 1000);
 }
 
-/* The second line comes to rest once, with the third bit of the first line after its own. */
+/* The second line comes to rest with the third bit of the first line after its own, and once up to its next 0. */
 static void rest_of_a_line(void) {
     static const struct {
         struct port1_arrival arrival;
@@ -163,7 +163,9 @@ static void rest_of_a_line(void) {
         uint8_t rests;
     } rows[] = {{{1, 1}, PORT1_OK, 0}, {{1, 1}, PORT1_OK, 0}, {{1, 0}, PORT1_OK, 0}, {{2, 7}, PORT1_OK, 0},
                 {{2, 0}, PORT1_OK, 0}, {{1, 1}, PORT1_OK, 0}, {{1, 1}, PORT1_OK, 0}, {{3, 1}, PORT1_BAD_ARGUMENT, 9},
-                {{0, 1}, PORT1_BAD_ARGUMENT, 9}, {{1, 0}, PORT1_OK, 1}, {{1, 0}, PORT1_OK, 0}};
+                {{0, 1}, PORT1_BAD_ARGUMENT, 9}, {{1, 0}, PORT1_OK, 1}, {{1, 0}, PORT1_OK, 0}, {{2, 1}, PORT1_OK, 0},
+                {{1, 0}, PORT1_OK, 0}, {{1, 0}, PORT1_OK, 0}, {{1, 0}, PORT1_OK, 0}, {{2, 0}, PORT1_OK, 0},
+                {{1, 0}, PORT1_OK, 0}, {{1, 0}, PORT1_OK, 0}, {{1, 0}, PORT1_OK, 1}};
     struct port1_rest rest, before;
     memset(&rest, 0xa5, sizeof rest);
     WANT(port1_rest_init(&rest, 3) == PORT1_OK && rest.most == 3);

@@ -61,6 +61,7 @@ declare module "node:fs" {
   function closeSync(file: number): void;
   function copyFileSync(from: string, to: string): void;
   function existsSync(path: string): boolean;
+  function fsyncSync(file: number): void;
   function fstatSync(file: number): Stats;
   function openSync(path: string, flags: string | number): number;
   function read(
@@ -118,6 +119,7 @@ declare module "node:path" {
   function basename(path: string, suffix?: string): string;
   function dirname(path: string): string;
   function join(...parts: string[]): string;
+  function relative(from: string, to: string): string;
   function resolve(...parts: string[]): string;
 }
 
@@ -163,6 +165,7 @@ declare module "node:util" {
 declare module "node:zlib" {
   import { Readable } from "node:stream";
   function createGzip(options?: { level: number }): Readable;
+  function gzip(octets: Uint8Array, options: object, done: (...found: any[]) => void): void;
   function gunzipSync(octets: Uint8Array): Buffer;
   function createInflateRaw(): Readable;
 }

@@ -14,3 +14,6 @@ export const AROUND = 5;
 
 /** The address of all stations (ISO/IEC 13239, all-station address). */
 export const ALL_STATIONS = 255;
+
+/** After so many bits of the controller without one of the stations their line is brought to rest, unless it is said. */
+export const SILENCE = 400;

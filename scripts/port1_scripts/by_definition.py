@@ -5,7 +5,7 @@
     by-definition ledger [OPTIONS] < CAPTURE
     by-definition python
 
-`list` and `check` write what port1 is proved to write; OPTIONS are those of port1, and --dictionary FILE may stand for
+`list` and `check` write what the library calls behind port1 are proved to write; OPTIONS are those of port1, and --dictionary FILE may stand for
 --dict TEXT. `ledger` writes the counts that bound the work: settled places, octets that are stored, octets of frames,
 and steps of reports; of two lines for each. `python` writes what is run, definition by definition, below the functions
 of the toolchain that a table does. No decoder is written here: what a frame is stands in the definitions alone, and
@@ -30,6 +30,9 @@ from definitions.python import Translation, with_room
 from definitions.values import Case, Items, Record, items_of
 
 MOST_PLACES = 2**60
+
+# What brings a second line with a clock of its own to rest, unless it is said, in bits of the first.
+SILENCE = 400
 
 # What is run, by file and name. A definition in a block with a form takes the form first.
 LISTING = ("bus_calls.specs.Known", "listing_in_all")
@@ -89,14 +92,17 @@ def read_words(words: Optional[Sequence[str]] = None) -> argparse.Namespace:
         forms.add_argument("--two", action="store_true", help="the capture is of two lines")
         if name != "ledger":
             forms.add_argument("--arrivals", action="store_true", help="it has the bits of two lines as they arrived")
-            command.add_argument("--rest", metavar="N", type=manners.natural, default=400)
+            command.add_argument("--rest", metavar="N", type=manners.natural, help="which silence brings rest")
         command.add_argument("--origin", metavar="N", type=whole_number(0, MOST_PLACES), default=0)
         if name == "list":
             add_filters(command)
         if name == "check":
             command.add_argument("--depth", metavar="N", type=whole_number(1, 1024), default=16)
     commands.add_parser("python", help="what is run")
-    return parser.parse_args(words)
+    given = parser.parse_args(words)
+    if vars(given).get("rest") is not None and not given.arrivals:
+        parser.error("--rest needs --arrivals")
+    return given
 
 
 def octets_of_dictionary(words: argparse.Namespace) -> Optional[bytes]:
@@ -137,7 +143,7 @@ class Definitions:
         return Record(
             dictionary=option(None if text is None else Record(now=items_of(text))),
             text=words.bits,
-            rest=given.get("rest", 0),
+            rest=SILENCE if given.get("rest") is None else given["rest"],
             origin=words.origin,
             depth=given.get("depth"),
             station=option(given.get("station")),

@@ -86,6 +86,7 @@ def called_by_hand(folder: Path) -> List[str]:
         (["--extcap-interfaces"], "interface {value=port1}"),
         (["--extcap-interface", "port1", "--extcap-dlts"], "dlt {number=268}"),
         (["--extcap-interface", "port1", "--extcap-config"], "{call=--dictionary}"),
+        (["--extcap-interface", "port1", "--extcap-config"], "{call=--rest}"),
     ):
         got = ran(["port1-extcap", *words])
         problems += [] if wanted in got.stdout.decode() and got.returncode == 0 else [f"{words}: {got}"]

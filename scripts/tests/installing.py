@@ -15,10 +15,16 @@ ONE_FRAME = b"8 49 frame 108300fde5\n"
 
 # What is installed under a name that says what it is for, and the file that it is.
 SAME_FILES = {
-    "share/man/man1/port1.1": "cli/port1.1",
-    "share/bash-completion/completions/port1": "cli/completions/port1.bash",
-    "share/zsh/site-functions/_port1": "cli/completions/_port1",
-    "share/fish/vendor_completions.d/port1.fish": "cli/completions/port1.fish",
+    **{
+        place.format(name): file.format(name)
+        for name in ("port1", "port1-sample")
+        for place, file in [
+            ("share/man/man1/{}.1", "cli/{}.1"),
+            ("share/bash-completion/completions/{}", "cli/completions/{}.bash"),
+            ("share/zsh/site-functions/_{}", "cli/completions/_{}"),
+            ("share/fish/vendor_completions.d/{}.fish", "cli/completions/{}.fish"),
+        ]
+    },
     "include/port1.h": "c/include/port1.h",
     "share/port1/contrib/mcu/build": "c/targets/build",
 }
@@ -282,7 +288,7 @@ def make_check(folder: Path) -> List[str]:
     """What `make check` runs, and `make page`, which is to report the proofs before it builds."""
     needs("make")
     problems = []
-    for target, wanted in {"check": ["tests/run"], "page": ["packages/build port1_c lib", "page/build"]}.items():
+    for target, wanted in {"check": ["tests/setup", "tests/run --all"], "page": ["packages/build port1_c lib", "page/build"]}.items():
         words = ["make", "-n", "-C", TOP, target, f"PROGRAM={os.environ['PORT1']}"]
         ran = subprocess.run(words, capture_output=True, text=True, timeout=SECONDS)
         found = [line for line in ran.stdout.splitlines() if not line.startswith("make")]

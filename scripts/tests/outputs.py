@@ -7,7 +7,7 @@ import stat
 import subprocess
 import time
 from pathlib import Path
-from typing import Any, Dict, List
+from typing import Any, Dict, List, Tuple
 
 from needs import needs
 from tests.case import SCRIPTS, SECONDS, Run, ran
@@ -92,17 +92,24 @@ def reports_into_pipes(folder: Path) -> List[str]:
     return problems
 
 
-def devices_stay(folder: Path) -> List[str]:
-    """A full device refuses what is written, and is a device afterwards."""
+def full_device(folder: Path) -> Tuple[Path, List[str]]:
+    """A full device, and the words in front of a command that may not replace it: a device of one's own needs none."""
     device = folder / "full"
     try:
         os.mknod(device, stat.S_IFCHR | 0o666, os.makedev(1, 7))
         device.open("wb").close()
+        return device, []
     except PermissionError:
-        device = Path("/dev/full")
-    if device == Path("/dev/full") and os.geteuid() == 0:
-        needs("a folder for devices")
-    got = writes(device)
+        nobody = ["setpriv", "--reuid=65534", "--regid=65534", "--clear-groups"]
+        return Path("/dev/full"), nobody if os.geteuid() == 0 else []
+
+
+def devices_stay(folder: Path) -> List[str]:
+    """A full device refuses what is written, and is a device afterwards."""
+    needs("node")
+    device, words = full_device(folder)
+    command = [*words, SCRIPTS / "list-to-pcap", RATE, device]
+    got = subprocess.run(command, input=LISTING, capture_output=True, timeout=SECONDS)
     is_told = b"list-to-pcap: " in got.stderr and b"ENOSPC" in got.stderr and got.stderr.count(b"\n") == 1
     return compared((got.returncode, is_told, stat.S_ISCHR(device.stat().st_mode)), (2, True, True))
 

@@ -72,7 +72,9 @@ SHARED_FILES = {
 # What has another name in the package of the program than in the tarball.
 RENAMED = {
     "share/man/man1/port1.1": "share/man/man1/port1.1.gz",
+    "share/man/man1/port1-sample.1": "share/man/man1/port1-sample.1.gz",
     "share/zsh/site-functions/_port1": "share/zsh/vendor-completions/_port1",
+    "share/zsh/site-functions/_port1-sample": "share/zsh/vendor-completions/_port1-sample",
 }
 
 

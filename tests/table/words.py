@@ -195,6 +195,17 @@ VALUES = [
     ),
     together(["list", "--two", "--arrivals"], "--two", "--arrivals"),
     together(["check", "--two", "--arrivals"], "--two", "--arrivals"),
+    together(["list", "--two", "--rest", "5"], "--two", "--rest <N>"),
+    *[
+        refusal(
+            [command, "--bits", "--rest", "40"],
+            error(
+                "the following required arguments were not provided:\n  --arrivals",
+                usage=USAGES[command],
+            ),
+        )
+        for command in ["list", "check"]
+    ],
     twice(["list", "--bits", "--bits"], "--bits"),
     twice(["check", "--two", "--two"], "--two"),
     twice(["list", "--origin", "1", "--origin", "1"], "--origin <N>"),

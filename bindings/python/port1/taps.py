@@ -20,7 +20,10 @@ from typing import Any, List, NamedTuple, Optional, Tuple
 from . import LONGEST, OK, PLACE_LIMIT, LineState, Octets, OutOfRange, PlaceLimit, Report, ReportState
 from . import decoder_words, held_octets, limit, loaded, refusal, reported
 
-__all__ = ["Arrival", "Gap", "LineFacts", "Occurrences", "RestRule", "Tap", "TwoClocks", "Wire"]
+__all__ = ["SILENCE", "Arrival", "Gap", "LineFacts", "Occurrences", "RestRule", "Tap", "TwoClocks", "Wire"]
+
+# The silence that suits a traffic cabinet, in bits of line 1.
+SILENCE = 400
 
 # Bits of a sample, octets that it may have, and how many arrivals a call has room for.
 WIRES = 64
@@ -293,7 +296,7 @@ class TwoClocks:
 class RestRule:
     """Brings line 2 to rest where its clock has stopped: after `silence` bits of line 1 without one of its own."""
 
-    def __init__(self, silence: int = 400):
+    def __init__(self, silence: int = SILENCE):
         if not 0 <= silence < 1 << 64:
             raise OutOfRange(f"a silence is 0 to 2^64 - 1 bits, not {silence}")
         self._library = loaded()

@@ -40,11 +40,12 @@ rests-on most xs [] =
     record { taken = []; is = ap (rested most) (append-nil xs) ∙ sym (append-nil (rested most xs)) }
 rests-on most xs (y ∷ ys) =
     let on = rests-on most (xs ++ y ∷ []) ys in
-    let one = y ∷ fill (comes_to_rest most (xs ++ y ∷ [])) in
+    let comes = comes_to_rest most (rested most xs ++ y ∷ []) in
+    let one = y ∷ fill comes in
     record {
       taken = one ++ on.taken;
       is = ap (rested most) (sym (append_assoc xs (y ∷ []) ys)) ∙ on.is
-          ∙ ap (λ (zs : List Arrival). zs ++ on.taken) (rested-more most xs y (comes_to_rest most (xs ++ y ∷ [])) refl)
+          ∙ ap (λ (zs : List Arrival). zs ++ on.taken) (rested-more most xs y comes refl)
           ∙ append_assoc (rested most xs) one on.taken;
     }
 

@@ -1,8 +1,9 @@
-//! What the tests of several crates share: dictionaries' texts, worked lists as words, the bits of words, and numbers
-//! that look random. Nothing of what is tested is in it, so that it is proved beside that.
+//! What the tests of several crates share: dictionaries' texts, worked lists as words, the bits of words, numbers that
+//! look random, and readers and writers that fail. It is proved beside what is tested, and has nothing of it.
 #![tactic(auto)]
 
 mod dictionaries;
+pub mod fakes;
 mod numbers;
 mod round;
 mod table;

@@ -6,6 +6,7 @@ pub mod LocatedLemmas
 pub mod LinesLemmas
 pub mod QuietLemmas
 pub mod RestLemmas
+mod RestLawLemmas
 pub mod SampledLemmas
 pub mod SameSampleLemmas
 pub mod CountedLemmas

@@ -12,7 +12,7 @@ use Rattle.bus_tap.specs.Arrival.{Arrival, arrivals_from, own}
 use Rattle.bus_tap.specs.Rested.{rested, silence, RestState, IsRestAfter}
 use Rattle.bus_tap.proofs.ArrivalLemmas.{own-append, arrivals-first, arrivals-last}
 use Rattle.bus_tap.proofs.RestLemmas.{rested-more, comes-first, comes-second, after-first, after-second, ones-more}
-use Rattle.bus_tap.proofs.RestLemmas.{ones-none, silence-second}
+use Rattle.bus_tap.proofs.RestLemmas.{ones-append, ones-none, silence-second, silent-first}
 
 -- no so many arrivals bring the second line to rest
 abbrev pub IsQuiet : RestState → ℕ → Type 0
@@ -53,7 +53,8 @@ quiet-many r xs ((First, bit) ∷ ys) after within quiet =
     let x : Arrival = (First, bit) in
     let none = comes-first r xs bit after within ∙ no-rest r.silent r.most r.ones (length ys) quiet in
     ap (rested r.most) (sym (append_assoc xs (x ∷ []) ys))
-    ∙ (quiet-many (record r { silent = min r.most (r.silent + 1) }) (xs ++ x ∷ []) ys (after-first r xs bit after)
+    ∙ (quiet-many (record r { silent = min r.most (r.silent + 1) }) (xs ++ x ∷ []) ys
+    (after-first r xs bit after false none)
     (omega arith) (quiet-first r (length ys) quiet)
     ∙ (ap (λ (zs : List Arrival). zs ++ ys) (rested-more r.most xs x false none)
     ∙ append_assoc (rested r.most xs) (x ∷ []) ys))
@@ -63,32 +64,35 @@ quiet-many r xs ((Second, bit) ∷ ys) after within quiet =
     ap (rested r.most) (sym (append_assoc xs (x ∷ []) ys))
     ∙ (quiet-many (record r { silent = 0; ones = ones }) (xs ++ x ∷ []) ys (after-second r xs bit after)
     (omega arith) (quiet-second r (length ys) ones quiet)
-    ∙ (ap (λ (zs : List Arrival). zs ++ ys) (rested-more r.most xs x false (comes-second r.most xs bit))
+    ∙ (ap (λ (zs : List Arrival). zs ++ ys) (rested-more r.most xs x false (comes-second r.most (rested r.most xs) bit))
     ∙ append_assoc (rested r.most xs) (x ∷ []) ys))
 
 -- ---- what the rule keeps
 
--- bits of the first line alone
-pub after-firsts : (r : RestState) (xs zs : List Arrival) → IsRestAfter r xs → own Second zs ≡ [] →
-    IsRestAfter (record r { silent = min r.most (r.silent + length zs) }) (xs ++ zs)
-after-firsts r xs [] after alone = rw (append-nil xs) (record {
-  silent = λ some. let is = after.silent some in omega (arith, is);
-  ones = after.ones;
-})
-after-firsts r xs ((First, bit) ∷ zs) after alone =
-    let next : RestState = record r { silent = min r.most (r.silent + 1) } in
-    let rest = after-firsts next (xs ++ (First, bit) ∷ []) zs (after-first r xs bit after) alone in
-    let same : min r.most (min r.most (r.silent + 1) + length zs) ≡ min r.most (r.silent + suc (length zs)) =
-    omega arith in
-    rw (append_assoc xs ((First, bit) ∷ []) zs, same) at rest
-after-firsts r xs ((Second, bit) ∷ zs) after alone = absurd (cc)
+-- how long the second line is silent, with bits of the first line alone
+pub silent-firsts : (most silent : ℕ) (xs zs : List Arrival) →
+    (1 ≤ length (own Second xs) → silent ≡ min most (silence xs)) → own Second zs ≡ [] →
+    1 ≤ length (own Second (xs ++ zs)) → min most (silent + length zs) ≡ min most (silence (xs ++ zs))
+silent-firsts most silent xs [] is alone some =
+    let had : 1 ≤ length (own Second xs) = rw (append-nil xs) at some in
+    rw (append-nil xs) (omega (arith, is had))
+silent-firsts most silent xs ((First, bit) ∷ zs) is alone some =
+    let ys = xs ++ (First, bit) ∷ [] in
+    let whole : xs ++ ((First, bit) ∷ zs) ≡ ys ++ zs = sym (append_assoc xs ((First, bit) ∷ []) zs) in
+    let next = silent-firsts most (min most (silent + 1)) ys zs (silent-first most silent xs bit is) alone
+    (rw whole at some) in
+    omega (arith, next, ap silence whole)
+silent-firsts most silent xs ((Second, bit) ∷ zs) is alone some = absurd (cc)
+
+-- with one of the second line behind all others
+pub silent-last : (most : ℕ) (xs zs : List Arrival) (bit : Bool) →
+    0 ≡ min most (silence (xs ++ (zs ++ (Second, bit) ∷ [])))
+silent-last most xs zs bit =
+    let whole : xs ++ (zs ++ (Second, bit) ∷ []) ≡ (xs ++ zs) ++ (Second, bit) ∷ [] =
+    sym (append_assoc xs zs ((Second, bit) ∷ [])) in
+    omega (arith, ap silence whole, silence-second (xs ++ zs) bit)
 
 -- the ones at the end, with others before them
-ones-append : (k : ℕ) (a b : List Bool) → ones_after k (a ++ b) ≡ ones_after (ones_after k a) b
-ones-append k [] b = refl
-ones-append k (true ∷ a) b = ones-append (suc k) a b
-ones-append k (false ∷ a) b = ones-append 0 a b
-
 ones-few : (k : ℕ) (b : List Bool) → min 15 (ones_after (min 15 k) b) ≡ min 15 (ones_after k b)
 ones-few k [] = omega arith
 ones-few k (false ∷ b) = refl
@@ -97,20 +101,13 @@ ones-few k (true ∷ b) =
     sym (ones-few (suc (min 15 k)) b)
     ∙ (ap (λ (n : ℕ). min 15 (ones_after n b)) same ∙ ones-few (suc k) b)
 
--- arrivals of which the last is one of the second line
-pub after-last : (r : RestState) (xs zs : List Arrival) (bit : Bool) → IsRestAfter r xs →
-    IsRestAfter (record r { silent = 0; ones = min 15 (ones_after r.ones (own Second (zs ++ (Second, bit) ∷ []))) })
-    (xs ++ (zs ++ (Second, bit) ∷ []))
-after-last r xs zs bit after =
-    let x : List Arrival = (Second, bit) ∷ [] in
-    let whole : xs ++ (zs ++ x) ≡ (xs ++ zs) ++ x = sym (append_assoc xs zs x) in
-    record {
-      silent = λ some. omega (arith, ap silence whole, silence-second (xs ++ zs) bit);
-      ones = ap (λ (k : ℕ). min 15 (ones_after k (own Second (zs ++ x)))) after.ones
-          ∙ (ones-few (ones_after 15 (own Second xs)) (own Second (zs ++ x))
-          ∙ ap (min 15) (sym (ones-append 15 (own Second xs) (own Second (zs ++ x)))
-          ∙ ap (ones_after 15) (sym (own-append Second xs (zs ++ x)))));
-    }
+pub ones-on : (k : ℕ) (xs ys zs : List Arrival) → k ≡ min 15 (ones_after 15 (own Second xs)) → ys ≡ xs ++ zs →
+    min 15 (ones_after k (own Second zs)) ≡ min 15 (ones_after 15 (own Second ys))
+ones-on k xs ys zs is whole =
+    ap (λ (n : ℕ). min 15 (ones_after n (own Second zs))) is
+    ∙ (ones-few (ones_after 15 (own Second xs)) (own Second zs)
+    ∙ ap (min 15) (sym (ones-append 15 (own Second xs) (own Second zs))
+    ∙ ap (ones_after 15) (sym (own-append Second xs zs) ∙ ap (own Second) (sym whole))))
 
 -- ---- bits of the second line among those of octets
 

@@ -1,13 +1,30 @@
 -- Laws over the definitions.
-use Rattle.std.specs.Prelude.{◌≡◌, ◌↔◌, ℕ, ◌+◌, Bool, List, [], ◌∷◌, ◌++◌, replicate}
-use Rattle.bus_pairing.specs.declared.line.Line.TheVariants.{First}
+use Rattle.std.specs.Prelude.{◌≡◌, ◌↔◌, ℕ, ◌+◌, ◌<◌, ◌≤◌, Bool, true, List, [], ◌∷◌, ◌++◌, replicate}
+use Rattle.std.specs.List.{list_all}
+use Rattle.bus_pairing.specs.declared.line.Line.TheVariants.{First, Second}
 use Rattle.bus_tap.specs.Arrival.{Arrival, own, arrived, decides}
-use Rattle.bus_tap.specs.Rested.{rested}
+use Rattle.bus_tap.specs.Rested.{rested, rests, silence}
 use Rattle.bus_tap.specs.Sampled.{Channel, IsCounted, counted_level, sampled}
 
 -- the rule of rest puts no bit into the first line, so that all places stay
 abbrev pub RestLeavesFirst : Type 0
 RestLeavesFirst = (most : ℕ) (xs : List Arrival) → own First (rested most xs) ≡ own First xs
+
+-- where the second line is silent for `most` places, it is at rest
+abbrev pub SilenceBringsRest : Type 0
+SilenceBringsRest = (most : ℕ) (xs : List Arrival) → 1 ≤ most → most ≤ silence xs →
+    rests (own Second (rested most xs)) ≡ true
+
+-- a second line at rest stays there up to its next 0, and nothing is put in
+abbrev pub RestStays : Type 0
+RestStays = (most : ℕ) (xs ys : List Arrival) → rests (own Second (rested most xs)) ≡ true →
+    list_all (λ bit. bit) (own Second ys) ≡ true → rested most (xs ++ ys) ≡ rested most xs ++ ys
+
+-- among arrivals with which the second line is never silent for `most` places, nothing is put in
+abbrev pub RestNeedsSilence : Type 0
+RestNeedsSilence = (most : ℕ) (xs ys : List Arrival) →
+    ((zs ws : List Arrival) → ys ≡ zs ++ ws → silence (xs ++ zs) < most) →
+    rested most (xs ++ ys) ≡ rested most xs ++ ys
 
 -- which level counts is computed
 abbrev pub CountedIsIt : Type 0

@@ -20,13 +20,13 @@ const IDLE_ONES: u64 = 15;
 ///
 /// After a number of bits of the first line without one of the second, fifteen 1s arrive on the second line.
 /// A piece that a station broke off then ends in an abort. Where the second line rests already, nothing is
-/// put in. It rests where its last fifteen bits are 1s, and before its first bit.
+/// put in. It rests where its last fifteen bits are 1s, with those put in, and before its first bit.
 #[derive(Drop)]
 pub struct RestRule {
     most: u64,
     /// Bits of the first line since the last of the second, up to `most`.
     silent: u64,
-    /// 1s at the end of the second line, up to fifteen.
+    /// 1s at the end of the second line with those put in, up to fifteen.
     ones: u64,
 }
 
@@ -78,7 +78,7 @@ impl RestRule {
         self.silent
     }
 
-    /// How many 1s are at the end of the second line, up to fifteen.
+    /// How many 1s are at the end of the second line with those put in, up to fifteen.
     pub fn ones(&self) -> u64
         ensures value { result ≡ self.now.ones }
         ensures within { result ≤ 15 }
@@ -124,6 +124,8 @@ impl RestRule {
     pub fn pass(&mut self, bits: &[u8], lines: &[u8], count: usize)
         requires enough { (count ≤ 8 * length bits.now) × (count ≤ 8 * length lines.now) }
         ensures after { (xs : List Arrival) → IsRestAfter self.old xs →
+            rested self.old.most (xs ++ arrivals_from bits.now lines.now 0 count)
+            ≡ rested self.old.most xs ++ arrivals_from bits.now lines.now 0 count →
             IsRestAfter self.new (xs ++ arrivals_from bits.now lines.now 0 count) }
         ensures most { self.new.most ≡ self.old.most }
     {
@@ -140,14 +142,21 @@ impl RestRule {
     fn push_first(&mut self) -> bool
         ensures comes { result ≡ (nat_lt self.old.silent self.old.most
             && ((self.old.silent + 1 == self.old.most) && nat_lt self.old.ones 15)) }
-        ensures silent { self.new ≡ record self.old { silent = min self.old.most (self.old.silent + 1) } }
+        ensures stands { self.new ≡ record self.old {
+          silent = min self.old.most (self.old.silent + 1);
+          ones = if result then 15 else self.old.ones;
+        } }
         ensures within { self.old.silent ≤ self.old.most }
     {
         if self.silent >= self.most {
             return false;
         }
         self.silent += 1;
-        self.silent == self.most && self.ones < IDLE_ONES
+        let comes = self.silent == self.most && self.ones < IDLE_ONES;
+        if comes {
+            self.ones = IDLE_ONES;
+        }
+        comes
     }
 
     /// A bit of the second line arrives.

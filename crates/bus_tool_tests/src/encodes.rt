@@ -1,7 +1,7 @@
 //! Lines that are encoded.
 
 use crate::expect::{holds, same};
-use crate::fakes::{Fixed, Narrow, Pieces, Repeated};
+use bus_rows::fakes::{Fixed, Narrow, Pieces, Repeated};
 use bus_tool::{ToolFault, encode_frames};
 use std::alloc::Global;
 use std::process::Abort;

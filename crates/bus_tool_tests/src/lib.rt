@@ -9,13 +9,9 @@ mod encodes;
 #[cfg(test)]
 mod expect;
 #[cfg(test)]
-mod fakes;
-#[cfg(test)]
 mod listings;
 #[cfg(test)]
 mod program;
-#[cfg(test)]
-mod samples;
 #[cfg(test)]
 mod shows;
 #[cfg(test)]

@@ -1,13 +1,13 @@
 //! Captures by honest and by failing readers and writers.
 
 use crate::expect::{holds, same};
-use crate::fakes::{Counted, Faltering, Fixed, Narrow, Pieces, Repeated};
 use crate::worked::{
     CALL, CALL_AND_REPLY, CALL_AND_REPLY_TEXT, CALL_TEXT, FLAG, IDLE, MISSING_AND_SPOILT_REPORT,
     NONE, ONE_CALL_TEXT, PACKED, REPLY, joined, of_text, run_over,
 };
 use bus_dictionary::DictFault;
 use bus_rows::CALLS;
+use bus_rows::fakes::{Counted, Faltering, Fixed, Narrow, Pieces, Repeated};
 use bus_tool::{Options, Summary, ToolFault, check_capture, list_capture};
 use std::alloc::{AllocError, Global};
 use std::fmt::Display;

@@ -1,12 +1,12 @@
 //! The program, by its words.
 
 use crate::expect::{holds, same};
-use crate::fakes::{Fixed, Narrow};
 use crate::worked::{
     CALL_ON_FIRST, CALL_TEXT, ONE_CALL_TEXT, PACKED, PACKED_TWO, REPLY_ON_SECOND, TWO_LINES_REPORT,
     TWO_LINES_TEXT, marked,
 };
 use bus_rows::CALLS;
+use bus_rows::fakes::{Fixed, Narrow};
 use bus_tool::run;
 use std::alloc::Global;
 use std::process::Abort;

@@ -1,8 +1,8 @@
 //! Frames that are typed.
 
 use crate::expect::{holds, same};
-use crate::fakes::Fixed;
 use bus_rows::POLLS;
+use bus_rows::fakes::Fixed;
 use bus_tool::{ToolFault, show_frame};
 
 /// Frames with a good check and with a bad one, and what is no frame.

@@ -3,12 +3,12 @@
 ghost use Rattle.std.specs.Prelude.{◌≤◌};
 
 use crate::expect::{holds, same};
-use crate::fakes::{Counted, Pieces, Repeated};
 use crate::listings::spaced;
 use crate::worked::{
     ANSWERED, CALL_AND_REPLY, CALL_AND_REPLY_REPORT, CALL_AND_REPLY_TEXT, joined, of_text, run_over,
 };
 use bus_rows::CALLS;
+use bus_rows::fakes::{Counted, Pieces, Repeated};
 use bus_tool::{Options, ToolFault, encode_frames, run};
 use std::alloc::Global;
 use std::fmt::Display;

@@ -18,7 +18,7 @@ pub struct Port1Rest {
     pub most: u64,
     /// Bits of the first line since the last of the second, up to `most`.
     pub silent: u64,
-    /// 1s at the end of the second line, up to fifteen.
+    /// 1s at the end of the second line with those put in, up to fifteen.
     pub ones: u64,
 }
 

@@ -1,13 +1,11 @@
 import { OPEN } from "../../../scripts/modules/listing/kinds.js";
+import { SILENCE } from "../../../scripts/modules/port1.js";
 import { longestOf } from "./decoder.js";
 import { ARRIVAL, CLOCKS, REPORT, REST } from "./layout.js";
 import { Reporter } from "./reporter.js";
 
 /** @typedef {import("../../../scripts/modules/dictionary/dictionary.js").Entry} Entry */
 /** @typedef {import("./library.js").Library} Library */
-
-/** So many bits of the first line without one of the second bring the second to rest. */
-const SILENCE = 400n;
 
 /** Decodes two lines with a clock each, whose bits come in the order of arrival. */
 export class ClockedDecoder {
@@ -19,8 +17,8 @@ export class ClockedDecoder {
   first = 0;
   past = 0;
 
-  /** @param {Library} library @param {Entry[]|null} entries of a dictionary */
-  constructor(library, entries) {
+  /** @param {Library} library @param {Entry[]|null} entries of a dictionary @param {number} silence that brings rest */
+  constructor(library, entries, silence = SILENCE) {
     this.library = library;
     this.reporter = new Reporter(library, entries);
     const memory = [CLOCKS.size, REST.size, ARRIVAL.size, REPORT.size, 1, 8, 8].map((size) => library.allocate(size));
@@ -28,7 +26,7 @@ export class ClockedDecoder {
     const [clocks, rest, arrival, report, flag, first, past] = memory.map(BigInt);
     this.pointers = { clocks, rest, arrival, report, flag, first, past };
     library.demand(library.calls.port1_clocks_init(clocks, BigInt(longestOf(entries)), 0n), "port1_clocks_init");
-    library.demand(library.calls.port1_rest_init(rest, SILENCE), "port1_rest_init");
+    library.demand(library.calls.port1_rest_init(rest, BigInt(silence)), "port1_rest_init");
   }
 
   get listing() {

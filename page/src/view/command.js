@@ -1,8 +1,16 @@
+import { SILENCE } from "../../../scripts/modules/port1.js";
+
 /**
  * How \`port1\` is told the kind of a capture.
  * @type {Record<import("./page.js").CaptureKind, string[]>}
  */
 const KINDS = { 1: [], 2: ["--two"], arrivals: ["--arrivals"] };
+
+/**
+ * The silence that brings a second line to rest, as it is written in the field for it.
+ * @param {string} text
+ */
+export const restOf = (text) => (text.trim() === "" ? SILENCE : Math.max(0, Math.trunc(Number(text) || 0)));
 
 /**
  * The command that lists the same.
@@ -16,7 +24,8 @@ export function commandOf(job, name) {
   const kind = isRecording ? (job.channels.length > 2 ? "arrivals" : 1) : job.kind;
   const bits = job.form === "text" || isRecording ? ["--bits"] : [];
   const dictionary = job.dictionary ? ['--dict "$(cat DICTIONARY)"'] : [];
-  const list = ["port1 list", ...bits, ...KINDS[kind], ...dictionary].join(" ");
+  const rest = kind === "arrivals" && job.rest !== SILENCE ? [`--rest ${job.rest}`] : [];
+  const list = ["port1 list", ...bits, ...KINDS[kind], ...rest, ...dictionary].join(" ");
   const file = quoted(name);
   if (!isRecording) return `The same listing: ${list} < ${file}`;
   const data = [job.channels[1], job.channels[job.channels.length - 1]];

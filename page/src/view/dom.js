@@ -1,7 +1,7 @@
 /**
  * What elements are that are more than a plain one, by their ids. The decoder is not in a report, which has a listing.
  * @typedef {Record<"file"|"form"|"query-kind"|`channel-${number}`, HTMLSelectElement>
- *   & Record<"files"|"folder"|"rate"|"falling"|`inverted-${number}`, HTMLInputElement>
+ *   & Record<"files"|"folder"|"rate"|"rest"|"falling"|`inverted-${number}`, HTMLInputElement>
  *   & Record<"query-text"|"query-station"|"query-type"|"query-second"|"query-idle", HTMLInputElement>
  *   & Record<"read"|"draft"|`tab-${string}`, HTMLButtonElement>
  *   & Record<"settings"|"query", HTMLFormElement>

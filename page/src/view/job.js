@@ -11,6 +11,7 @@
  * @property {string[]} channels of a recording
  * @property {boolean} rising whether bits are taken at rising edges
  * @property {number} inverted which lines' data is: 1, 2, or 3 for both
+ * @property {number} rest after how many bits of the first line without one of the second this is brought to rest
  * @property {number} rate in bits a second
  * @property {string} dictionary its text, or nothing
  * @property {import("../worker/desk.js").Begin|null} begin when place 0 was, where that is known

@@ -6,6 +6,7 @@ import { aboutOf } from "../../../scripts/modules/watch/words.js";
 import { callerOf } from "../worker/rpc.js";
 import { Banners } from "./banners.js";
 import { Clock } from "./clock.js";
+import { restOf } from "./command.js";
 import { DictionaryPane } from "./dictionary.js";
 import { element, fillList, make, save } from "./dom.js";
 import { octetsOf, unpacked } from "./embedded.js";
@@ -300,6 +301,7 @@ class Page {
     return {
       ...{ kind, ...chosen, channels: this.found.channels.length > 0 ? this.files.channels() : [] },
       ...{ rising: !element("falling").checked, inverted: this.files.inverted(), file },
+      rest: restOf(element("rest").value),
       rate: Number(element("rate").value) || RATE,
       dictionary: this.dictionary.text,
       begin: this.zero,

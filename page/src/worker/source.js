@@ -28,6 +28,7 @@ import { inWholeLines, piecesOf } from "./pieces.js";
  * @property {string[]} channels of a recording: clock and data of one line, or as recording-to-bits takes them
  * @property {boolean} rising whether bits are taken at rising edges of the clock
  * @property {number} [inverted] which lines' data is inverted: 1, 2, or 3 for both
+ * @property {number} [rest] after how many bits of the first line without one of the second this is brought to rest
  * @property {Uint8Array|null} engine the decoder's module
  * @property {undefined} [end] which its bits tell
  */
@@ -93,11 +94,12 @@ export async function read(job, heard) {
  * @param {Kind} kind
  * @param {import("../engine/library.js").Library} library
  * @param {Entries} entries
+ * @param {number} [rest]
  */
-function roadOf(kind, library, entries) {
+function roadOf(kind, library, entries, rest) {
   if (kind === "arrivals") {
     const bits = new KeptArrivals();
-    const decoder = new ClockedDecoder(library, entries);
+    const decoder = new ClockedDecoder(library, entries, rest);
     return { bits, decoder, sink: new Arrivals(bits, decoder) };
   }
   const bits = new KeptBits();
@@ -121,7 +123,7 @@ async function readOnce(job, heard) {
   if (!job.engine) throw new Fault("this browser cannot decode captures: it lacks 64-bit memory for WebAssembly");
   const kind = kindOf(job);
   const library = libraryOf(job.engine);
-  const { bits, decoder, sink } = roadOf(kind, library, job.entries);
+  const { bits, decoder, sink } = roadOf(kind, library, job.entries, job.rest);
   const told = { notes: /** @type {string[]} */ ([]), warnings: /** @type {Warning[]} */ ([]) };
   try {
     if (isRecording(job)) await takeRecording(/** @type {RecordingSource} */ (job), library, sink, told, heard);
@@ -190,7 +192,7 @@ async function takeRecording(source, library, sink, { notes, warnings }, heard) 
   } finally {
     sink.flush();
     const when = new Moments(recording.ticks, recording.begin());
-    warnings.push(...doubtsOf(sampler.facts, recording.names, { rising, when }));
+    warnings.push(...doubtsOf(sampler.facts, recording.names, { rising, when, isSampled: !recording.hasRuns }));
     notes.push(edgesOf(sampler.facts, recording.names), ...warnings.map(({ text }) => `warning: ${text}`));
   }
 }

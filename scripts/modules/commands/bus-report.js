@@ -9,7 +9,7 @@ import { channelsOf, formOfRecording } from "../recording/forms.js";
 import { sessionOf } from "../recording/session.js";
 import { samplerate } from "../recording/units.js";
 import { wiresAmong } from "../recording/usual.js";
-import { misuse, run, warn, wordOf, wordsOf, write, writeText } from "./command.js";
+import { misuse, run, warn, whole, wordOf, wordsOf, write, writeText } from "./command.js";
 import { piecesOf } from "./facts.js";
 import { FilePart, inflated } from "./file.js";
 import { page, programNamed } from "./program.js";
@@ -102,7 +102,7 @@ class Steps {
 }
 
 const OPTIONS = {
-  ...{ dictionary: String, title: String, samplerate: String, invert: String },
+  ...{ dictionary: String, title: String, samplerate: String, invert: String, rest: whole },
   falling: /** @type {true} */ (true),
 };
 
@@ -172,12 +172,14 @@ run(async () => {
   const given = values.dictionary ? dictionaryIn(values.dictionary) : null;
   const channels = named.length > 0 ? named : await wiresOf(recording);
   if (values.invert) checkInverted(values.invert, channels);
+  if (channels.length <= 2 && values.rest !== undefined) throw misuse("--rest is for a recording of two lines");
   const steps = made(folder);
   const [bits, listing, dictionary] = [FILES.bits, FILES.listing, FILES.dictionary].map((name) => steps.path(name));
   warn(`channels ${channels.join(", ")}`);
   steps.command("recording-to-bits", [...passedOn(values), ...channels], recording, FILES.bits, FILES.notes);
   const notes = readFileSync(steps.path(FILES.notes), "utf8");
-  const list = ["list", "--bits", ...(channels.length > 2 ? ["--arrivals"] : [])];
+  const rest = values.rest === undefined ? [] : [`--rest=${values.rest}`];
+  const list = ["list", "--bits", ...(channels.length > 2 ? ["--arrivals"] : []), ...rest];
   if (given !== null) writeFileSync(dictionary, given);
   else {
     steps.run(programNamed("port1"), list, bits, FILES.listing);

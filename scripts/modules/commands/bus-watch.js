@@ -3,12 +3,12 @@ import { Fault } from "../fault.js";
 import { RATE } from "../port1.js";
 import { DayTime } from "../statistics/day-time.js";
 import { refusalOf } from "../watch/decoder.js";
-import { ARRIVALS, PAIRS } from "../watch/forms.js";
+import { PAIRS, arrivalsOf } from "../watch/forms.js";
 import { roomOf } from "../watch/limits.js";
 import { Input, Source } from "../watch/source.js";
 import { RecordedWall, Wall, iso } from "../watch/wall.js";
 import { Watch } from "../watch/watch.js";
-import { misuse, run, warn, wordsOf, writeText } from "./command.js";
+import { misuse, run, warn, whole, wordsOf, writeText } from "./command.js";
 import { programNamed } from "./program.js";
 import { onEndOfStream } from "./signals.js";
 
@@ -58,7 +58,7 @@ const safely = (write) => (/** @type {string} */ text) => {
 const timeOf = (text) => new DayTime(text).begin / 1000;
 
 const OPTIONS = {
-  ...{ dictionary: String, source: String, two: /** @type {true} */ (true), begin: timeOf },
+  ...{ dictionary: String, source: String, two: /** @type {true} */ (true), rest: whole, begin: timeOf },
   ...{ before: seconds, after: seconds, longest: seconds, lost: seconds, gap: gapsOf },
   ...{ ring: roomOf, keep: roomOf, floor: roomOf, prometheus: String, run: String },
 };
@@ -161,12 +161,13 @@ class Duty {
 run(async () => {
   const { values, words: [folder] } = wordsOf(OPTIONS, ["FOLDER"]);
   if (values.dictionary === undefined) throw misuse("there is no --dictionary");
+  if (values.two && values.rest !== undefined) throw misuse("--rest is for bits in order of arrival, not for --two");
   const program = programNamed("port1");
   const readDictionary = () => dictionaryOf(/** @type {string} */ (values.dictionary), program);
   const wall = values.begin === undefined ? new Wall(values.lost ?? 0.5) : new RecordedWall(values.begin);
   const { before = 10, after = 10, longest = 120, ring = 4 * 2 ** 30, keep = 2 ** 30, floor = 2 ** 29 } = values;
   const watch = new Watch({
-    ...{ folder, program, form: values.two ? PAIRS : ARRIVALS },
+    ...{ folder, program, form: values.two ? PAIRS : arrivalsOf(values.rest) },
     ...{ limits: { before, after, longest, ring, keep, floor }, gaps: values.gap ?? new Map(), wall },
     dictionary: readDictionary(),
     ...{ prometheus: values.prometheus, run: values.run, write: safely(writeText), warn: safely(warn) },

@@ -3,9 +3,10 @@ import { openSync, readFileSync } from "node:fs";
 import { ListingReader } from "../listing/read.js";
 import { PCAPNG_HEAD, pcapngOf } from "../pcap/forms.js";
 import { Packets } from "../pcap/packets.js";
-import { RATE } from "../port1.js";
+import { RATE, SILENCE } from "../port1.js";
+import { PAIRS, arrivalsOf } from "../watch/forms.js";
 import { Source } from "../watch/source.js";
-import { misuse, run, warn, wordsOf, write, writeText } from "./command.js";
+import { misuse, run, warn, whole, wordsOf, write, writeText } from "./command.js";
 import { programNamed } from "./program.js";
 import { onEndOfStream } from "./signals.js";
 
@@ -23,6 +24,7 @@ const TYPES = "dlt {number=268}{name=SDLC}{display=SDLC}\n";
 const DIALOG = `arg {number=0}{call=--source}{display=Command that writes bits}{type=string}{placeholder=sigrok-cli .. | recording-to-bits ..}
 arg {number=1}{call=--dictionary}{display=Dictionary}{type=fileselect}{mustexist=true}
 arg {number=2}{call=--two}{display=Pairs of bits, not in order of arrival}{type=boolflag}
+arg {number=3}{call=--rest}{display=Silence that ends an answer, in bits; 0 for none}{type=unsigned}{default=${SILENCE}}
 `;
 
 /** How long a frame is held back for what may still be said of it, in milliseconds. */
@@ -31,15 +33,15 @@ const HELD = 300;
 /**
  * @type {Record<"extcap-interfaces"|"extcap-dlts"|"extcap-config"|"capture"|"two", true>
  *   & Record<"extcap-interface"|"extcap-version"|"extcap-capture-filter"|"extcap-reload-option", typeof String>
- *   & Record<"fifo"|"source"|"dictionary", typeof String>}
+ *   & Record<"fifo"|"source"|"dictionary", typeof String> & { rest: typeof whole }}
  */
 const OPTIONS = {
   ...{ "extcap-interfaces": true, "extcap-dlts": true, "extcap-config": true, capture: true, two: true },
   ...{ "extcap-interface": String, "extcap-version": String, "extcap-capture-filter": String },
-  ...{ "extcap-reload-option": String, fifo: String, source: String, dictionary: String },
+  ...{ "extcap-reload-option": String, fifo: String, source: String, dictionary: String, rest: whole },
 };
 
-/** @typedef {{ fifo: string, source?: string, dictionary?: string, two?: boolean }} Asked of a capture */
+/** @typedef {{ fifo: string, source?: string, dictionary?: string, two?: boolean, rest?: number }} Asked of a capture */
 
 /** Writes the packets of a listing as they come, with the time of day at which the first one came. */
 class Capture {
@@ -79,10 +81,10 @@ class Capture {
  * Captures until the recorder or whoever reads ends.
  * @param {Asked} values
  */
-async function capture({ fifo, source: command, dictionary, two }) {
+async function capture({ fifo, source: command, dictionary, two, rest }) {
   const source = new Source(command || process.env.PORT1_SOURCE || RECORDER);
   const file = dictionary || process.env.PORT1_DICTIONARY;
-  const words = ["list", "--bits", two ? "--two" : "--arrivals"];
+  const words = ["list", "--bits", ...(two ? PAIRS : arrivalsOf(rest)).options];
   const text = file ? ["--dict", readFileSync(file, "utf8").replace(/\n+$/, "")] : [];
   const listing = new Capture(fifo);
   const bits = source.start();

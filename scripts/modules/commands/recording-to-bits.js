@@ -107,7 +107,8 @@ run(async () => {
   for (; !next.done; next = await arrivals.next()) write(next.value);
   const { facts, fault } = next.value;
   warn(edgesOf(facts, names));
-  const told = { rising: !values.falling, when: new Moments(ticks, recording.begin()) };
+  const when = new Moments(ticks, recording.begin());
+  const told = { rising: !values.falling, when, isSampled: !recording.hasRuns };
   for (const { text } of doubtsOf(facts, names, told)) warn(`warning: ${text}`);
   if (fault !== null) throw fault;
 });

@@ -27,7 +27,7 @@ async function within(body) {
 const FORMS = [[PAIRS, "0123", "0123"], [ARRIVALS, "01oi", "01"]];
 
 for (const [form, marks, counted] of FORMS) {
-  test(`octets and places of ${form.option}, in pieces of any size`, () => {
+  test(`octets and places of ${form.options}, in pieces of any size`, () => {
     const random = randomOf(3);
     const text = Array.from({ length: 4000 }, () => random.one([...marks, "\n"])).join("");
     const packer = new Packer(form);
@@ -60,16 +60,18 @@ test("the ring keeps the last octets, never more than it may, and another run fi
     const ring = new Ring(folder, 7, limits);
     const made = Buffer.from(Array.from({ length: 1 << 18 }, () => random.below(256)));
     for (let count = 0; count < 100; count++) {
-      ring.add(made, 4 * made.length * count);
+      ring.add(made, 4 * made.length * count, 4 * made.length * (count + 1));
       await ring.packing;
       const size = readdirSync(folder).reduce((sum, name) => sum + statSync(join(folder, name)).size, 0);
       assert.ok(size <= 6 * SEGMENT + (1 << 16), `${size}`);
     }
     const past = 4 * made.length * 100;
-    const { octets, place } = new Ring(folder, 8, limits).read(PAIRS, 7, past - 6 * made.length, past - made.length);
+    const found = new Ring(folder, 8, limits).read(PAIRS, 7, past - 6 * made.length, past - made.length);
+    const [{ octets, place }] = found;
+    assert.equal(found.length, 1);
     assert.equal(place, past - 6 * made.length);
     assert.deepEqual(octets, Buffer.concat([made, made]).subarray(made.length / 2, 7 * made.length / 4));
-    assert.equal(ring.read(PAIRS, 6, 0, past).octets.length, 0);
+    assert.deepEqual(ring.read(PAIRS, 6, 0, past), []);
   }));
 
 test("a line that a disk took half of is written again, and one that a kill cut off is dropped", () =>
@@ -110,6 +112,7 @@ test("an incident goes on in the next run where that run was cut off in it, and 
   incidents.takeOver(/** @type {any} */ (before));
   for (const [cause, wanted] of [["burst", undefined], ["rest", "1-2"]]) {
     incidents.trigger(/** @type {string} */ (cause), 10, 20);
+    incidents.take(20);
     assert.equal(incidents.open?.continues, wanted);
     incidents.close();
   }

@@ -6,7 +6,6 @@ import { tmpdir } from "node:os";
 import { join } from "node:path";
 import { test } from "node:test";
 
-import { ListingReader } from "../listing/read.js";
 import { RATE } from "../port1.js";
 import { PAIRS } from "../watch/forms.js";
 import { Incidents } from "../watch/incidents.js";
@@ -15,50 +14,7 @@ import { untold } from "../watch/memory.js";
 import { judgedRest } from "../watch/rest.js";
 import { Ring } from "../watch/ring.js";
 import { Triggers } from "../watch/triggers.js";
-
-const [ROUND, SECONDS] = [6144, 40];
-
-/** When station 2 is silent, and when station 1 is not asked, in seconds. */
-const [SILENT, UNASKED] = [[4, 5], [24, 27]];
-
-/** @param {number[]} seconds @param {number} place */
-const within = ([begin, past], place) => begin * RATE <= place && place < past * RATE;
-
-/** The lines of a talk. */
-function talk() {
-  const lines = [];
-  for (let place = 0; place < SECONDS * RATE; place += ROUND) {
-    for (const [at, station] of [[100, 1], [3000, 2]]) {
-      const [first, past] = [place + at, place + at + 56];
-      if (station === 1 && within(UNASKED, first)) continue;
-      const isSilent = station === 2 && within(SILENT, first);
-      lines.push(`1 ${first} ${past} frame 0${station}83010000 station ${station} type 1 poll`);
-      if (isSilent) lines.push(`1 ${first} ${past} missing station ${station} type 1`);
-      else lines.push(`2 ${past + 200} ${past + 256} frame 0${station}83810000 station ${station} type 129 state`);
-      if (!isSilent) lines.push(`1 ${first} ${past} answered station ${station} type 1`);
-    }
-  }
-  return lines;
-}
-
-const LINES = talk();
-
-/** A command of a kind after a second. */
-const placeAfter = (second, at) => Math.ceil((second * RATE - at) / ROUND) * ROUND + at;
-
-const WANTED = [
-  ["missing 2/1", placeAfter(SILENT[0], 3000)],
-  ["gap 1/1", placeAfter(UNASKED[0], 100) - ROUND],
-];
-
-/** Where they are well again. */
-const ENDED = [placeAfter(SILENT[1], 3000), placeAfter(UNASKED[1], 100)];
-
-function rowsOf(lines) {
-  const reader = new ListingReader();
-  reader.take(Buffer.from(lines.map((line) => `${line}\n`).join("")));
-  return [...reader.newRows()];
-}
+import { ENDED, LINES, SECONDS, WANTED, rowsOf } from "./support/talk.js";
 
 /** What a run told and wrote down until it was killed after some lines, having written it down each so many. */
 function killed(folder, count, each) {
@@ -88,7 +44,7 @@ function killed(folder, count, each) {
 async function incidentsOf(folder, count, each) {
   const { journal, limits, old } = killed(folder, count, each);
   const ring = new Ring(join(folder, "ring"), 1, { most: 1 << 30, floor: 0, warn: assert.fail });
-  ring.add(new Uint8Array((SECONDS * RATE) / 4), 0);
+  ring.add(new Uint8Array((SECONDS * RATE) / 4), 0, SECONDS * RATE);
   ring.close();
   const program = join(folder, "port1");
   writeFileSync(join(folder, "listing"), LINES.map((line) => `${line}\n`).join(""));

@@ -3,7 +3,8 @@
 import assert from "node:assert/strict";
 import { test } from "node:test";
 
-import { Wall, iso } from "../watch/wall.js";
+import { Incidents } from "../watch/incidents.js";
+import { Wall, iso, stepAt } from "../watch/wall.js";
 import { randomOf } from "./support/random.js";
 
 const RATE = 153600;
@@ -115,3 +116,56 @@ test("another recording has a clock of its own, and until it comes the one befor
 });
 
 test("a time as ISO 8601 has it", () => assert.equal(iso(1795748400.25), "2026-11-27T03:00:00.250Z"));
+
+/** A watch of a made wall: incidents at true times of day, in seconds after the beginning, and what is told of them. */
+function toldOf(seconds, lost, after) {
+  const made = new Made(5).run(30);
+  const records = [];
+  const office = {
+    zero: (place) => stepAt(made.wall.zeros, place)?.zero ?? made.wall.zero,
+    settled: () => made.wall.settled,
+    ...{ keep() {}, log() {} },
+    save: (incident) => records.push(incidents.recordOf(incident)),
+  };
+  const incidents = new Incidents(1, { after, longest: 120 }, office);
+  made.lose(lost);
+  for (const second of seconds) {
+    const ahead = second < 30 ? 0 : lost;
+    const place = Math.round((second - ahead) * RATE);
+    if (made.time < 1000 + second + 0.1) made.run(second + 0.1 - (made.time - 1000));
+    seamsOf(made, incidents);
+    incidents.tick(place);
+    incidents.trigger(`burst ${second}`, place, place + 10);
+    incidents.tick(made.place - RATE / 5);
+  }
+  for (let count = 0; count < 60; count++) {
+    made.run(0.5);
+    seamsOf(made, incidents);
+    incidents.tick(made.place - RATE / 5);
+  }
+  return records.map(({ wall, causes, seam }) => ({ wall: Date.parse(wall) / 1000, causes: Object.keys(causes), seam: seam === true }));
+}
+
+/** Marks what was lost, as a watch does. */
+function seamsOf(made, incidents) {
+  made.lost.splice(0).forEach(() => incidents.seam(made.wall.steps.at(-1).place));
+}
+
+test("times after lost input are right, and what lies beside the loss is marked", () => {
+  const seconds = [29.2, 32.4, 34.5, 36.5, 38.7, 40.9, 43.1, 45.2];
+  const told = toldOf(seconds, 2, 1);
+  assert.deepEqual(told.map(({ causes }) => causes), seconds.map((second) => [`burst ${second}`]));
+  told.forEach(({ wall }, at) => {
+    const late = wall - (1000 + 1_800_000_000 + seconds[at]);
+    assert.ok(Math.abs(late) < 0.1, `${seconds[at]} s is ${late} s late`);
+  });
+  assert.deepEqual(told.map(({ seam }) => seam), [true, true, false, false, false, false, false, false]);
+});
+
+test("times without a loss are told at once", () => {
+  const seconds = [29.5, 32.4, 34.5];
+  toldOf(seconds, 0, 1).forEach(({ wall, seam }, at) => {
+    assert.ok(Math.abs(wall - (1000 + 1_800_000_000 + seconds[at])) < 0.1);
+    assert.equal(seam, false);
+  });
+});

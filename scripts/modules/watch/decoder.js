@@ -9,7 +9,7 @@ import { Account } from "./account.js";
  * @param {string} dictionary
  */
 export const wordsOfList = (form, dictionary, place = 0) => [
-  ...["list", form.option, "--origin", String(place), "--dict", dictionary],
+  ...["list", ...form.options, "--origin", String(place), "--dict", dictionary],
 ];
 
 /**

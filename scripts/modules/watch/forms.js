@@ -20,18 +20,24 @@ function tableOf(marks) {
 const widthsOf = (steps) =>
   Uint8Array.from({ length: 256 }, (_, octet) => [0, 2, 4, 6].reduce((sum, at) => sum + steps[(octet >> at) & 3], 0));
 
-/** @param {string} option of `port1 list` @param {string} magic @param {string} marks @param {number[]} steps */
-function formOf(option, magic, marks, steps) {
-  return { option, magic, steps, table: tableOf(marks), widths: widthsOf(steps) };
+/** @param {string[]} options of `port1 list` @param {string} magic @param {string} marks @param {number[]} steps */
+function formOf(options, magic, marks, steps) {
+  return { options, magic, steps, table: tableOf(marks), widths: widthsOf(steps) };
 }
 
 /** @typedef {ReturnType<typeof formOf>} Form */
 
 /** Pairs of bits, one of each line, at the places of one clock. */
-export const PAIRS = formOf("--two", "TS2BITS2", "0123", [1, 1, 1, 1]);
+export const PAIRS = formOf(["--two"], "TS2BITS2", "0123", [1, 1, 1, 1]);
 
-/** The bits of both lines as they arrived: a place is a bit of the first one. */
-export const ARRIVALS = formOf("--arrivals", "TS2BITS3", "01oi", [1, 1, 0, 0]);
+/**
+ * The bits of both lines as they arrived: a place is a bit of the first one.
+ * @param {number} [rest] after how many of them without one of the second line this is brought to rest
+ */
+export const arrivalsOf = (rest) =>
+  formOf(["--arrivals", ...(rest === undefined ? [] : [`--rest=${rest}`])], "TS2BITS3", "01oi", [1, 1, 0, 0]);
+
+export const ARRIVALS = arrivalsOf();
 
 /** Packs a text that comes in pieces. */
 export class Packer {

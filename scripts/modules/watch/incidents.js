@@ -4,6 +4,9 @@ import { iso } from "./wall.js";
 /** What comes within so many seconds of the beginning of a run may go on from the one before. */
 const GOES_ON = 60;
 
+/** What was decided up to a place is known so many places later: any answer takes less. */
+const KNOWN = RATE;
+
 /** How near a place without input is told with an incident, in seconds. */
 const NEAR_SEAM = 1;
 
@@ -23,11 +26,34 @@ const NEAR_SEAM = 1;
 
 /**
  * @typedef {object} Office what incidents need of the watch
- * @property {() => number} zero
+ * @property {(place: number) => number} zero when place 0 was by the clock of a place
+ * @property {() => number} [settled] the place up to which that is sure
  * @property {() => void} keep writes down what is known, which outlives the watch
  * @property {(record: import("./journal.js").Entry) => void} log
  * @property {(incident: Incident) => void} save
  */
+
+/**
+ * What came: a cause, or what is well again; and where it began and was decided.
+ * @typedef {object} Event
+ * @property {string} [cause]
+ * @property {import("./triggers.js").About} [about]
+ * @property {number} first
+ * @property {number} past
+ * @property {number|null} [since] when it began, in seconds since 1970, where that was in an earlier run
+ */
+
+/**
+ * The order of what came: by places, however it was heard.
+ * @param {Event} one
+ * @param {Event} other
+ */
+function inOrder(one, other) {
+  const places = one.past - other.past || one.first - other.first;
+  if (places !== 0) return places;
+  const [text, next] = [one, other].map(({ cause, about }) => cause ?? `~${JSON.stringify(about)}`);
+  return text < next ? -1 : Number(text > next);
+}
 
 /** Joins what comes within some seconds to one incident, and ends it. */
 export class Incidents {
@@ -35,12 +61,16 @@ export class Incidents {
   open = null;
   /** @type {Incident[]} those that are to be saved, until they are told */
   waiting = [];
+  /** @type {Incident[]} those that are over, until their times are sure */
+  over = [];
   /** @type {Map<string, { id: string, first: number, past: number, count: number }>} causes that go on too long */
   long = new Map();
   /** @type {Map<string, number>} */
   tally = new Map();
   /** @type {Incident[]} of the run before */
   before = [];
+  /** @type {Event[]} what came, until all before it is known */
+  ahead = [];
   /** @type {number[]} places before which bits are missing */
   seams = [];
   count = 0;
@@ -54,16 +84,18 @@ export class Incidents {
 
   /** What outlives the watch. */
   kept() {
-    const { open, waiting, long, before, count } = this;
-    return { open, waiting, long: [...long], before, count };
+    const { open, waiting, over, long, before, count } = this;
+    const timed = (/** @type {Incident} */ incident) => ({ ...incident, zero: this.office.zero(incident.first) });
+    const all = [...waiting, ...over.map(timed)];
+    return { open: open && timed(open), waiting: all, long: [...long], before, count, ahead: this.ahead };
   }
 
   /**
    * Goes on where another one of the same run was.
-   * @param {ReturnType<Incidents["kept"]>} kept
+   * @param {import("./memory.js").Kept["incidents"]} kept
    */
-  resume({ open, waiting, long, before, count }) {
-    Object.assign(this, { open, waiting, long: new Map(long), before, count });
+  resume({ open, waiting, long, before, count, ahead = [] }) {
+    Object.assign(this, { open, waiting, long: new Map(long), before, count, ahead: [...ahead] });
   }
 
   /**
@@ -78,6 +110,36 @@ export class Incidents {
 
   /** @param {string} cause @param {number} first @param {number} past */
   trigger(cause, first, past) {
+    this.ahead.push({ cause, first, past });
+  }
+
+  /**
+   * Something is well again that an incident may be about.
+   * @param {import("./triggers.js").About} about
+   * @param {number} first
+   * @param {number} past
+   * @param {number|null} since when it began, in seconds since 1970, where that was in an earlier run
+   */
+  wellAgain(about, first, past, since) {
+    this.ahead.push({ about, first, past, since });
+  }
+
+  /**
+   * Judges what came, in the order of its places, up to one before which all is known.
+   * @param {number} place
+   */
+  take(place) {
+    const due = this.ahead.filter(({ past }) => past <= place).sort(inOrder);
+    this.ahead = this.ahead.filter((event) => !due.includes(event));
+    for (const event of due) {
+      this.advance(event.past);
+      if (event.cause === undefined) this.tellWell(event);
+      else this.join(event.cause, event.first, event.past);
+    }
+  }
+
+  /** @param {string} cause @param {number} first @param {number} past */
+  join(cause, first, past) {
     const long = this.long.get(cause);
     if (long) {
       Object.assign(long, { past, count: long.count + 1 });
@@ -91,8 +153,12 @@ export class Incidents {
     const [sort] = cause.split(" ");
     this.tally.set(sort, (this.tally.get(sort) ?? 0) + 1);
     this.office.keep();
-    if (Object.keys(open.causes).length > 1) return;
-    const { id, run, zero } = open;
+    if (Object.keys(open.causes).length === 1) this.tellBegun(open);
+  }
+
+  /** @param {Incident} incident */
+  tellBegun({ id, run, zero, first, causes }) {
+    const [cause] = Object.keys(causes);
     this.office.log({ event: "begun", wall: iso(zero + first / RATE), run, place: first, id, cause });
   }
 
@@ -102,19 +168,14 @@ export class Incidents {
     const isEarly = first < GOES_ON * RATE;
     const earlier = isEarly ? this.before.find(({ cut, causes }) => cut && causes[cause] !== undefined) : undefined;
     const more = earlier ? { continues: earlier.id } : {};
-    return (this.open = { id, run: this.run, first, past, causes: {}, zero: this.office.zero(), cut: false, ...more });
+    const zero = this.office.zero(first);
+    return (this.open = { id, run: this.run, first, past, causes: {}, zero, cut: false, ...more });
   }
 
-  /**
-   * Something is well again that an incident may be about.
-   * @param {import("./triggers.js").About} about
-   * @param {number} first
-   * @param {number} past
-   * @param {number|null} since when it began, in seconds since 1970, where that was in an earlier run
-   */
-  wellAgain(about, first, past, since) {
+  /** @param {Event} event */
+  tellWell({ about, first, past, since = null }) {
     if (this.open) this.open.past = Math.max(this.open.past, past);
-    const time = this.office.zero() + past / RATE;
+    const time = this.office.zero(past) + past / RATE;
     const seconds = Number((since === null ? (past - first) / RATE : time - since).toFixed(3));
     this.office.log({ event: "well again", wall: iso(time), run: this.run, place: past, ...about, seconds });
   }
@@ -126,35 +187,66 @@ export class Incidents {
   }
 
   /**
-   * Ends what is over, or lasts too long, once all before a place has been heard.
+   * Judges what came, once all before a place has been heard.
    * @param {number} mark
    */
   tick(mark) {
+    this.take(mark - KNOWN);
+    this.advance(mark - KNOWN);
+    this.settle(this.office.settled?.() ?? Infinity);
+  }
+
+  /**
+   * Ends what is over at a place, or lasts too long.
+   * @param {number} place
+   */
+  advance(place) {
     const { open, times } = this;
     if (open && open.past - open.first > times.longest * RATE) {
       for (const cause of Object.keys(open.causes)) {
         this.long.set(cause, { id: open.id, first: open.first, past: open.past, count: 0 });
       }
       this.close();
-    } else if (open && mark > open.past + times.after * RATE) {
+    } else if (open && place > open.past + times.after * RATE) {
       this.close();
     }
     for (const [cause, { id, first, past }] of this.long) {
-      if (mark <= past + times.longest * RATE) continue;
+      if (place <= past + times.longest * RATE) continue;
       this.long.delete(cause);
-      const wall = iso(this.office.zero() + past / RATE);
+      const wall = iso(this.office.zero(past) + past / RATE);
       this.office.log({ event: "over", wall, run: this.run, place: past, id, cause, seconds: (past - first) / RATE });
     }
   }
 
-  /** Ends the incident, if there is one, and has it saved. */
+  /**
+   * Judges all that came: nothing comes any more.
+   * @param {number} place
+   */
+  finish(place) {
+    this.take(Infinity);
+    this.advance(place);
+  }
+
+  /** Ends the incident, if there is one. */
   close() {
     const { open } = this;
     if (open === null) return;
     this.open = null;
-    this.waiting.push(open);
+    this.over.push(open);
+  }
+
+  /**
+   * Has those saved whose times are sure, and what lies beside them.
+   * @param {number} settled the place up to which times are
+   */
+  settle(settled) {
+    const sure = this.over.filter(({ past }) => past + NEAR_SEAM * RATE <= settled);
+    if (sure.length === 0) return;
+    this.over = this.over.filter((incident) => !sure.includes(incident));
+    for (const incident of sure) incident.zero = this.office.zero(incident.first);
+    this.waiting.push(...sure);
     this.office.keep();
-    this.office.save(open);
+    sure.forEach((incident) => this.office.save(incident));
   }
 
   /**
@@ -182,9 +274,11 @@ export class Incidents {
    * Tells an incident.
    * @param {Incident} incident
    * @param {string|null} saved the name of its folder, if it has one
+   * @param {import("./saver.js").Missing[]} [holes]
    */
-  told(incident, saved) {
-    this.office.log({ event: "incident", ...this.recordOf(incident), saved });
+  told(incident, saved, holes = []) {
+    const missing = holes.length > 0 ? { holes } : {};
+    this.office.log({ event: "incident", ...this.recordOf(incident), ...missing, saved });
     this.waiting = this.waiting.filter((other) => other !== incident);
     this.office.keep();
   }

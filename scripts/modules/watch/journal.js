@@ -1,4 +1,6 @@
-import { appendFileSync, readFileSync, renameSync, statSync, truncateSync, writeFileSync } from "node:fs";
+import { existsSync, readFileSync, statSync } from "node:fs";
+import { dirname } from "node:path";
+import { DISK } from "./disk.js";
 
 /** @typedef {{ event: string, wall: string, run: number, place: number } & Record<string, unknown>} Entry of the log */
 
@@ -11,14 +13,17 @@ const LINE_END = 10;
 const MOST_WAITING = 1000;
 
 /**
- * Writes a file that is there whole, or as it was before.
- * @param {string} path
- * @param {string} text
+ * An event of the log, if a line is one.
+ * @param {string} line
+ * @returns {(Entry & { id: string })|null}
  */
-export function put(path, text) {
-  const fresh = `${path}.new`;
-  writeFileSync(fresh, text);
-  renameSync(fresh, path);
+function entryOf(line) {
+  try {
+    const entry = JSON.parse(line);
+    return typeof entry?.event === "string" ? entry : null;
+  } catch {
+    return null;
+  }
 }
 
 /** The log: a line of JSON for each event, on standard output and in a file that outlives a full disk. */
@@ -26,11 +31,18 @@ export class Journal {
   /** @type {string[]} */
   waiting = [];
 
-  /** @param {string} path @param {(text: string) => void} write @param {(text: string) => void} warn */
-  constructor(path, write, warn) {
+  /**
+   * @param {string} path
+   * @param {(text: string) => void} write
+   * @param {(text: string) => void} warn
+   * @param {import("./disk.js").Disk} [disk]
+   */
+  constructor(path, write, warn, disk = DISK) {
     this.path = path;
     this.write = write;
     this.warn = warn;
+    this.disk = disk;
+    this.isNamed = existsSync(path); // whether a power cut leaves the log its name
     this.cutOffHalfALine();
   }
 
@@ -49,7 +61,7 @@ export class Journal {
   cutOffHalfALine() {
     const end = this.end();
     const half = end.length - 1 - end.lastIndexOf(LINE_END);
-    if (half > 0) truncateSync(this.path, statSync(this.path).size - half);
+    if (half > 0) this.disk.truncate(this.path, statSync(this.path).size - half);
   }
 
   /**
@@ -57,8 +69,12 @@ export class Journal {
    * @returns {(Entry & { id: string })[]} of which those that are about an incident have its id
    */
   told() {
-    const lines = this.end().toString().split("\n").filter((line) => line.startsWith("{") && line.endsWith("}"));
-    return lines.map((line) => JSON.parse(line));
+    return this.end().toString().split("\n").flatMap((line) => entryOf(line) ?? []);
+  }
+
+  /** The number of the last run that the log has, or 0. */
+  get lastRun() {
+    return this.told().reduce((last, { run }) => (run > last ? run : last), 0);
   }
 
   /** @param {Entry} record */
@@ -73,7 +89,9 @@ export class Journal {
   /** Writes what waits; where the disk takes a part of it, that is taken back. */
   flush() {
     try {
-      for (; this.waiting.length > 0; this.waiting.shift()) appendFileSync(this.path, this.waiting[0]);
+      for (; this.waiting.length > 0; this.waiting.shift()) this.disk.append(this.path, this.waiting[0]);
+      if (!this.isNamed) this.disk.syncFolder(dirname(this.path));
+      this.isNamed = true;
     } catch (fault) {
       this.warn(`the log: ${/** @type {Error} */ (fault).message}`);
       try {

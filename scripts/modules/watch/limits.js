@@ -43,4 +43,6 @@ export function onceAMinute(say) {
  * @property {import("./wall.js").Wall|import("./wall.js").RecordedWall} wall
  * @property {(text: string) => void} write
  * @property {(text: string) => void} warn
+ * @property {import("./disk.js").Disk} [disk]
+ * @property {typeof import("./rest.js").linesOf} [lines] what lists a capture
  */

@@ -2,9 +2,10 @@ import { spawn } from "node:child_process";
 import { rowsOfInput } from "../commands/input.js";
 import { RATE } from "../port1.js";
 import { wordsOfList } from "./decoder.js";
-import { captureOf, octetsBefore } from "./forms.js";
+import { captureOf } from "./forms.js";
 import { Incidents } from "./incidents.js";
-import { Triggers } from "./triggers.js";
+import { SURE, Triggers } from "./triggers.js";
+import { stepAt } from "./wall.js";
 
 /** @typedef {import("../listing/listing.js").Row} Row */
 /** @typedef {import("./journal.js").Entry} Entry */
@@ -34,7 +35,7 @@ const keyOf = ({ event, run, place, id, kind, line, cause }) =>
  * @param {string[]} words
  * @param {Buffer} capture
  */
-async function* linesOf(program, words, capture) {
+export async function* linesOf(program, words, capture) {
   const child = spawn(program, words, { stdio: ["pipe", "pipe", "ignore"], detached: true });
   child.on("error", () => undefined); // it writes nothing then
   child.stdin.on("error", () => undefined);
@@ -67,18 +68,20 @@ const isLast = (row, last) =>
  * @param {import("./limits.js").Asked} asked
  * @param {import("./journal.js").Journal} journal
  */
-export async function judgedRest({ run, zero, triggers: known, incidents: before }, ring, asked, journal) {
+export async function judgedRest({ run, zero: last, zeros, triggers: known, incidents: before }, ring, asked, journal) {
+  const zero = (/** @type {number} */ place) => stepAt(zeros ?? [], place)?.zero ?? last;
   const told = new Set(journal.told().map(keyOf));
   const log = (/** @type {Entry} */ record) => (told.has(keyOf(record)) ? undefined : journal.log(record));
-  const incidents = new Incidents(run, asked.limits, { zero: () => zero, keep() {}, save() {}, log });
+  const incidents = new Incidents(run, asked.limits, { zero, keep() {}, save() {}, log });
   incidents.resume(before);
+  if (before.open) incidents.tellBegun(before.open);
   const triggers = new Triggers({
     trigger: (cause, first, past) => incidents.trigger(cause, first, past),
     wellAgain: (about, first, past, since) => incidents.wellAgain(about, first, past, since),
   }, asked.gaps);
   triggers.resume(known);
   await judge(triggers, incidents, ring, asked);
-  const { kinds } = triggers.kept((place) => zero + place / RATE);
+  const { kinds } = triggers.kept((place) => zero(place) + place / RATE);
   return { kinds, incidents: incidents.kept(), tally: incidents.tally };
 }
 
@@ -88,21 +91,37 @@ export async function judgedRest({ run, zero, triggers: known, incidents: before
  * @param {import("./ring.js").Ring} ring
  * @param {import("./limits.js").Asked} asked
  */
-async function judge(triggers, incidents, ring, { form, program, dictionary }) {
+async function judge(triggers, incidents, ring, asked) {
   const { judged } = triggers;
   const from = Math.max((judged?.past ?? 0) - BEFORE, ring.beginOf(incidents.run, MOST));
-  const { octets, place } = ring.read(form, incidents.run, from, Infinity);
-  if (octets.length === 0) return;
+  const [piece, ...others] = ring.read(asked.form, incidents.run, from, Infinity);
+  if (piece) await judgePiece(triggers, incidents, piece, judged, asked);
+  for (const other of others) {
+    incidents.seam(other.place);
+    triggers.seam(other.place);
+    await judgePiece(triggers, incidents, other, null, asked);
+  }
+  incidents.take(Infinity);
+}
+
+/**
+ * @param {Triggers} triggers
+ * @param {Incidents} incidents
+ * @param {import("./pieces.js").Piece} piece
+ * @param {import("./triggers.js").Mark|null} judged the last line that was
+ * @param {import("./limits.js").Asked} asked
+ */
+async function judgePiece(triggers, incidents, { octets, place, past }, judged, { form, program, dictionary, lines = linesOf }) {
   let mark = 0;
   const tick = (/** @type {number} */ to) => {
     mark = to;
     triggers.tick(mark);
     incidents.tick(mark);
   };
-  const rows = linesOf(program, wordsOfList(form, dictionary, place), captureOf(form, octets));
+  const rows = lines(program, wordsOfList(form, dictionary, place), captureOf(form, octets));
   for await (const row of linesAfter(rows, judged)) {
     if (row.first - SLACK > mark + STEP) tick(row.first - SLACK);
     triggers.hear([row]);
   }
-  tick(place + octetsBefore(form, octets, Infinity).passed);
+  tick(past - SURE);
 }

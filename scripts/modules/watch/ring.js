@@ -1,12 +1,17 @@
-import { closeSync, createReadStream, createWriteStream, mkdirSync, openSync, readFileSync } from "node:fs";
-import { readdirSync, renameSync, rmSync, statSync, statfsSync, writeSync } from "node:fs";
+import { readFileSync, readdirSync, statSync, statfsSync } from "node:fs";
 import { join } from "node:path";
-import { pipeline } from "node:stream/promises";
-import { createGzip, gunzipSync } from "node:zlib";
-import { octetsBefore } from "./forms.js";
+import { promisify } from "node:util";
+import { gunzipSync, gzip } from "node:zlib";
+import { DISK } from "./disk.js";
+import { between, joined } from "./pieces.js";
 
 /** The octets of a segment: a new one begins with the first piece after so many. Of pairs they are 54.6 seconds. */
 export const SEGMENT = 1 << 21;
+
+const zipped = promisify(gzip);
+
+/** The names of segments, also of one that is compressed. */
+const NAME = /^\d{6,}-\d{18}(\.gz)?$/;
 
 /** @param {number} number @param {number} digits */
 const padded = (number, digits) => String(number).padStart(digits, "0");
@@ -21,6 +26,15 @@ function segmentOf(name) {
 }
 
 /**
+ * What segments a folder has; one that is compressed is there once.
+ * @param {string} folder
+ */
+function namesIn(folder) {
+  const names = readdirSync(folder).filter((name) => NAME.test(name)).sort();
+  return names.filter((name) => !names.includes(`${name}.gz`));
+}
+
+/**
  * How much room is left on the disk of a folder, in octets.
  * @param {string} folder
  */
@@ -30,11 +44,7 @@ export function roomIn(folder) {
 }
 
 /** @typedef {{ name: string, size: number }} Segment a file, and its octets */
-
-/**
- * Packed bits, and the place where they begin.
- * @typedef {{ octets: Buffer, place: number }} Bits
- */
+/** @typedef {import("./pieces.js").Hole} Hole */
 
 /** The last bits, packed, in segments on disk of which the oldest go first; those that are full are compressed. */
 export class Ring {
@@ -43,26 +53,37 @@ export class Ring {
   /** @type {number|null} */
   file = null;
   failed = 0; // octets that the disk did not take
+  past = 0; // the place after what was to be kept
+  /** @type {number|null} */
+  hole = null; // the place from which on the disk takes nothing
   packing = Promise.resolve();
+  segment = SEGMENT;
 
   /**
    * @param {string} folder
    * @param {number} run
-   * @param {{ most: number, floor: number, warn: (text: string) => void }} limits octets of the ring, and those that
-   *   are to be left on the disk
+   * @param {{ most: number, floor: number, warn: (text: string) => void, missed?: (hole: Hole) => void,
+   *   disk?: import("./disk.js").Disk }} limits octets of the ring, and those that are to be left on the disk; and what
+   *   hears of a hole that is over
    */
-  constructor(folder, run, { most, floor, warn }) {
+  constructor(folder, run, { most, floor, warn, missed = () => undefined, disk = DISK }) {
     this.folder = folder;
     this.run = run;
     this.most = most;
     this.floor = floor;
     this.warn = warn;
-    mkdirSync(folder, { recursive: true });
-    const names = readdirSync(folder).sort();
-    names.filter((name) => name.endsWith(".new")).forEach((name) => rmSync(join(folder, name), { force: true }));
-    names.filter((name) => names.includes(`${name}.gz`)).forEach((name) => rmSync(join(folder, name), { force: true }));
-    const kept = names.filter((name) => !name.endsWith(".new") && !names.includes(`${name}.gz`));
+    this.missed = missed;
+    this.disk = disk;
+    disk.makeFolder(folder);
+    const kept = namesIn(folder);
+    const isLeft = (/** @type {string} */ name) => name.endsWith(".new") || NAME.test(name) && !kept.includes(name);
+    readdirSync(folder).filter(isLeft).forEach((name) => disk.remove(join(folder, name)));
     this.segments = kept.map((name) => ({ name, size: statSync(join(folder, name)).size }));
+  }
+
+  /** The number of the last run that it has bits of, or 0. */
+  get lastRun() {
+    return this.segments.reduce((last, { name }) => Math.max(last, segmentOf(name).run), 0);
   }
 
   /** @param {string} name */
@@ -75,26 +96,55 @@ export class Ring {
   }
 
   /**
-   * Adds octets, the first of which begins at a place.
+   * Adds octets.
    * @param {Uint8Array} octets
-   * @param {number} place
+   * @param {number} place at which the first one begins
+   * @param {number} past the place after them
    */
-  add(octets, place) {
+  add(octets, place, past) {
+    this.past = past;
     try {
-      if (this.file === null || this.segments[this.segments.length - 1].size >= SEGMENT) this.turn(place);
+      if (this.file === null || this.segments[this.segments.length - 1].size >= this.segment) this.turn(place);
       if (this.file === null) throw new Error("less is free on the disk than is to be left");
-      for (let at = 0; at < octets.length; ) at += writeSync(/** @type {number} */ (this.file), octets, at);
-      this.segments[this.segments.length - 1].size += octets.length;
+      this.write(octets);
+      this.goOn(place);
     } catch (fault) {
       this.failed += octets.length;
+      this.hole ??= place;
       this.close();
       this.warn(`the ring: ${/** @type {Error} */ (fault).message}`);
     }
   }
 
+  /** @param {Uint8Array} octets */
+  write(octets) {
+    const last = this.segments[this.segments.length - 1];
+    this.disk.writeAll(/** @type {number} */ (this.file), octets, (count) => (last.size += count));
+  }
+
+  /**
+   * Tells a hole that ends at a place.
+   * @param {number} place
+   */
+  goOn(place) {
+    if (this.hole !== null) this.missed({ first: this.hole, past: place });
+    this.hole = null;
+  }
+
+  /** Flushes what was added. */
+  sync() {
+    if (this.file !== null) this.disk.sync(this.file);
+  }
+
   close() {
-    if (this.file !== null) closeSync(this.file);
+    const { file } = this;
     this.file = null;
+    if (file === null) return;
+    try {
+      this.disk.sync(file);
+    } finally {
+      this.disk.close(file);
+    }
   }
 
   /**
@@ -109,18 +159,19 @@ export class Ring {
     this.prune();
     if (roomIn(this.folder) < this.floor) return;
     const name = `${padded(this.run, 6)}-${padded(place, 18)}`;
-    this.file = openSync(this.path(name), "w");
+    this.file = this.disk.open(this.path(name), "w");
     this.segments.push({ name, size: 0 });
+    this.disk.syncFolder(this.folder);
   }
 
   /** Makes room for a segment. */
   prune() {
     let { size } = this;
-    const isTooMuch = () => size + SEGMENT > this.most || roomIn(this.folder) < this.floor + SEGMENT;
+    const isTooMuch = () => size + this.segment > this.most || roomIn(this.folder) < this.floor + this.segment;
     while (this.segments.length > 1 && isTooMuch()) {
       const [oldest] = this.segments.splice(0, 1);
       size -= oldest.size;
-      rmSync(this.path(oldest.name), { force: true });
+      this.disk.remove(this.path(oldest.name));
     }
   }
 
@@ -129,15 +180,15 @@ export class Ring {
    * @param {Segment} segment
    */
   async pack(segment) {
-    const [from, fresh] = [this.path(segment.name), this.path(`${segment.name}.gz.new`)];
+    const [from, to] = [this.path(segment.name), this.path(`${segment.name}.gz`)];
     try {
-      await pipeline(createReadStream(from), createGzip({ level: 1 }), createWriteStream(fresh));
-      if (!this.segments.includes(segment)) return rmSync(fresh, { force: true });
-      renameSync(fresh, this.path(`${segment.name}.gz`));
-      rmSync(from, { force: true });
-      Object.assign(segment, { name: `${segment.name}.gz`, size: statSync(this.path(`${segment.name}.gz`)).size });
+      const packed = await zipped(readFileSync(from), { level: 1 });
+      if (!this.segments.includes(segment)) return;
+      this.disk.put(to, packed);
+      this.disk.remove(from);
+      Object.assign(segment, { name: `${segment.name}.gz`, size: packed.length });
     } catch {
-      rmSync(fresh, { force: true });
+      this.disk.remove(`${to}.new`);
     }
   }
 
@@ -152,28 +203,32 @@ export class Ring {
   }
 
   /**
-   * The octets of a run's places that are still there, and the place where they begin.
+   * The bits of a run's places that are still there, in pieces without a hole.
    * @param {import("./forms.js").Form} form
    * @param {number} run
    * @param {number} first
    * @param {number} past
-   * @returns {Bits}
    */
   read(form, run, first, past) {
     const own = this.segments.map(({ name }) => segmentOf(name)).filter((segment) => segment.run === run);
     /** @param {unknown} _ @param {number} at */
     const isWanted = (_, at) => own[at].place < past && (own[at + 1]?.place ?? Infinity) > first;
-    const wanted = own.filter(isWanted);
-    const all = Buffer.concat(wanted.map(({ name }) => this.octetsOf(name)));
-    const begin = wanted[0]?.place ?? 0;
-    const from = octetsBefore(form, all, Math.max(0, first - begin));
-    const to = octetsBefore(form, all, Math.max(0, past - begin));
-    return { octets: all.subarray(from.at, to.at), place: begin + from.passed };
+    const wanted = own.filter(isWanted).map(({ name, place }) => ({ octets: this.octetsOf(name), place }));
+    const pieces = joined(form, wanted).map((piece) => between(form, piece, first, past));
+    return pieces.filter(({ octets }) => octets.length > 0);
   }
 
-  /** @param {string} name */
+  /**
+   * The octets of a segment, of which there are none where it cannot be read.
+   * @param {string} name
+   */
   octetsOf(name) {
-    const octets = readFileSync(this.path(name));
-    return name.endsWith(".gz") ? gunzipSync(octets) : octets;
+    try {
+      const octets = readFileSync(this.path(name));
+      return name.endsWith(".gz") ? gunzipSync(octets) : octets;
+    } catch (fault) {
+      this.warn(`the ring: ${name}: ${/** @type {Error} */ (fault).message}`);
+      return Buffer.alloc(0);
+    }
   }
 }

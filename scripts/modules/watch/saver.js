@@ -1,5 +1,5 @@
 import { spawn } from "node:child_process";
-import { closeSync, mkdirSync, openSync, readdirSync, renameSync, rmSync, statSync, writeFileSync } from "node:fs";
+import { closeSync, mkdirSync, openSync, readdirSync, rmSync, statSync, writeFileSync } from "node:fs";
 import { join } from "node:path";
 import { fileURLToPath } from "node:url";
 import { piecesOf } from "../commands/facts.js";
@@ -11,13 +11,23 @@ import { Bus } from "../statistics/bus.js";
 import { DayTime } from "../statistics/day-time.js";
 import { report } from "../statistics/report.js";
 import { wordsOfList } from "./decoder.js";
+import { DISK } from "./disk.js";
 import { captureOf, octetsBefore } from "./forms.js";
+import { holesOf, nearestOf } from "./pieces.js";
 import { roomIn } from "./ring.js";
 import { iso } from "./wall.js";
 import { titleOf } from "./words.js";
 
 /** @typedef {import("./incidents.js").Incident} Incident */
 /** @typedef {ReturnType<import("./incidents.js").Incidents["recordOf"]>} Told what is told of one */
+/** @typedef {import("./pieces.js").Piece} Piece */
+
+/** @typedef {{ wall: string, place: number, seconds: number }} Missing bits that are not there, as they are told */
+
+/**
+ * What became of an incident that was to be saved: the name of its folder, if it has one, and what that lacks.
+ * @typedef {{ saved: string|null, holes: Missing[] }} Saved
+ */
 
 /** What a folder of an incident takes beside its bits, as a multiple of these and in octets. */
 const [BESIDE, PAGE] = [2, 3 << 20];
@@ -85,12 +95,20 @@ async function firstCommand(listing) {
   return null;
 }
 
+/**
+ * What is missing, in sentences.
+ * @param {Missing[]} holes
+ */
+const sentencesOf = (holes) =>
+  holes.map(({ wall, seconds }) => `Bits are missing: ${seconds.toFixed(3)} s from ${wall} on.\n`).join("");
+
 /** Saves the bits around incidents, each in a folder that is there whole or not at all. */
 export class Saver {
   /**
    * @param {string} folder
    * @param {import("./ring.js").Ring} ring
    * @param {{ program: string, form: import("./forms.js").Form, dictionary: () => string,
+   *   disk?: import("./disk.js").Disk,
    *   limits: { before: number, after: number, longest: number, keep: number, floor: number } }} decoding
    */
   constructor(folder, ring, decoding) {
@@ -98,6 +116,7 @@ export class Saver {
     this.ring = ring;
     this.decoding = decoding;
     this.limits = decoding.limits;
+    this.disk = decoding.disk ?? DISK;
     mkdirSync(folder, { recursive: true });
     const halves = readdirSync(folder).filter((name) => name.startsWith("."));
     halves.forEach((name) => removed(join(folder, name)));
@@ -110,27 +129,48 @@ export class Saver {
   }
 
   /**
+   * The places that are to be saved.
+   * @param {Incident} incident
+   * @returns {[first: number, past: number]}
+   */
+  wanted({ first, past }) {
+    const { before, after, longest } = this.limits;
+    return [Math.max(0, first - before * RATE), Math.min(past, first + longest * RATE) + after * RATE];
+  }
+
+  /**
+   * What is missing of them: the end of an earlier run is where its bits end.
+   * @param {Incident} incident
+   * @param {Piece[]} found
+   * @returns {Missing[]}
+   */
+  holesIn(incident, found) {
+    const [first, past] = this.wanted(incident);
+    const end = incident.run === this.ring.run ? this.ring.past : found.at(-1)?.past ?? past;
+    const told = (/** @type {import("./pieces.js").Hole} */ hole) =>
+      ({ wall: iso(incident.zero + hole.first / RATE), place: hole.first, seconds: (hole.past - hole.first) / RATE });
+    return holesOf(found, first, Math.min(past, end)).map(told);
+  }
+
+  /**
    * Saves an incident.
    * @param {Incident} incident
    * @param {Told} record
-   * @returns {Promise<string|null>} the name of its folder, if there is room and the bits are still there
+   * @returns {Promise<Saved>} whose name is null where there is no room, or none of the bits is there any more
    */
   async save(incident, record) {
-    const { before, after, longest, floor } = this.limits;
-    const { run, first } = incident;
-    const past = Math.min(incident.past, first + longest * RATE) + after * RATE;
-    const found = this.ring.read(this.decoding.form, run, Math.max(0, first - before * RATE), past);
-    const room = BESIDE * found.octets.length + PAGE;
+    const found = this.ring.read(this.decoding.form, incident.run, ...this.wanted(incident));
+    const holes = this.holesIn(incident, found);
+    const room = BESIDE * found.reduce((sum, { octets }) => sum + octets.length, 0) + PAGE;
     this.prune(room);
-    if (found.octets.length === 0 || roomIn(this.folder) < floor + room) return null;
+    if (found.length === 0 || roomIn(this.folder) < this.limits.floor + room) return { saved: null, holes };
     const [name, fresh] = [this.nameOf(incident), join(this.folder, `.${incident.id}-${process.pid}`)];
     try {
       rmSync(fresh, { recursive: true, force: true });
       mkdirSync(fresh);
-      await this.fill(fresh, incident, found, record);
-      rmSync(join(this.folder, name), { recursive: true, force: true });
-      renameSync(fresh, join(this.folder, name));
-      return name;
+      await this.fill(fresh, incident, found, { ...record, ...(holes.length > 0 && { holes }) });
+      this.disk.putFolder(fresh, join(this.folder, name));
+      return { saved: name, holes };
     } catch (fault) {
       rmSync(fresh, { recursive: true, force: true });
       throw fault;
@@ -138,14 +178,18 @@ export class Saver {
   }
 
   /**
-   * Writes the files of a folder: the bits begin at a command, or its answer would be a stray.
+   * Writes the files of a folder. What is listed is the piece that has most of the incident; the others stand beside,
+   * named by their places. The bits begin at a command, or its answer would be a stray.
    * @param {string} fresh
    * @param {Incident} incident
-   * @param {import("./ring.js").Bits} found
-   * @param {Told} record
+   * @param {Piece[]} found
+   * @param {Told & { holes?: Missing[] }} record
    */
-  async fill(fresh, { first, zero }, { octets, place }, record) {
+  async fill(fresh, { first, past, zero }, found, record) {
     const { form } = this.decoding;
+    const main = nearestOf(found, first, past);
+    const { octets, place } = main;
+    found.filter((piece) => piece !== main).forEach((piece) => this.putBeside(fresh, piece));
     const path = (/** @type {string} */ name) => join(fresh, name);
     const [listing, dictionary, begin] = [path("listing.txt"), this.decoding.dictionary(), iso(zero)];
     await this.list(fresh, octets, place);
@@ -158,12 +202,22 @@ export class Saver {
     const bus = new Bus(RATE, new DayTime(begin));
     for await (const rows of rowsOfInput(piecesOf(listing, 1 << 16))) bus.takeSome(rows);
     bus.end();
-    writeFileSync(path("summary.txt"), report(bus, { end: null, entries: readDictionary(dictionary) }));
+    const summary = report(bus, { end: null, entries: readDictionary(dictionary) });
+    writeFileSync(path("summary.txt"), `${sentencesOf(record.holes ?? [])}${summary}`);
     const packets = [script("list-to-pcap"), "--begin", begin, String(RATE), path("frames.pcapng")];
     await runOn(process.execPath, packets, listing, null);
     if (page() === null) return;
     const words = ["--begin", begin, "--dictionary", path("cabinet.toml"), titleOf(about)];
     await runOn(process.execPath, [script("list-to-page"), ...words], listing, path("report.html"));
+  }
+
+  /**
+   * Writes a piece that is not listed.
+   * @param {string} fresh
+   * @param {Piece} piece
+   */
+  putBeside(fresh, { octets, place }) {
+    writeFileSync(join(fresh, `bits-${place}.ts2`), captureOf(this.decoding.form, octets));
   }
 
   /**

@@ -18,6 +18,9 @@ import { Kind } from "./kind.js";
 /** Numbers of a trigger: answers in a row, damaged pieces in a second, and a rest of both lines in places. */
 export const USUAL = { row: 5, burst: 5, rest: RATE };
 
+/** How far before a place that has been heard all frames are known: none is longer. */
+export const SURE = RATE / 10;
+
 /** Judges the lines of a listing, as they come, and what does not come. */
 export class Triggers {
   /** @type {Map<string, Kind>} */
@@ -106,9 +109,14 @@ export class Triggers {
 
   /** @param {Row} row */
   heard({ first, past }) {
-    if (this.isAtRest) this.ears.wellAgain({ line: "both" }, /** @type {number} */ (this.lastHeard), first, null);
+    const { lastHeard } = this;
+    if (lastHeard !== null && past - lastHeard > this.numbers.rest) {
+      const due = lastHeard + this.numbers.rest;
+      if (!this.isAtRest) this.ears.trigger("rest", lastHeard, due);
+      this.ears.wellAgain({ line: "both" }, lastHeard, Math.max(first, due), null);
+    }
     this.isAtRest = false;
-    this.lastHeard = past;
+    this.lastHeard = Math.max(past, lastHeard ?? 0);
   }
 
   /** @param {Row} row */
@@ -126,8 +134,9 @@ export class Triggers {
     if (kind.isGone) {
       this.ears.wellAgain({ kind: name }, /** @type {number} */ (kind.last), first, kind.since);
       if (!kind.isBad) kind.since = null;
-    } else if (gap !== null && gap > kind.limit) {
-      this.ears.trigger(`gap ${name}`, /** @type {number} */ (kind.last), first);
+    } else if (kind.last !== null && gap !== null && gap > kind.limit) {
+      this.ears.trigger(`gap ${name}`, kind.last, Math.ceil(kind.last + kind.limit));
+      this.ears.wellAgain({ kind: name }, kind.last, first, null);
     } else if (gap !== null) {
       kind.learn(gap);
     }
@@ -174,17 +183,17 @@ export class Triggers {
   }
 
   /**
-   * Judges what time alone decides: all before a place has been heard.
+   * Judges what time alone decides, at the place where it does: all before a later one has been heard.
    * @param {number} mark
    */
   tick(mark) {
     for (const [name, kind] of this.kinds) {
       if (kind.isGone || kind.last === null || mark - kind.last <= kind.limit) continue;
       kind.isGone = true;
-      this.ears.trigger(`gap ${name}`, kind.last, mark);
+      this.ears.trigger(`gap ${name}`, kind.last, Math.ceil(kind.last + kind.limit));
     }
     if (this.isAtRest || this.lastHeard === null || mark - this.lastHeard <= this.numbers.rest) return;
     this.isAtRest = true;
-    this.ears.trigger("rest", this.lastHeard, mark);
+    this.ears.trigger("rest", this.lastHeard, this.lastHeard + this.numbers.rest);
   }
 }

@@ -15,13 +15,28 @@ export const iso = (time) => new Date(Math.round(1000 * time)).toISOString();
 /** The clocks of this computer, in seconds: one that is never set, and the time of day. */
 export const CLOCKS = { steady: () => performance.now() / 1000, wall: () => Date.now() / 1000 };
 
+/** The most losses whose places are known. */
+const MOST_STEPS = 100;
+
+/**
+ * When place 0 was by the clock of some place: a step is for the places up to its own.
+ * @template {{ place: number }} Step
+ * @param {Step[]} steps
+ * @param {number} place
+ */
+export const stepAt = (steps, place) => steps.find((step) => place <= step.place);
+
 /**
  * The time of day of places. A place came at the least delay that was seen in ten seconds; a delay that gets greater
- * and stays so is input that was lost.
+ * and stays so is input that was lost: then the places after it are later than was thought.
  */
 export class Wall {
   /** @type {number|null} */
   base = null; // the time of place 0, on the steady clock
+  /** @type {{ place: number, base: number }[]} what it was before input was lost, or another recording began */
+  steps = [];
+  place = 0; // the last one
+  settled = 0; // the one up to which times are sure
   /** @type {{ now: number, delay: number }[]} the least delays, each until a lesser one came */
   window = [];
   isAnew = true;
@@ -49,8 +64,14 @@ export class Wall {
 
   /** Begins anew with the next place: what comes then was not sent when what came before it was. */
   restart() {
+    this.settle();
     this.isAnew = true;
     this.window = [];
+  }
+
+  /** No more is to be known of what came. */
+  settle() {
+    this.settled = this.place;
   }
 
   /**
@@ -67,32 +88,57 @@ export class Wall {
     while (this.window.length > 0 && this.window[this.window.length - 1].delay >= delay) this.window.pop();
     this.window.push({ now, delay });
     while (this.window[0].now < now - STEADY) this.window.shift();
-    return this.follow(this.window[0].delay, elapsed, now);
+    const lost = this.follow(this.window[0].delay, elapsed, now);
+    this.place = place;
+    if (delay - /** @type {number} */ (this.base) < this.lost) this.settled = place;
+    return lost;
+  }
+
+  /**
+   * What comes after what is settled has another time.
+   * @param {number} base
+   */
+  step(base) {
+    if (this.base !== null) this.steps.push({ place: this.settled, base: this.base });
+    if (this.steps.length > MOST_STEPS) this.steps.shift();
+    this.base = base;
   }
 
   /** @param {number} least @param {number} elapsed @param {number} now */
   follow(least, elapsed, now) {
     const step = this.base === null ? 0 : least - this.base;
-    if (this.base === null || this.isAnew || step < 0) {
-      [this.base, this.isAnew] = [least, false];
+    if (this.base === null || this.isAnew) {
+      this.step(least);
+      this.isAnew = false;
+    } else if (step < 0) {
+      this.base = least;
     } else if (step < this.lost) {
       this.base += step * Math.min(1, elapsed / FOLLOWED);
     } else if (now - this.since >= STEADY) {
-      [this.base, this.window, this.since] = [least, [], now];
+      this.step(least);
+      [this.window, this.since] = [[], now];
       return step;
     }
     return 0;
   }
 
-  /** The time of place 0, in seconds since 1970. */
+  /** The time of place 0, in seconds since 1970, by the last place. */
   get zero() {
     return (this.base ?? this.clocks.steady()) + this.shift;
+  }
+
+  /** The same by the places before. */
+  get zeros() {
+    return this.steps.map(({ place, base }) => ({ place, zero: base + this.shift }));
   }
 }
 
 /** The same of a recording that began at a known time: its bits are the clock. */
 export class RecordedWall {
   place = 0;
+  settled = Infinity;
+  /** @type {{ place: number, zero: number }[]} */
+  zeros = [];
 
   /** @param {number} zero */
   constructor(zero) {
@@ -108,6 +154,8 @@ export class RecordedWall {
   }
 
   restart() {}
+
+  settle() {}
 
   /** @param {number} place */
   take(place) {

@@ -1,19 +1,19 @@
-import { mkdirSync } from "node:fs";
 import { join } from "node:path";
 import { RATE } from "../port1.js";
 import { called } from "./call.js";
 import { Decoder } from "./decoder.js";
+import { DISK } from "./disk.js";
 import { Packer } from "./forms.js";
 import { Incidents } from "./incidents.js";
-import { Journal, put } from "./journal.js";
+import { Journal } from "./journal.js";
 import { onceAMinute } from "./limits.js";
-import { keep, read, untold } from "./memory.js";
+import { onlyBegun, read, untold } from "./memory.js";
 import { metricsOf } from "./metrics.js";
 import { judgedRest } from "./rest.js";
 import { Ring } from "./ring.js";
 import { Saver } from "./saver.js";
-import { Triggers } from "./triggers.js";
-import { iso } from "./wall.js";
+import { SURE, Triggers } from "./triggers.js";
+import { iso, stepAt } from "./wall.js";
 
 /** How often what is known is written down, in seconds, and of bits that come faster; incidents that wait, at most. */
 const [KEEP, KEEP_BITS, MOST_WAITING] = [10, 60 * RATE, 4];
@@ -27,6 +27,7 @@ export class Watch {
   unsaved = 0;
   saving = Promise.resolve();
   kept = { time: 0, place: 0 }; // when what is known was written down, in seconds, and where
+  keepBits = KEEP_BITS;
 
   decoder = /** @type {Decoder} */ (/** @type {unknown} */ (null)); // until it begins
 
@@ -35,15 +36,19 @@ export class Watch {
     this.asked = asked;
     this.wall = asked.wall;
     this.dictionary = asked.dictionary;
-    mkdirSync(asked.folder, { recursive: true });
+    const { disk = DISK } = asked;
+    this.disk = disk;
+    disk.makeFolder(asked.folder);
     this.state = this.path("state.json");
-    this.old = read(this.state);
-    this.number = this.old.run + 1;
     this.complain = onceAMinute(asked.warn);
-    this.journal = new Journal(this.path("incidents.jsonl"), asked.write, this.complain);
+    this.old = read(this.state, this.complain, disk);
+    this.journal = new Journal(this.path("incidents.jsonl"), asked.write, this.complain, disk);
     this.packer = new Packer(asked.form);
     const { ring: most, floor } = asked.limits;
-    this.ring = new Ring(this.path("ring"), this.number, { most, floor, warn: this.complain });
+    const missed = (/** @type {import("./pieces.js").Hole} */ hole) => this.missed(hole);
+    this.ring = new Ring(this.path("ring"), 0, { most, floor, warn: this.complain, missed, disk });
+    this.number = 1 + Math.max(this.old.run, this.ring.lastRun, this.journal.lastRun);
+    this.ring.run = this.number;
     this.saver = new Saver(this.path("incidents"), this.ring, { ...asked, dictionary: () => this.dictionary });
     this.incidents = new Incidents(this.number, asked.limits, this.office());
     this.triggers = new Triggers({
@@ -63,7 +68,8 @@ export class Watch {
    */
   office() {
     return {
-      zero: () => this.wall.zero,
+      zero: (place) => this.zeroAt(place),
+      settled: () => this.wall.settled,
       keep: () => this.keep(),
       log: (record) => this.journal.log(record),
       save: (incident) => {
@@ -72,9 +78,17 @@ export class Watch {
     };
   }
 
+  /**
+   * When place 0 was, by the clock of a place.
+   * @param {number} place
+   */
+  zeroAt(place) {
+    return stepAt(this.wall.zeros, place)?.zero ?? this.wall.zero;
+  }
+
   /** @param {number} place */
   timeOf(place) {
-    return this.wall.zero + place / RATE;
+    return this.zeroAt(place) + place / RATE;
   }
 
   /** @param {string} event @param {Record<string, unknown>} [more] */
@@ -84,14 +98,16 @@ export class Watch {
 
   /** Begins: with what the run before knew, and did not tell. */
   async begin() {
-    const since = this.old.wall === null ? {} : { since: iso(this.old.wall) };
+    const last = this.old.wall === null ? this.journal.told().at(-1)?.wall : iso(this.old.wall);
+    const since = last === undefined ? {} : { since: last };
     this.log("start", since);
     const { kinds, incidents, tally } = await this.rest();
     this.triggers.restore(kinds, 0);
     this.incidents.seam(0);
     this.incidents.tally = tally;
-    const told = this.journal.told().filter(({ event }) => event === "incident");
-    this.incidents.takeOver(untold(incidents, told));
+    const entries = this.journal.told();
+    const left = untold(incidents, entries.filter(({ event }) => event === "incident"));
+    this.incidents.takeOver([...left, ...onlyBegun(entries, left)]);
     this.keep();
     await this.decode(0);
   }
@@ -122,8 +138,11 @@ export class Watch {
   /** Writes down what outlives the watch. */
   keep(isOver = false) {
     const triggers = this.triggers.kept((place) => this.timeOf(place));
-    const [wall, zero, incidents] = [this.wall.now(), this.wall.zero, this.incidents.kept()];
-    this.tried("state", () => keep(this.state, { run: this.number, isOver, wall, zero, triggers, incidents }));
+    const [{ zero, zeros }, wall, incidents] = [this.wall, this.wall.now(), this.incidents.kept()];
+    /** @type {import("./memory.js").Kept} */
+    const known = { run: this.number, isOver, wall, zero, zeros, triggers, incidents };
+    this.tried("ring", () => this.ring.sync());
+    this.tried("state", () => this.disk.put(this.state, JSON.stringify(known)));
   }
 
   /**
@@ -134,7 +153,7 @@ export class Watch {
     const { packer } = this;
     const place = packer.begin;
     const octets = packer.take(text);
-    if (octets.length > 0) this.ring.add(octets, place);
+    if (octets.length > 0) this.ring.add(octets, place, packer.begin);
     await this.decoder.feed(text, packer.places);
     this.look(this.wall.take(packer.places));
     this.judge();
@@ -150,17 +169,27 @@ export class Watch {
     if (set !== 0) this.log("clock set", { seconds: Number(set.toFixed(3)) });
     if (lost === 0) return;
     this.lost += lost;
-    this.incidents.seam(this.packer.places);
-    this.log("input lost", { seconds: Number(lost.toFixed(3)) });
+    const place = this.wall.zeros.at(-1)?.place ?? 0;
+    this.incidents.seam(place);
+    this.log("input lost", { wall: iso(this.timeOf(place)), place, seconds: Number(lost.toFixed(3)) });
+  }
+
+  /**
+   * Tells what the ring lacks.
+   * @param {import("./pieces.js").Hole} hole
+   */
+  missed({ first, past }) {
+    const seconds = Number(((past - first) / RATE).toFixed(3));
+    this.log("bits not kept", { wall: iso(this.timeOf(first)), place: first, seconds });
   }
 
   /** Judges by what `port1` has decided, never by what it was fed. */
   judge() {
     const { mark } = this.decoder;
-    this.triggers.tick(mark);
+    this.triggers.tick(mark - SURE);
     this.incidents.tick(mark);
     const [time, place] = [performance.now() / 1000, mark];
-    if (time - this.kept.time < KEEP && place - this.kept.place < KEEP_BITS) return;
+    if (time - this.kept.time < KEEP && place - this.kept.place < this.keepBits) return;
     this.kept = { time, place };
     this.keep();
     this.measure();
@@ -172,7 +201,7 @@ export class Watch {
     const { prometheus } = this.asked;
     const counts = { lost, unsaved, failed: ring.failed, places, last: this.timeOf(places) };
     if (!prometheus) return;
-    this.tried("metrics", () => put(prometheus, metricsOf(this.triggers, this.incidents.tally, counts)));
+    this.tried("metrics", () => this.disk.put(prometheus, metricsOf(this.triggers, this.incidents.tally, counts)));
   }
 
   /**
@@ -206,14 +235,16 @@ export class Watch {
    * @param {import("./incidents.js").Incident} incident
    */
   async save(incident) {
-    let saved = null;
+    /** @type {import("./saver.js").Saved} */
+    let found = { saved: null, holes: [] };
     try {
-      saved = await this.saver.save(incident, this.incidents.recordOf(incident));
+      found = await this.saver.save(incident, this.incidents.recordOf(incident));
     } catch (fault) {
       this.complain(`an incident: ${/** @type {Error} */ (fault).message}`);
     }
+    const { saved, holes } = found;
     if (saved === null) this.unsaved += 1;
-    this.incidents.told(incident, saved);
+    this.incidents.told(incident, saved, holes);
     const { run } = this.asked;
     const folder = saved === null ? "" : join(this.path("incidents"), saved);
     const fault = run ? await called(run, folder, Object.keys(incident.causes)) : "";
@@ -240,9 +271,12 @@ export class Watch {
     const { places } = this.packer;
     if (isWell) await this.decoder.end();
     if (isWell) this.triggers.tick(places);
-    this.incidents.tick(places);
+    this.incidents.finish(places);
     this.incidents.close();
+    this.wall.settle();
+    this.incidents.settle(Infinity);
     await this.saving;
+    this.ring.goOn(this.ring.past);
     this.ring.close();
     await this.ring.packing;
     this.keep(isWell);

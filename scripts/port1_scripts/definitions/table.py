@@ -73,6 +73,14 @@ def flat_map(change: Callable[[Any], Items], xs: Items) -> Items:
     return items_of([y for x in xs for y in change(x)])
 
 
+def fold(step: Callable[[Any], Callable[[Any], Any]], start: Any, xs: Items) -> Any:
+    """What a value becomes by the items, one after the other."""
+    value = start
+    for x in xs:
+        value = step(value)(x)
+    return value
+
+
 def find(test: Test, xs: Items) -> Case:
     """The first item that passes, if there is one."""
     return next((some(x) for x in xs if test(x)), NONE)
@@ -279,7 +287,7 @@ TOML = "toml.specs.Data"
 FUNCTIONS: Dict[str, Callable[..., Any]] = {
     **{f"{PRELUDE}.{each.__name__}": each for each in [length, take, drop, slice_range, slice_get, slice_index]},
     **{f"{PRELUDE}.{each.__name__}": each for each in [replicate, filter_map, find, take_while, count_by, sum_by]},
-    **{f"{PRELUDE}.{each.__name__}": each for each in [option_map, option_and_then, cond, nat_lt, nat_le]},
+    **{f"{PRELUDE}.{each.__name__}": each for each in [fold, option_map, option_and_then, cond, nat_lt, nat_le]},
     **{f"{PRELUDE}.{each.__name__}": each for each in [codes, decimal]},
     **{f"{LIST}.{each.__name__}": each for each in [flat_map, list_all, list_any, starts_with, last_or]},
     **{f"{OPTION}.{each.__name__}": each for each in [option_map, option_to_list]},

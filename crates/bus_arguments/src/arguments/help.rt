@@ -54,8 +54,9 @@ With --two or --arrivals each line of text begins with 1 or 2, the line of the b
 about. Commands wait on the first and answers come on the second, so lines with answered,
 missing, spoilt, late and pending begin with 1. A place counts pairs of bits, and is the same on
 both. With --arrivals it counts bits of the first line, and a bit of the second has the place of
-the last one before it. After N places without a bit of the second line (--rest N, 0 for never)
-fifteen 1s come on it, unless it rests: they end what a station broke off.
+the last one before it. Where N places bring no bit of the second line (--rest N), fifteen 1s are
+put in, unless it rests: they end what a station broke off. An abort or idle of this line may be
+made of them; --rest 0 lists without.
 
 The status is 0, or 2 for any fault, reported on standard error, after the lines before it.
 

@@ -40,6 +40,8 @@ const ARRIVALS: ArgumentRow = ArgumentRow {
 const REST: ArgumentRow = ArgumentRow {
     name: "rest",
     defaults: &["400"],
+    conflicts: &["two"],
+    needs: &["arrivals"],
     help: "With --arrivals, the silence after which the second line rests",
     ..NUMBER
 };

@@ -1,7 +1,7 @@
 //! A second line whose clock stops, brought to rest.
 
 use super::scans::{in_octets, traffic};
-use super::{Arrival, CALL, analyser, arrivals_in, number_of, push};
+use super::{Arrival, CALL, analyser, arrivals_in, arrivals_of, bits_of, number_of, push};
 use crate::expect::{holds, same};
 use bus_fcs::OctetCheck;
 use bus_tap::RestRule;
@@ -33,7 +33,24 @@ const REST_ROWS: &str = "\
         68 88 abort, spoilt 8 49 station 16 type 0 on 2; 88 103 idle on 2\n\
     a stop of 63 places # 64 # 50 0 1, 1 1 28, 63 1 1, 1 1 28 # flag reply flag => \
         8 49 frame 108300fde5 station 16 type 0 on 1; 57 72 idle on 1; \
-        58 161 frame 108380f561 station 16 type 128, answered 8 49 station 16 type 0 on 2";
+        58 161 frame 108380f561 station 16 type 128, answered 8 49 station 16 type 0 on 2\n\
+    sixteen places between octets # 40 # 60 0 1, 1 1 8, 16 0 1, 1 1 8, 16 0 1, 1 1 8, 16 0 1, 1 1 8, 16 0 1, 1 1 8, \
+        16 0 1, 1 1 17 # flag reply flag => \
+        8 49 frame 108300fde5 station 16 type 0 on 1; 57 72 idle on 1; \
+        84 189 frame 108380f561 station 16 type 128, answered 8 49 station 16 type 0 on 2";
+
+/// The name of a row, the silence, and arrivals as in a capture, with `-` where fifteen ones are put in.
+const FILLS: &str = "\
+    once in a silence # 5 # o00000-0000000\n\
+    at rest by what was put in # 5 # o00000-i00000ii0000000\n\
+    again behind a 0 # 5 # o00000-i00000o00000-\n\
+    a 0 in time # 5 # o0000o0000o00000-\n\
+    fourteen ones # 5 # oiiiiiiiiiiiiii00000-\n\
+    fifteen ones # 5 # oiiiiiiiiiiiiiii00000\n\
+    one put in behind fourteen # 5 # oiiiiiiiiiiiiii00000-o00000-\n\
+    before the first 0 # 5 # 00000i00000ii00000\n\
+    after each bit of the first line # 1 # o0-0i0i0o1-1\n\
+    never # 0 # o0000000000000000000000";
 
 /// What is seen of arrivals with rest put in by a rule that is kept in numbers from one to the next.
 fn rested(rt: &impl Abort, alloc: Global, most: u64, arrivals: &[Arrival]) -> String {
@@ -71,6 +88,55 @@ fn rows_of_rest(rt: HostRuntime) {
     for line in REST_ROWS.lines() {
         check_rest(&rt, rt.alloc(), line);
     }
+}
+
+/// Where the rule puts ones in.
+fn check_fills(rt: &impl Abort, alloc: Global, line: &str) {
+    let (name, rest) = line.split_once('#').expect(rt, "a name");
+    let (most, want) = rest.split_once('#').expect(rt, "a silence");
+    let mut rule = RestRule::new(number_of(rt, Some(most.trim())) as u64);
+    let mut text = String::new(alloc);
+    for mark in want.trim().chars() {
+        let line = if mark == 'o' || mark == 'i' {
+            Line::Second
+        } else {
+            Line::First
+        };
+        if mark != '-' {
+            text.push(mark).expect(rt, "text");
+            if rule.push(line, mark == '1' || mark == 'i') {
+                text.push('-').expect(rt, "text");
+            }
+        }
+    }
+    same(rt, text.as_str(), want.trim(), name);
+}
+
+#[test]
+fn fills(rt: HostRuntime) {
+    for line in FILLS.lines() {
+        check_fills(&rt, rt.alloc(), line);
+    }
+}
+
+/// Bits behind a closing flag, after which the second clock stops, do not spoil the next answer.
+#[test]
+fn bits_behind_an_answer(rt: HostRuntime) {
+    let alloc = rt.alloc();
+    let words = "flag call flag ones-57 ones-57 111111 flag call flag ones-57 ones-57 111111";
+    let first = bits_of(&rt, alloc, words);
+    let second = bits_of(&rt, alloc, "flag reply flag 010 flag reply flag 010");
+    let turns = "57 0 1, 1 1 60, 117 0 1, 1 1 60";
+    let arrivals = arrivals_of(&rt, alloc, &first, &second, turns);
+    let text = rested(&rt, alloc, 40, &arrivals);
+    let want = "\
+        8 49 frame 108300fde5 station 16 type 0 on 1; 57 72 idle on 1; \
+        65 106 frame 108380f561 station 16 type 128, answered 8 49 station 16 type 0 on 2; \
+        114 117 abort on 2; 156 157 idle on 2; \
+        185 226 frame 108300fde5 station 16 type 0 on 1; 234 249 idle on 1; \
+        242 283 frame 108380f561 station 16 type 128, answered 185 226 station 16 type 0 on 2; \
+        291 294 abort on 2; 333 334 idle on 2";
+    same(&rt, text.as_str(), want, "bits behind an answer");
 }
 
 /// The silence that suits a cabinet, and what is left of it. A line that rests is quiet for as long as another.

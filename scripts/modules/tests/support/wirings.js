@@ -1,6 +1,6 @@
 // What is said of recordings, whose facts and listings stand on standard input: all warnings, and the summary.
 
-import { readFileSync } from "node:fs";
+import { readFileSync, writeSync } from "node:fs";
 import { readDictionary } from "../../dictionary/dictionary.js";
 import { RATE } from "../../port1.js";
 import { doubtsOf } from "../../recording/doubts.js";
@@ -14,9 +14,11 @@ const { dictionary, names, recordings } = JSON.parse(readFileSync(0, "utf8"));
 const entries = readDictionary(dictionary);
 const said = recordings.map(({ facts, samples, listing }) => {
   const counted = factsIn(facts);
-  const warnings = doubtsOf(counted, names, { rising: true, when: new Moments(samples) }).map(({ text }) => text);
+  const how = { rising: true, when: new Moments(samples), isSampled: true };
+  const warnings = doubtsOf(counted, names, how).map(({ text }) => text);
   const bus = new Bus(RATE);
   bus.takeAll(rowsOf(listing));
   return { warnings, summary: report(bus, { end: counted.lines[0].bits.count || null, entries }) };
 });
-process.stdout.write(JSON.stringify(said));
+const text = Buffer.from(JSON.stringify(said));
+for (let at = 0; at < text.length; ) at += writeSync(1, text, at);

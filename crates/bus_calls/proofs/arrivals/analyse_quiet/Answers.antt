@@ -15,9 +15,9 @@ returns-clause-taken g c = λ start b fed.
     let before = map arrival_of b in
     let ys = arrivals_from bits lines 0 c.args.count in
     let more = zip (bits_from bits 0 c.args.count) (bits_from lines 0 c.args.count) in
+    let quiet = c.requires.quiet before ys fed.rule (omega (arith, length-arrivals bits lines 0 c.args.count)) in
     symbols-taken view start _ c.analyse_arrivals.new.run c.analyse_arrivals.result
     (rw (c.analyse_arrivals.ensures.rule)
-    (rests-more rest c.pass.new.self b more ys ys c.pass.ensures.most refl
-    (c.requires.quiet before ys fed.rule (omega (arith, length-arrivals bits lines 0 c.args.count)))
-    (c.pass.ensures.after before fed.rule)))
+    (rests-more rest c.pass.new.self b more ys ys c.pass.ensures.most refl quiet
+    (c.pass.ensures.after before fed.rule quiet)))
     (c.analyse_arrivals.ensures.taken start (rested rest.most before) (watched-behind view refl refl fed.bits))

@@ -1,69 +1,103 @@
-use Rattle.std.proofs.Common.{◌≡◌, ◌+◌, ◌-◌, ◌∷◌, ◌++◌, [], ℕ, List, true, min, length, refl, sym, ap, ◌∙◌}
+use Rattle.std.proofs.Common.{◌≡◌, ◌+◌, ◌-◌, ◌∷◌, ◌++◌, ◌≤◌, [], ℕ, Bool, List, true, min, length, refl, sym, ap, ◌∙◌}
 use Rattle.std.proofs.Common.{arith, append_assoc, append-nil}
 use Rattle.bus_bits.specs.Bits.{bit_at}
 use Rattle.bus_line.specs.Run.{ones_after}
 use Rattle.bus_pairing.specs.declared.line.Line.TheVariants.{Second}
 use Rattle.bus_tap.specs.Arrival.{Arrival, arrivals_from, own}
 use Rattle.bus_tap.specs.Internal.RestView.{rest_state}
-use Rattle.bus_tap.specs.Rested.{IsRestAfter, RestState}
+use Rattle.bus_tap.specs.Rested.{IsRestAfter, RestState, rested, silence}
 use Rattle.bus_bits.proofs.OctetLemmas.{least}
-use Rattle.bus_tap.proofs.ArrivalLemmas.{arrivals-last, arrivals-more, arrivals-none, length-arrivals}
-use Rattle.bus_tap.proofs.QuietLemmas.{after-firsts, after-last}
+use Rattle.bus_tap.proofs.ArrivalLemmas.{own-append, arrivals-last, arrivals-more, arrivals-none, length-arrivals}
+use Rattle.bus_tap.proofs.QuietLemmas.{ones-on, silent-firsts, silent-last}
 use Rattle.bus_tap.proofs.rest.RestRule.pass.Goals.{then-past-gt0, else-past-gt0}
 use Rattle.bus_tap.proofs.rest.RestRule.pass.Goals as goal
 
 -- those up to the last bit of the second line, and then those of the first line alone
-module _ (r : RestState) (bits lines : List ℕ) (xs : List Arrival) (past count silent : ℕ) where
-  last-of : IsRestAfter r xs → bit_at lines (past - 1) ≡ true → past - 1 + 1 ≡ past →
-      IsRestAfter (record r {
-        silent = 0;
-        ones = min 15 (ones_after r.ones (own Second (arrivals_from bits lines 0 past)));
-      })
-      (xs ++ arrivals_from bits lines 0 past)
-  last-of after second next =
-      let zs = arrivals_from bits lines 0 (past - 1) in
-      let whole : arrivals_from bits lines 0 past ≡ zs ++ (Second, bit_at bits (past - 1)) ∷ [] =
-      ap (arrivals_from bits lines 0) (sym next)
-      ∙ (arrivals-last bits lines (past - 1) ∙ rw second refl) in
-      rw whole (after-last r xs zs (bit_at bits (past - 1)) after)
+module _ (most : ℕ) (bits lines : List ℕ) (xs : List Arrival) (past count : ℕ) (sum : past + (count - past) ≡ count)
+    (alone : own Second (arrivals_from bits lines past (count - past)) ≡ []) where
+  abbrev front : List Arrival
+  front = arrivals_from bits lines 0 past
 
-  all-of : past + (count - past) ≡ count → own Second (arrivals_from bits lines past (count - past)) ≡ []
-      → silent ≡ min r.most (r.silent + (count - past)) → IsRestAfter r (xs ++ arrivals_from bits lines 0 past)
-      → IsRestAfter (record r { silent = silent }) (xs ++ arrivals_from bits lines 0 count)
-  all-of sum alone is after =
+  abbrev behind : List Arrival
+  behind = arrivals_from bits lines past (count - past)
+
+  whole : arrivals_from bits lines 0 count ≡ front ++ behind
+  whole =
       let here : 0 + past ≡ past = omega arith in
-      let behind = arrivals_from bits lines past (count - past) in
-      let whole : arrivals_from bits lines 0 count ≡ arrivals_from bits lines 0 past ++ behind =
       ap (arrivals_from bits lines 0) (sym sum)
       ∙ (arrivals-more bits lines 0 past (count - past)
-      ∙ ap (λ (i : ℕ). arrivals_from bits lines 0 past ++ arrivals_from bits lines i (count - past)) here) in
-      let front = xs ++ arrivals_from bits lines 0 past in
-      let same : silent ≡ min r.most (r.silent + length behind) =
-      is ∙ ap (λ (n : ℕ). min r.most (r.silent + n)) (sym (length-arrivals bits lines past (count - past))) in
-      rw (whole, ← append_assoc xs (arrivals_from bits lines 0 past) behind, same)
-      (after-firsts r front behind after alone)
+      ∙ ap (λ (i : ℕ). front ++ arrivals_from bits lines i (count - past)) here)
+
+  same-second : own Second (arrivals_from bits lines 0 count) ≡ own Second front
+  same-second =
+      ap (own Second) whole
+      ∙ (own-append Second front behind ∙ (ap (λ (b : List Bool). own Second front ++ b) alone
+      ∙ append-nil (own Second front)))
+
+  silent-front : bit_at lines (past - 1) ≡ true → past - 1 + 1 ≡ past → 0 ≡ min most (silence (xs ++ front))
+  silent-front second next =
+      let zs = arrivals_from bits lines 0 (past - 1) in
+      let those : front ≡ zs ++ (Second, bit_at bits (past - 1)) ∷ [] =
+      ap (arrivals_from bits lines 0) (sym next)
+      ∙ (arrivals-last bits lines (past - 1) ∙ rw second refl) in
+      rw those (silent-last most xs zs (bit_at bits (past - 1)))
+
+  silent-all : (silent now : ℕ) → (1 ≤ length (own Second (xs ++ front)) → silent ≡ min most (silence (xs ++ front))) →
+      now ≡ min most (silent + (count - past)) →
+      1 ≤ length (own Second (xs ++ arrivals_from bits lines 0 count)) →
+      now ≡ min most (silence (xs ++ arrivals_from bits lines 0 count))
+  silent-all silent now before is some =
+      let all : xs ++ arrivals_from bits lines 0 count ≡ (xs ++ front) ++ behind =
+      ap (λ (ys : List Arrival). xs ++ ys) whole ∙ sym (append_assoc xs front behind) in
+      is
+      ∙ (ap (λ (n : ℕ). min most (silent + n)) (sym (length-arrivals bits lines past (count - past)))
+      ∙ (silent-firsts most silent (xs ++ front) behind before alone (rw all at some)
+      ∙ ap (λ (ys : List Arrival). min most (silence ys)) (sym all)))
 
 pub returns-clause-after : goal.returns-clause-after
-returns-clause-after c = λ xs after.
+returns-clause-after c = λ xs after quiet.
     let bits = c.args.bits.now in
     let lines = c.args.lines.now in
     let past = c.past_second-past.result in
     let inside = c.if-past-gt0.self-inside in
-    let now : RestState = record { most = inside.most; silent = c.if-past-gt0.silent; ones = inside.ones } in
+    let front = arrivals_from bits lines 0 past in
+    let all = arrivals_from bits lines 0 c.args.count in
     let old : IsRestAfter (rest_state c.self.inside) xs = rw (c.self.view_is) after in
-    let front : IsRestAfter now (xs ++ arrivals_from bits lines 0 past) = elim c.if-past-gt0.branch [
+    let most = ap (λ (r : RestState). r.most) c.self.view_is in
+    let sum : past + (c.args.count - past) ≡ c.args.count = omega (arith, c.past_second-past.ensures.within) in
+    let alone = c.past_second-past.ensures.behind bits in
+    let stands : (inside.most ≡ c.self.inside.most)
+    × ((inside.ones ≡ min 15 (ones_after c.self.inside.ones (own Second front)))
+    × (1 ≤ length (own Second (xs ++ front)) → c.if-past-gt0.silent ≡ min c.self.inside.most (silence (xs ++ front)))) =
+    elim c.if-past-gt0.branch [
       | then-past-gt0 w ↦
-          rw (w.self-inside-is, w.silent-is, w.ones_before-self-inside.ensures)
-          (last-of (rest_state c.self.inside) bits lines xs past c.args.count 0 old
-          (c.past_second-past.ensures.last (omega (arith, w.if-past-gt0.true))) (omega (arith, w.if-past-gt0.true)))
+          rw (w.self-inside-is, w.silent-is, w.ones_before-self-inside.ensures) (
+            refl,
+            (
+              refl,
+              λ some. silent-front c.self.inside.most bits lines xs past c.args.count sum alone
+                  (c.past_second-past.ensures.last (omega (arith, w.if-past-gt0.true)))
+                  (omega (arith, w.if-past-gt0.true)),
+            ),
+          )
       | else-past-gt0 w ↦
           (let none : past ≡ 0 = omega (arith, w.if-past-gt0.false) in
-          rw (w.self-inside-is, w.silent-is, none, arrivals-none bits lines 0, append-nil xs) old)
+          rw (w.self-inside-is, w.silent-is, none, arrivals-none bits lines 0, append-nil xs) (
+            refl,
+            (omega (arith, old.ones), old.silent),
+          ))
     ] in
-    all-of now bits lines xs past c.args.count _ (omega (arith, c.past_second-past.ensures.within))
-    (c.past_second-past.ensures.behind bits)
-    (omega (
-      arith,
-      c.min-self-inside.ensures ∙ least inside.most c.saturating_add.result,
-      c.saturating_add.ensures,
-    )) front
+    record {
+      silent = silent-all inside.most bits lines xs past c.args.count sum alone c.if-past-gt0.silent _
+          (rw (stands.0) stands.1.1)
+          (omega (
+            arith,
+            c.min-self-inside.ensures ∙ least inside.most c.saturating_add.result,
+            c.saturating_add.ensures,
+          ));
+      ones = stands.1.0
+          ∙ (ap (λ (b : List Bool). min 15 (ones_after c.self.inside.ones b))
+          (sym (same-second inside.most bits lines xs past c.args.count sum alone))
+          ∙ ones-on c.self.inside.ones (rested inside.most xs) (rested inside.most (xs ++ all)) all
+          (rw (stands.0) old.ones) (rw (stands.0, most) quiet));
+    }

@@ -1,5 +1,6 @@
 use Rattle.std.proofs.Common.{false, sym, ◌∙◌}
 use Rattle.bus_pairing.specs.declared.line.Line.TheVariants.{First, Second}
+use Rattle.bus_tap.specs.Rested.{rested}
 use Rattle.bus_tap.proofs.RestLemmas.{rested-more, comes-first, comes-second, after-first, after-second}
 use Rattle.bus_tap.proofs.rest.RestRule.push.Goals as goal
 
@@ -11,12 +12,15 @@ returns-in-First-clause-rested c = λ xs after.
 
 pub returns-in-First-clause-after : goal.returns-in-First-clause-after
 returns-in-First-clause-after c = λ xs after.
-    rw (c.in-First.is, c.push_first.ensures.silent) (after-first c.args.self.now xs c.args.bit after)
+    rw (c.in-First.is, c.push_first.ensures.stands)
+    (after-first c.args.self.now xs c.args.bit after c.push_first.result
+    (comes-first c.args.self.now xs c.args.bit after c.push_first.ensures.within ∙ sym c.push_first.ensures.comes))
 
 pub returns-in-Second-clause-rested : goal.returns-in-Second-clause-rested
 returns-in-Second-clause-rested c = λ xs after.
+    let most = c.args.self.now.most in
     rw (c.in-Second.is)
-    (rested-more c.args.self.now.most xs (Second, c.args.bit) false (comes-second c.args.self.now.most xs c.args.bit))
+    (rested-more most xs (Second, c.args.bit) false (comes-second most (rested most xs) c.args.bit))
 
 pub returns-in-Second-clause-after : goal.returns-in-Second-clause-after
 returns-in-Second-clause-after c = λ xs after.

@@ -1,7 +1,7 @@
 //! The program `port1-sample`, by its words.
 
 use crate::expect::same;
-use crate::fakes::{Narrow, Pieces};
+use bus_rows::fakes::{Narrow, Pieces};
 use bus_sample_tool::run;
 use std::alloc::Global;
 use std::process::Abort;

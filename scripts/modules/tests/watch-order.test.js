@@ -1,0 +1,87 @@
+// What is told of an input is the same however fast it comes.
+
+import assert from "node:assert/strict";
+import { test } from "node:test";
+
+import { RATE } from "../port1.js";
+import { Incidents } from "../watch/incidents.js";
+import { SURE, Triggers } from "../watch/triggers.js";
+import { rowsOf } from "./support/talk.js";
+import { randomOf } from "./support/random.js";
+
+const [ROUND, SECONDS] = [6144, 100];
+
+/** When stations are silent or not asked, and when nothing comes, in seconds. */
+/** @type {[kind: string, from: number, past: number][]} */
+const FAULTS = /** @type {any} */ ([
+  ...[["silent", 4, 5], ["unasked", 16.4, 16.9], ["rest", 30, 31.5], ["silent", 41.9, 42.4], ["burst", 54.1, 54.4]],
+  ...[["rest", 65.9, 67.1], ["unasked", 65.2, 66.2], ["silent", 78, 79], ["burst", 79.1, 79.3], ["unasked", 78.9, 79.3]],
+]);
+
+const has = (kind, place) => FAULTS.some(([own, from, past]) => own === kind && from * RATE <= place && place < past * RATE);
+
+/** The lines of a talk, each with the place at which it is decided. */
+function talk() {
+  const lines = [];
+  const put = (text, at) => lines.push({ text, at });
+  for (let place = 0; place < SECONDS * RATE; place += ROUND) {
+    if (has("burst", place)) [500, 900, 1300].forEach((at) => put(`1 ${place + at} ${place + at + 90} damaged short`, place + at + 91));
+    for (const [at, station] of [[100, 1], [3000, 2]]) {
+      const [first, past] = [place + at, place + at + 56];
+      if (has("rest", first) || (station === 1 && has("unasked", first))) continue;
+      const isSilent = station === 2 && has("silent", first);
+      put(`1 ${first} ${past} frame 0${station}83010000 station ${station} type 1 poll`, past + 1);
+      if (isSilent) put(`1 ${first} ${past} missing station ${station} type 1`, past + 8000);
+      else put(`2 ${past + 200} ${past + 256} frame 0${station}83810000 station ${station} type 129 state`, past + 257);
+      if (!isSilent) put(`1 ${first} ${past} answered station ${station} type 1`, past + 257);
+    }
+  }
+  return lines.sort((one, other) => one.at - other.at);
+}
+
+const LINES = talk();
+const ROWS = rowsOf(LINES.map(({ text }) => text)).map((row, at) => ({ row, at: LINES[at].at }));
+
+/** What is told, sorted, where pieces of the input come that are so long at most, in seconds. */
+function toldBy(longest, after, seed) {
+  const random = randomOf(seed);
+  /** @type {any[]} */
+  const told = [];
+  const office = { zero: () => 0, keep() {}, log: (record) => told.push(record), save: (one) => told.push(incidents.recordOf(one)) };
+  const incidents = new Incidents(1, { after, longest: 120 }, office);
+  const triggers = new Triggers({
+    trigger: (cause, first, past) => incidents.trigger(cause, first, past),
+    wellAgain: (about, first, past, since) => incidents.wellAgain(about, first, past, since),
+  }, new Map());
+  const past = SECONDS * RATE;
+  for (let [place, at] = [0, 0]; place < past; ) {
+    place = Math.min(past, place + 1 + random.below(longest * RATE));
+    const from = at;
+    while (at < ROWS.length && ROWS[at].at <= place) at += 1;
+    triggers.hear(ROWS.slice(from, at).map(({ row }) => row));
+    triggers.tick(place - SURE);
+    incidents.tick(place);
+  }
+  triggers.tick(past);
+  incidents.finish(past);
+  incidents.close();
+  incidents.settle(Infinity);
+  return told.sort((one, other) => (JSON.stringify(one) < JSON.stringify(other) ? -1 : 1));
+}
+
+for (const after of [1, 3, 10]) {
+  test(`an input in pieces of any size has the same incidents, joined within ${after} s`, () => {
+    const wanted = toldBy(0.05, after, 1);
+    const incidents = wanted.filter(({ causes }) => causes !== undefined);
+    assert.equal(incidents.length, 7);
+    for (const [number, longest] of [0.1, 0.3, 1, 3, 5, 12, 30, 60, 100].entries()) {
+      for (const seed of [2, 3, 4]) assert.deepEqual(toldBy(longest, after, 10 * number + seed), wanted, `${longest} s`);
+    }
+  });
+}
+
+test("what is well again is told, also where its end is heard with its beginning", () => {
+  const kinds = toldBy(100, 10, 1).filter(({ event }) => event === "well again").map(({ kind, line }) => kind ?? line);
+  assert.deepEqual(kinds.filter((kind) => kind === "1/1").length, FAULTS.filter(([kind]) => kind !== "silent" && kind !== "burst").length - 1);
+  assert.equal(kinds.filter((kind) => kind === "both").length, 2);
+});

@@ -1,0 +1,196 @@
+// Power fails after any step of writing, and within any: each incident is told once, and no number comes twice.
+
+import assert from "node:assert/strict";
+import { existsSync, mkdtempSync, readFileSync, readdirSync, rmSync, writeFileSync } from "node:fs";
+import { tmpdir } from "node:os";
+import { join } from "node:path";
+import { test } from "node:test";
+
+import { RATE } from "../port1.js";
+import { PAIRS } from "../watch/forms.js";
+import { Journal } from "../watch/journal.js";
+import { read } from "../watch/memory.js";
+import { RecordedWall } from "../watch/wall.js";
+import { Watch } from "../watch/watch.js";
+import { Left, Quick, TakenDown, lay } from "./support/cut_disk.js";
+import { LINES, SECONDS, WANTED, rowsOf } from "./support/talk.js";
+
+const ROWS = rowsOf(LINES);
+
+/** What a decoder takes to decide a line, in places; how often what is known is written down, in seconds. */
+const [DECIDED, KEEP] = [4000, 5];
+
+/** A decoder that knows what comes. */
+class Known {
+  hasEnded = false;
+  said = "";
+  at = 0;
+  mark = 0;
+
+  constructor(hear) {
+    this.hear = hear;
+  }
+
+  async feed(_, place) {
+    this.mark = place - DECIDED;
+    const from = this.at;
+    while (this.at < ROWS.length && ROWS[this.at].past <= this.mark) this.at += 1;
+    this.hear(ROWS.slice(from, this.at));
+  }
+
+  async end() {}
+}
+
+/** What lists the bits that a ring has. */
+async function* lines(_, words, capture) {
+  const place = Number(words[words.indexOf("--origin") + 1]);
+  const past = place + 4 * (capture.length - 16);
+  yield* ROWS.filter((row) => row.first >= place && row.past + DECIDED <= past);
+}
+
+class Tried extends Watch {
+  constructor(folder, disk, warn = assert.fail) {
+    super(/** @type {any} */ ({
+      ...{ folder, disk, program: "", form: PAIRS, dictionary: "", gaps: new Map(), wall: new RecordedWall(1.8e9), lines },
+      limits: { before: 10, after: 5, longest: 120, ring: 1 << 30, keep: 1 << 30, floor: 0 },
+      ...{ write() {}, warn },
+    }));
+    this.keepBits = KEEP * RATE;
+    this.ring.segment = 1 << 18;
+    this.saver.fill = async (fresh) => writeFileSync(join(fresh, "bits.ts2"), "");
+  }
+
+  async decode() {
+    this.decoder = /** @type {any} */ (new Known((rows) => this.triggers.hear(rows)));
+  }
+}
+
+const inFolder = async (body) => {
+  const folder = mkdtempSync(join(tmpdir(), "port1-"));
+  try {
+    return await body(folder);
+  } finally {
+    rmSync(folder, { recursive: true, force: true });
+  }
+};
+
+/** The steps of a run over the whole talk. */
+const stepsOfRun = () => inFolder(async (folder) => {
+  const disk = new TakenDown(folder);
+  const watch = new Tried(folder, disk);
+  await watch.begin();
+  for (let second = 0; second < SECONDS; second++) {
+    await watch.take(Buffer.from("3".repeat(RATE)));
+    await watch.ring.packing;
+    await watch.saving;
+  }
+  await watch.end();
+  return disk.steps;
+});
+
+const logOf = (files) => (files.get("incidents.jsonl")?.toString() ?? "").split("\n").slice(0, -1).map((line) => JSON.parse(line));
+
+/** What is wrong after a power cut that left some files: what the next run tells, and how it goes on. */
+const problemsAfter = (files, bits) => inFolder(async (folder) => {
+  lay(files, folder);
+  const known = logOf(files);
+  const watch = new Tried(folder, new Quick());
+  await watch.begin();
+  await watch.end();
+  const log = readFileSync(join(folder, "incidents.jsonl"), "utf8").trim().split("\n").map((line) => JSON.parse(line));
+  const told = log.filter(({ event }) => event === "incident");
+  const found = told.map(({ causes, place }) => JSON.stringify([Object.keys(causes).join(), place]));
+  const begun = known.filter(({ event }) => event === "begun").map(({ id }) => id);
+  const wanted = WANTED.filter(([, place]) => /** @type {number} */ (place) + 3 * RATE < bits);
+  const runs = [...known.map(({ run }) => run), ...[...files.keys()].filter((name) => name.startsWith("ring/")).map((name) => Number(name.slice(5, 11)))];
+  return [
+    ...found.filter((one) => !WANTED.some((wanted) => JSON.stringify(wanted) === one)).map((one) => `invented ${one}`),
+    ...found.filter((one, at) => found.indexOf(one) !== at).map((one) => `twice ${one}`),
+    ...wanted.filter((one) => !found.includes(JSON.stringify(one))).map((one) => `lost ${one}`),
+    ...begun.filter((id) => !told.some((one) => one.id === id)).map((id) => `begun and not told: ${id}`),
+    ...told.filter(({ id }) => log.filter((one) => one.event === "begun" && one.id === id).length !== 1).map(({ id }) => `begun: ${id}`),
+    ...told.filter(({ saved }) => saved === null || !existsSync(join(folder, "incidents", saved))).map(({ id }) => `not saved: ${id}`),
+    ...(runs.includes(watch.number) ? [`run ${watch.number} comes again`] : []),
+  ];
+});
+
+/** How many places the ring has among some files. */
+const bitsIn = (files) => [...files].filter(([name]) => /^ring\/[0-9-]+$/.test(name)).reduce((most, [name, octets]) => Math.max(most, Number(name.slice(12)) + 4 * octets.length), 0);
+
+for (const isFlushed of [false, true]) {
+  test(`power fails after each step, and ${isFlushed ? "only what was flushed" : "all that was written"} is left`, async () => {
+    const [steps, left] = [await stepsOfRun(), new Left()];
+    const kinds = new Set(steps.map(({ kind }) => kind));
+    assert.deepEqual([...kinds].sort(), ["open", "remove", "rename", "sync", "syncFolder", "write"]);
+    for (const [number, step] of steps.entries()) {
+      left.step(step);
+      const [all, files] = [left.files(false), left.files(isFlushed)];
+      const lost = (bitsIn(all) - bitsIn(files)) / RATE;
+      assert.ok(lost <= KEEP + 1, `${lost} s of bits are lost after step ${number}`);
+      assert.deepEqual(await problemsAfter(files, bitsIn(files)), [], `after step ${number}, ${step.kind} ${step.path ?? step.to}`);
+    }
+  });
+}
+
+test("power fails at each octet of what is written: the log has whole lines, the state is the one before", async () => {
+  const [steps, left] = [await stepsOfRun(), new Left()];
+  await inFolder(async (folder) => {
+    for (const step of steps) {
+      const before = left.files(false);
+      left.step(step);
+      if (step.kind !== "write" || step.path.startsWith("ring/")) continue;
+      const known = logOf(before);
+      const state = before.get("state.json")?.toString();
+      const whole = left.files(false).get(step.path) ?? Buffer.alloc(0);
+      for (let cut = 0; cut < step.octets.length; cut++) {
+        const octets = whole.subarray(0, whole.length - step.octets.length + cut);
+        lay([...[...before].filter(([name]) => !name.startsWith("ring/")), [step.path, octets]], folder);
+        assert.deepEqual(new Journal(join(folder, "incidents.jsonl"), () => {}, assert.fail, new Quick()).told(), known);
+        const kept = read(join(folder, "state.json"), assert.fail, new Quick());
+        assert.equal(JSON.stringify(kept), state ?? JSON.stringify(kept));
+      }
+    }
+  });
+});
+
+test("power fails at any octet of a segment: what the next run judges is what stood before it", async () => {
+  const [steps, left] = [await stepsOfRun(), new Left()];
+  for (const step of steps) {
+    const before = left.files(false);
+    left.step(step);
+    if (step.kind !== "write" || !step.path.startsWith("ring/") || step.path.endsWith(".new")) continue;
+    const whole = left.files(false).get(step.path) ?? Buffer.alloc(0);
+    const octets = whole.subarray(0, whole.length - (step.octets.length >> 1) - 1);
+    const files = new Map([...before, [step.path, octets]]);
+    assert.deepEqual(await problemsAfter(files, bitsIn(files)), []);
+  }
+});
+
+/** Texts in place of the state. */
+const JUNK = ["", "{", "{}", "[]", "null", "7", '"state"', '{"run":"x"}', '{"run":1,"isOver":true}'];
+
+test("a state of another shape is set aside in one line, and its run is not numbered again", async () => {
+  const steps = await stepsOfRun();
+  const left = new Left();
+  const begun = steps.findIndex(({ octets }) => octets?.toString().startsWith('{"event":"begun"'));
+  steps.slice(0, begun + 3).forEach((step) => left.step(step));
+  for (const junk of [...JUNK, null]) {
+    await inFolder(async (folder) => {
+      const files = left.files(false);
+      if (junk === null) files.delete("state.json");
+      else files.set("state.json", Buffer.from(junk));
+      lay(files, folder);
+      /** @type {string[]} */
+      const said = [];
+      const watch = new Tried(folder, new Quick(), (text) => said.push(text));
+      await watch.begin();
+      await watch.end();
+      assert.equal(watch.number, 2);
+      assert.equal(said.filter((text) => text.startsWith("the state: ") && !text.includes("\n")).length, junk === null ? 0 : 1);
+      assert.equal(readdirSync(folder).includes("state.json.bad"), junk !== null);
+      const told = readFileSync(join(folder, "incidents.jsonl"), "utf8").trim().split("\n").map((line) => JSON.parse(line));
+      const incidents = told.filter(({ event }) => event === "incident");
+      assert.deepEqual(incidents.map(({ id, place, cut }) => [id, place, cut]), [["1-1", WANTED[0][1], true]], junk ?? "none");
+    });
+  }
+});
