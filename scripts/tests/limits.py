@@ -194,8 +194,10 @@ def names_faults(folder: Path) -> List[str]:
         is_right = is_told and got.returncode == 2 and not got.stdout
         found += [] if is_right else [f"{text!r}: {got.returncode}, {got.stderr!r}"]
     empty, bad = wrote(folder, "empty", b""), wrote(folder, "bad", b"8 9\n")
+    cut = wrote(folder, "cut", b"8 49 frame 108300fde5\n57 72 idle")
     faults = {
         f"a={empty}": ("[bus]\ndamaged = 0\n", "there is no frame: nothing to judge"),
+        f"a={cut}": ("[bus]\ndamaged = 0\n", "the listing was cut off within its last line"),
         f"a={bad}": ("[bus]\ndamaged = 0\n", 'line 1 is no line of `port1 list`: "8 9"'),
         f"a={good}": (f"{kind}missing = 0\n", "the listing was made without a dictionary: no answer can be judged"),
         "a=/no/list": ("[bus]\ndamaged = 0\n", "ENOENT: no such file or directory, open '/no/list'"),

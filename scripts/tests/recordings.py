@@ -300,6 +300,25 @@ RUNS = [
         f'{USAGE}\n{SCRIPT}: error: --samplerate: "fast" is no rate\n',
         2,
     ),
+    Run(
+        "no samples a second",
+        [SCRIPT, "0", "1", "--samplerate=0 kHz"],
+        bytes(9),
+        b"",
+        f'{USAGE}\n{SCRIPT}: error: --samplerate: "0 kHz" is no rate above 0\n',
+        2,
+    ),
+    *(
+        Run(
+            f"samples of {count} octets",
+            [SCRIPT, "0", "1", f"--octets={count}"],
+            bytes(9),
+            b"",
+            f'{USAGE}\n{SCRIPT}: error: --octets: "{count}" is no whole number from 1 to 8\n',
+            2,
+        )
+        for count in (0, 9, 18)
+    ),
 ]
 
 

@@ -191,7 +191,59 @@ def report_of_a_recording(folder: Path) -> List[str]:
     return problems + ([] if copied else ["the dictionary is another"])
 
 
+NOTHING = "The listing is empty: nothing is known of the bus. Where a fault was told, mend that first.\n"
+
+
+def report_without_frames(folder: Path) -> List[str]:
+    """Where the wires are wrong there is a report all the same, which says first what is wrong with them."""
+    wires, exchanged, dead = EXAMPLES / "four-wires.csv", folder / "exchanged", folder / "dead"
+    problems = made_by(exchanged, [wires, exchanged, "TXD", "TXC", "RXD", "RXC"], 0, "channels TXD, TXC, RXD, RXC\n")
+    told = (exchanged / "summary.txt").read_text(encoding="ascii")
+    wanted = "look at its wires first:\n- TXC has the edges of a clock, and TXD has not: are the two exchanged?\n"
+    problems += [] if wanted in told else [f"of clock and data exchanged it says {told!r}"]
+    table = folder / "dead.csv"
+    rows = wires.read_text(encoding="ascii").splitlines()
+    table.write_text("".join(f"{row.rpartition(',')[0]},1\n" if at else f"{row}\n" for at, row in enumerate(rows)))
+    dictionary = EXAMPLES / "call-and-reply.toml"
+    problems += made_by(dead, [f"--dictionary={dictionary}", table, dead], 0, "warning: RXD never changes")
+    told = (dead / "summary.txt").read_text(encoding="ascii")
+    problems += [] if "- RXD never changes\n" in told else [f"of a dead wire it says {told!r}"]
+    return problems + [f"{made.name} is unfinished" for made in (exchanged, dead) if (made / "unfinished").exists()]
+
+
+def report_that_fails(folder: Path) -> List[str]:
+    """A report is there also where a step failed, and the next call takes its folder; other folders are left alone."""
+    wires, failed, other = EXAMPLES / "four-wires.csv", folder / "failed", folder / "other"
+    misspelt = [wires, failed, "TXC", "TXD", "RXX", "RXD"]
+    problems = made_by(failed, misspelt, 2, "no channel has the name RXX; there are: TXC, TXD, RXC, RXD\n")
+    told = (failed / "summary.txt").read_text(encoding="ascii")
+    problems += [] if told.endswith(NOTHING) else [f"of a misspelt channel it says {told!r}"]
+    problems += made_by(failed, [wires, failed], 0, "TXC has 197 edges")
+    problems += made_by(failed, [wires, failed], 2, f"bus-report: {failed} is there, and not empty\n")
+    made_by(other, misspelt[:1] + [other, *misspelt[2:]], 2, "RXX")
+    (other / "diary.txt").write_text("mine")
+    problems += made_by(other, [wires, other], 2, f"bus-report: {other} is there, and not empty\n")
+    return problems if (other / "diary.txt").read_text() == "mine" else [*problems, "a file of another is gone"]
+
+
+def refusals_of_reports(folder: Path) -> List[str]:
+    """Options and dictionary are looked at before the recording is read: no folder is made."""
+    wires, made = EXAMPLES / "four-wires.csv", folder / "made"
+    none, faulty = folder / "none.toml", folder / "faulty.toml"
+    faulty.write_text("version = 3\n")
+    problems = []
+    for word, told in [
+        (f"--dictionary={none}", f"bus-report: ENOENT: no such file or directory, open '{none}'\n"),
+        (f"--dictionary={faulty}", "bus-report: dictionary: version is not 1 or 2\n"),
+        ("--samplerate=fast", 'bus-report: error: --samplerate: "fast" is no rate\n'),
+        ("--invert=TXX", "bus-report: error: --invert: TXX is none of the channels\n"),
+    ]:
+        problems += made_by(made, [word, wires, made], 2, told)
+        problems += [f"{word}: a folder was made"] if made.exists() else []
+    return problems
+
+
 TESTS: List[Test] = [
     *[holds_the_listing, tells_what_it_is_given, tells_of_the_recording, refuses_another_time, refuses_other_lines],
-    report_of_a_recording,
+    *[report_of_a_recording, report_without_frames, report_that_fails, refusals_of_reports],
 ]

@@ -11,7 +11,7 @@ from tests.case import Run, ran
 from tests.simulated.failing_bus import RATE
 from tests.listings import RATE_USAGE, Listing, bad_line, differing, good_listing
 
-MORE_USAGE = " [--dictionary FILE] [--bits BITS] [--begin TIME] [--json]"
+MORE_USAGE = " [--dictionary FILE] [--bits BITS] [--begin TIME] [--notes FILE] [--json]"
 
 NOT_OURS = "dictionary: version is not 1 or 2"
 

@@ -192,7 +192,7 @@ async function takeRecording(source, library, sink, { notes, warnings }, heard) 
   } finally {
     sink.flush();
     const when = new Moments(recording.ticks, recording.begin());
-    warnings.push(...doubtsOf(sampler.facts, recording.names, { rising, when }));
+    warnings.push(...doubtsOf(sampler.facts, recording.names, { rising, when, isSampled: !recording.hasRuns }));
     notes.push(edgesOf(sampler.facts, recording.names), ...warnings.map(({ text }) => `warning: ${text}`));
   }
 }

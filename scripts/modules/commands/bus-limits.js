@@ -41,10 +41,26 @@ function unitOf(word) {
   return { name, listing, recording };
 }
 
+/** What each line of a listing ends with. */
+const LINE_FEED = 10;
+
+/**
+ * The pieces of a listing, whose last line is whole: of one that was cut off, no limit is known to hold.
+ * @param {string} file
+ */
+function* piecesOfListing(file) {
+  let last = LINE_FEED;
+  for (const piece of piecesOf(file, 1 << 16)) {
+    last = piece[piece.length - 1];
+    yield piece;
+  }
+  if (last !== LINE_FEED) throw new Fault("the listing was cut off within its last line");
+}
+
 /** @param {string} file @param {number} rate */
 async function statisticsOf(file, rate) {
   const bus = new Bus(rate);
-  for await (const rows of rowsOfInput(piecesOf(file, 1 << 16))) bus.takeSome(rows);
+  for await (const rows of rowsOfInput(piecesOfListing(file))) bus.takeSome(rows);
   bus.end();
   return objectOf(bus);
 }

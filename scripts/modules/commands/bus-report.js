@@ -1,12 +1,16 @@
 import { spawnSync } from "node:child_process";
-import { closeSync, copyFileSync, existsSync, mkdirSync, openSync, readFileSync, readSync, readdirSync } from "node:fs";
+import { closeSync, existsSync, mkdirSync, openSync, readFileSync, readSync, readdirSync } from "node:fs";
+import { rmSync, writeFileSync } from "node:fs";
 import { basename, join } from "node:path";
 import { fileURLToPath } from "node:url";
+import { readDictionary } from "../dictionary/dictionary.js";
 import { Fault } from "../fault.js";
 import { channelsOf, formOfRecording } from "../recording/forms.js";
 import { sessionOf } from "../recording/session.js";
+import { samplerate } from "../recording/units.js";
 import { wiresAmong } from "../recording/usual.js";
-import { misuse, run, warn, whole, wordsOf, write, writeText } from "./command.js";
+import { misuse, run, warn, whole, wordOf, wordsOf, write, writeText } from "./command.js";
+import { piecesOf } from "./facts.js";
 import { FilePart, inflated } from "./file.js";
 import { page, programNamed } from "./program.js";
 
@@ -18,6 +22,15 @@ const FILES = {
   ...{ bits: "tap.bits", notes: "notes.txt", dictionary: "cabinet.toml" },
   ...{ listing: "listing.txt", summary: "summary.txt", page: "report.html" },
 };
+
+/** What a listing has where it has a frame. */
+const FRAME = " frame ";
+
+/** What stands in a folder until all steps are done. */
+const UNFINISHED = "unfinished";
+
+/** The most octets of what a step says. */
+const MOST_SAID = 1 << 26;
 
 /**
  * The channels of a recording by their names.
@@ -61,11 +74,15 @@ class Steps {
    * @param {string} [told] the file for what it says on standard error
    */
   run(program, words, input, output, told) {
-    const written = [output, ...(told ? [told] : [])].map((name) => openSync(this.path(name), "w"));
-    const files = [openSync(input, "r"), ...written];
-    const { status, signal, error } = spawnSync(program, words, { stdio: [...files, ...(told ? [] : ["inherit"])] });
+    const files = [openSync(input, "r"), openSync(this.path(output), "w")];
+    const how = { stdio: [...files, told ? "pipe" : "inherit"], maxBuffer: MOST_SAID };
+    const { status, signal, error, stderr } = spawnSync(program, words, how);
     files.forEach((file) => closeSync(file));
     if (error) throw error;
+    if (told) {
+      write(stderr, 2);
+      writeFileSync(this.path(told), stderr);
+    }
     if (status !== 0) this.status = 2;
     if (signal) throw new Fault(`${basename(program)} ended with ${signal}`);
   }
@@ -100,40 +117,86 @@ const passedOn = ({ samplerate, invert, falling }) => [
 ];
 
 /**
- * A new folder.
+ * A new folder, or one that a failed call left.
  * @param {string} folder
  */
 function made(folder) {
-  if (existsSync(folder) && readdirSync(folder).length > 0) throw new Fault(`${folder} is there, and not empty`);
+  const there = existsSync(folder) ? readdirSync(folder) : [];
+  const own = [UNFINISHED, ...Object.values(FILES)];
+  const isLeft = there.includes(UNFINISHED) && there.every((name) => own.includes(name));
+  if (there.length > 0 && !isLeft) throw new Fault(`${folder} is there, and not empty`);
+  there.forEach((name) => rmSync(join(folder, name), { force: true }));
   mkdirSync(folder, { recursive: true });
+  writeFileSync(join(folder, UNFINISHED), "");
   return new Steps(folder);
+}
+
+/**
+ * Refuses what a step would refuse.
+ * @param {string} names
+ * @param {string[]} channels
+ */
+function checkInverted(names, channels) {
+  const unknown = names.split(",").find((name) => !channels.includes(name));
+  if (unknown !== undefined) throw misuse(`--invert: ${unknown} is none of the channels`);
+}
+
+/**
+ * The text of a dictionary without faults.
+ * @param {string} file
+ */
+function dictionaryIn(file) {
+  const text = readFileSync(file, "utf8");
+  readDictionary(text);
+  return text;
+}
+
+/**
+ * Whether a listing has a frame, so that a dictionary is drafted.
+ * @param {string} listing
+ */
+function hasFrames(listing) {
+  let before = "";
+  for (const piece of piecesOf(listing)) {
+    const text = before + Buffer.from(piece).toString("latin1");
+    if (text.includes(FRAME)) return true;
+    before = text.slice(-FRAME.length);
+  }
+  return false;
 }
 
 run(async () => {
   const { values, words } = wordsOf(OPTIONS, ["RECORDING", "FOLDER"], 6);
   const [recording, folder, ...named] = words;
+  if (values.samplerate) wordOf("--samplerate", values.samplerate, samplerate);
+  const given = values.dictionary ? dictionaryIn(values.dictionary) : null;
   const channels = named.length > 0 ? named : await wiresOf(recording);
+  if (values.invert) checkInverted(values.invert, channels);
   if (channels.length <= 2 && values.rest !== undefined) throw misuse("--rest is for a recording of two lines");
   const steps = made(folder);
   const [bits, listing, dictionary] = [FILES.bits, FILES.listing, FILES.dictionary].map((name) => steps.path(name));
+  warn(`channels ${channels.join(", ")}`);
   steps.command("recording-to-bits", [...passedOn(values), ...channels], recording, FILES.bits, FILES.notes);
   const notes = readFileSync(steps.path(FILES.notes), "utf8");
-  warn(`channels ${channels.join(", ")}`);
-  write(Buffer.from(notes), 2);
   const rest = values.rest === undefined ? [] : [`--rest=${values.rest}`];
   const list = ["list", "--bits", ...(channels.length > 2 ? ["--arrivals"] : []), ...rest];
-  if (values.dictionary) copyFileSync(values.dictionary, dictionary);
+  if (given !== null) writeFileSync(dictionary, given);
   else {
     steps.run(programNamed("port1"), list, bits, FILES.listing);
-    steps.command("draft-dictionary", [], listing, FILES.dictionary);
+    if (hasFrames(listing)) steps.command("draft-dictionary", [], listing, FILES.dictionary);
   }
-  steps.run(programNamed("port1"), [...list, `--dict=${readFileSync(dictionary, "utf8")}`], bits, FILES.listing);
+  const isKnown = existsSync(dictionary) && readFileSync(dictionary, "utf8") !== "";
+  if (isKnown) {
+    const words = [...list, `--dict=${readFileSync(dictionary, "utf8")}`];
+    steps.run(programNamed("port1"), words, bits, FILES.listing);
+  }
   const [, count = ""] = /has (\d+) edge/.exec(notes) ?? [];
   const length = count > "0" ? [`--bits=${count}`] : [];
-  const known = [`--dictionary=${dictionary}`, ...length];
-  steps.command("bus-summary", known, listing, FILES.summary);
+  const known = [...(isKnown ? [`--dictionary=${dictionary}`] : []), ...length];
+  steps.command("bus-summary", [...known, `--notes=${steps.path(FILES.notes)}`], listing, FILES.summary);
   writeText(readFileSync(steps.path(FILES.summary), "utf8"));
   const facts = [`--recording=${recording}`, `--notes=${steps.path(FILES.notes)}`, values.title ?? basename(folder)];
   if (page() !== null) steps.command("list-to-page", [...known, ...facts], listing, FILES.page);
+  if (steps.status === 0) rmSync(steps.path(UNFINISHED), { force: true });
   return steps.status;
 });

@@ -13,14 +13,27 @@ const begin = (text) => new DayTime(text);
 
 const NUMBERS = { rate: positive, bits: positive, begin };
 
-const OPTIONS = { ...NUMBERS, dictionary: String, json: /** @type {true} */ (true) };
+const FILES = { dictionary: String, notes: String };
+
+const OPTIONS = { ...NUMBERS, ...FILES, json: /** @type {true} */ (true) };
+
+/** What a line of notes begins with that makes a recording doubtful. */
+const WARNING = /^recording-to-bits: warning: /;
+
+/**
+ * The warnings in notes of recording-to-bits.
+ * @param {string} file
+ */
+const warningsIn = (file) =>
+  readFileSync(file, "utf8").split(/\r?\n/).flatMap((line) => (WARNING.test(line) ? [line.replace(WARNING, "")] : []));
 
 run(async () => {
-  const { rate = RATE, dictionary, bits: end = null, begin: dayTime = null, json } = wordsOf(OPTIONS).values;
+  const { rate = RATE, dictionary, bits: end = null, begin: dayTime = null, json, notes } = wordsOf(OPTIONS).values;
   const entries = dictionary === undefined ? null : readDictionary(readFileSync(dictionary, "utf8"));
+  const warnings = notes === undefined ? [] : warningsIn(notes);
   const bus = new Bus(rate, dayTime);
   for await (const rows of rowsOfInput()) bus.takeSome(rows);
   bus.end();
   const known = { end, entries };
-  writeText(json ? `${JSON.stringify(objectOf(bus, known), null, 2)}\n` : report(bus, known));
+  writeText(json ? `${JSON.stringify(objectOf(bus, known), null, 2)}\n` : report(bus, known, warnings));
 });

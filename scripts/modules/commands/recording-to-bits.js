@@ -8,8 +8,8 @@ import { recordingOf } from "../recording/recording.js";
 import { samplingOf } from "../recording/sampling.js";
 import { sessionOf } from "../recording/session.js";
 import { PIECE } from "../recording/source.js";
-import { hertz } from "../recording/units.js";
-import { misuse, positive, run, warn, whole, wordsOf, write } from "./command.js";
+import { samplerate } from "../recording/units.js";
+import { misuse, run, warn, whole, wordsOf, write } from "./command.js";
 import { FilePart, inflated } from "./file.js";
 import { standardInput } from "./input.js";
 import { sampled } from "./sampler.js";
@@ -85,7 +85,13 @@ function lookAt({ names, ticks, begin }, rising) {
   };
 }
 
-const NUMBERS = { octets: positive, samplerate: hertz, hold: whole };
+/** @param {string} text */
+function octetsOf(text) {
+  if (!/^0*[1-8]$/.test(text)) throw new Fault(`${JSON.stringify(text)} is no whole number from 1 to 8`);
+  return Number(text);
+}
+
+const NUMBERS = { octets: octetsOf, samplerate, hold: whole };
 
 const FLAGS = { falling: /** @type {true} */ (true), events: /** @type {true} */ (true) };
 
@@ -101,7 +107,8 @@ run(async () => {
   for (; !next.done; next = await arrivals.next()) write(next.value);
   const { facts, fault } = next.value;
   warn(edgesOf(facts, names));
-  const told = { rising: !values.falling, when: new Moments(ticks, recording.begin()) };
+  const when = new Moments(ticks, recording.begin());
+  const told = { rising: !values.falling, when, isSampled: !recording.hasRuns };
   for (const { text } of doubtsOf(facts, names, told)) warn(`warning: ${text}`);
   if (fault !== null) throw fault;
 });

@@ -133,10 +133,11 @@ export function samplesOfBit({ lines }, ticks) {
  * What makes the bits of a recording doubtful: each fact once, with its place.
  * @param {Facts} facts
  * @param {string[]} names of the wires of clock and data of each line
- * @param {{ rising: boolean, when: Moments }} how the bits were taken, and how times are told
+ * @param {{ rising: boolean, when: Moments, isSampled?: boolean }} how the bits were taken, how times are told, and
+ *   whether levels are known only at samples
  * @returns {Warning[]}
  */
-export function doubtsOf(facts, names, { rising, when }) {
+export function doubtsOf(facts, names, { rising, when, isSampled = false }) {
   const bit = samplesOfBit(facts, when.ticks);
   const isShared = names[0] === names[2];
   const exchanges = names.length === 4 && !isShared && bit > 0 ? exchangedOf(facts, bit) : [];
@@ -153,7 +154,7 @@ export function doubtsOf(facts, names, { rising, when }) {
     // While the clock stands still, data may change at any level of it.
     return [...ofClock, ...ofData.filter(({ sort }) => ofClock.length === 0 || !EDGES.includes(sort))];
   });
-  const slow = slowness(facts, names[0], when);
+  const slow = isSampled ? slowness(facts, names[0], when) : [];
   // Edges that are seen by chance jump.
   return [...slow, ...exchanged, ...ofLines.filter(({ sort }) => slow.length === 0 || sort !== "lost")];
 }

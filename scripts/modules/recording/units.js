@@ -11,6 +11,16 @@ const RATE = /^(\d+)(?:\.(\d+))?\s*([kMG]?)(?:Hz)?$/;
 const ZEROS = new Map([["", 0], ["k", 3], ["M", 6], ["G", 9]]);
 
 /**
+ * A rate above 0, for an option.
+ * @param {string} text
+ */
+export function samplerate(text) {
+  const rate = hertz(text);
+  if (rate === 0) throw new Fault(`${JSON.stringify(text)} is no rate above 0`);
+  return rate;
+}
+
+/**
  * A rate such as `4 MHz`, `4M` or `4000000`, in whole hertz.
  * @param {string} text
  * @returns {number}

@@ -8,6 +8,8 @@ import { NOTHING_KNOWN, wrong } from "./wrong.js";
 /** @typedef {import("./bus.js").Bus} Bus */
 /** @typedef {import("./wrong.js").Known} Known */
 
+const DOUBTFUL = "The recording is doubtful; look at its wires first:";
+
 // Columns of the sentences.
 const WIDTH = 108;
 
@@ -77,8 +79,11 @@ function damageLines(bus) {
  * The whole summary as text, as `bus-summary` writes it.
  * @param {Bus} bus
  * @param {Known} [known]
+ * @param {string[]} [warnings] of the recording
  */
-export function report(bus, known = NOTHING_KNOWN) {
-  const lines = [headLine(bus), "", ...verdictLines(bus, known), ...tableLines(bus), ...damageLines(bus)];
+export function report(bus, known = NOTHING_KNOWN, warnings = []) {
+  const doubts = warnings.map((text) => filled(`- ${text}`, "  "));
+  const doubtful = warnings.length > 0 ? [DOUBTFUL, ...doubts, ""] : [];
+  const lines = [headLine(bus), "", ...doubtful, ...verdictLines(bus, known), ...tableLines(bus), ...damageLines(bus)];
   return lines.map((line) => `${line}\n`).join("");
 }

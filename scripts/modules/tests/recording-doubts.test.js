@@ -32,8 +32,8 @@ const GOOD = {
 const factsWith = (facts) => factsIn(Object.entries({ ...GOOD, ...facts }).map((fact) => fact.join(" ")));
 
 function warned(facts, names = NAMES, how = {}) {
-  const { rising = true, ticks = null, begin = 0 } = how;
-  return doubtsOf(factsWith(facts), names, { rising, when: new Moments(ticks, begin) });
+  const { rising = true, ticks = null, begin = 0, isSampled = false } = how;
+  return doubtsOf(factsWith(facts), names, { rising, when: new Moments(ticks, begin), isSampled });
 }
 
 const EDGE = "the data changes at the edge of TXC that is taken: try it";
@@ -104,7 +104,9 @@ test("a controller's clock that rests again and again, as that of the stations d
 });
 
 test("too few samples", () => {
-  const [{ text }] = warned({ samples: "3000", "first-bits": "1000 2 2998" }, NAMES, { ticks: 460800 });
+  const facts = { samples: "3000", "first-bits": "1000 2 2998" };
+  const [{ text }] = warned(facts, NAMES, { ticks: 460800, isSampled: true });
+  assert.deepEqual(warned(facts, NAMES, { ticks: 460800 }).filter(({ sort }) => sort === "slow"), []);
   assert.equal(text, "TXC has fewer than four samples a bit: record 1 million samples a second or more");
 });
 

@@ -14,7 +14,8 @@ const { dictionary, names, recordings } = JSON.parse(readFileSync(0, "utf8"));
 const entries = readDictionary(dictionary);
 const said = recordings.map(({ facts, samples, listing }) => {
   const counted = factsIn(facts);
-  const warnings = doubtsOf(counted, names, { rising: true, when: new Moments(samples) }).map(({ text }) => text);
+  const how = { rising: true, when: new Moments(samples), isSampled: true };
+  const warnings = doubtsOf(counted, names, how).map(({ text }) => text);
   const bus = new Bus(RATE);
   bus.takeAll(rowsOf(listing));
   return { warnings, summary: report(bus, { end: counted.lines[0].bits.count || null, entries }) };
