@@ -133,6 +133,24 @@ def dead_wires(folder: Path) -> List[str]:
     return problems + ([] if told == [(3, 0)] else [f"then: {cabinet.incidents}"])
 
 
+def one_watch(folder: Path) -> List[str]:
+    """A second watch in a folder is refused and changes nothing; after a kill -9 of the first the next one goes on."""
+    cabinet = Cabinet(folder, [])
+    first = cabinet.watch(subprocess.PIPE, 0)
+    read_until(first, "start")
+    second = cabinet.watch(subprocess.DEVNULL, 0)
+    out, err = second.communicate(timeout=SECONDS)
+    told = [(record["event"], record["run"]) for record in cabinet.log]
+    first.kill()
+    first.communicate(timeout=SECONDS)
+    third = cabinet.watch(subprocess.DEVNULL, 0)
+    third.communicate(timeout=SECONDS)
+    is_refused = second.returncode == 2 and out == b"" and err.count(b"\n") == 1 and b"another watch" in err
+    runs = [record["run"] for record in cabinet.log if record["event"] == "start"]
+    is_well = is_refused and told == [("start", 1)] and third.returncode == 0 and runs == [1, 2]
+    return [] if is_well else [f"{second.returncode}, {out!r}, {err!r}, {third.returncode}, {runs}, {told}"]
+
+
 def commands_for_incidents(folder: Path) -> List[str]:
     """--run runs for each incident, and knows its folder and its causes."""
     told = folder / "told"
@@ -224,6 +242,7 @@ TESTS = [
     port1_is_killed,
     source_that_ends,
     dead_wires,
+    one_watch,
     commands_for_incidents,
     unit_and_metrics,
     wrong_forms,

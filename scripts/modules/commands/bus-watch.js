@@ -5,6 +5,7 @@ import { DayTime } from "../statistics/day-time.js";
 import { refusalOf } from "../watch/decoder.js";
 import { ARRIVALS, PAIRS } from "../watch/forms.js";
 import { roomOf } from "../watch/limits.js";
+import { hold } from "../watch/lock.js";
 import { Input, Source } from "../watch/source.js";
 import { RecordedWall, Wall, iso } from "../watch/wall.js";
 import { Watch } from "../watch/watch.js";
@@ -165,10 +166,12 @@ run(async () => {
   const readDictionary = () => dictionaryOf(/** @type {string} */ (values.dictionary), program);
   const wall = values.begin === undefined ? new Wall(values.lost ?? 0.5) : new RecordedWall(values.begin);
   const { before = 10, after = 10, longest = 120, ring = 4 * 2 ** 30, keep = 2 ** 30, floor = 2 ** 29 } = values;
+  const dictionary = readDictionary();
+  hold(folder);
   const watch = new Watch({
     ...{ folder, program, form: values.two ? PAIRS : ARRIVALS },
     ...{ limits: { before, after, longest, ring, keep, floor }, gaps: values.gap ?? new Map(), wall },
-    dictionary: readDictionary(),
+    dictionary,
     ...{ prometheus: values.prometheus, run: values.run, write: safely(writeText), warn: safely(warn) },
   });
   await watch.begin();
