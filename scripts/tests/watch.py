@@ -84,9 +84,11 @@ def stalls(folder: Path) -> List[str]:
     out, err = watch.communicate(timeout=SECONDS)
     source.kill()
     source.communicate()
-    events = [json.loads(line)["event"] for line in (told + out).decode().splitlines()]
+    records = [json.loads(line) for line in (told + out).decode().splitlines()]
+    events = [record["event"] for record in records]
     wanted = ["start", "dictionary", "input stalled", "input goes on", "end"]
-    return [] if events == wanted and watch.returncode == 0 and not err else [f"{events}, {watch.returncode}, {err!r}"]
+    is_well = events == wanted and watch.returncode == 0 and not err and 4 < records[3]["seconds"] < 6
+    return [] if is_well else [f"{records}, {watch.returncode}, {err!r}"]
 
 
 def port1_is_killed(folder: Path) -> List[str]:
@@ -120,6 +122,20 @@ def source_that_ends(folder: Path) -> List[str]:
     is_well = ended[:2] == [(3, "bad luck", 1), (3, "bad luck", 2)] and others == {"start", "doubt", "end"}
     is_well = is_well and set(doubts) == {"TXC stops"} and len(doubts) >= 2
     return [] if is_well and watch.returncode == 0 and not err else [f"{records}, {watch.returncode}, {err!r}"]
+
+
+def stall_between_sources(folder: Path) -> List[str]:
+    """A stall while a source waits to be started again has its length."""
+    needs("node")
+    words = [SCRIPTS / "bus-watch", folder / "watch", "--dictionary", DICTIONARY, "--floor", "0", "--two"]
+    words += ["--source", f"node {SIMULATOR} 7 0 {RATE} '' 0"]
+    pipes = {"stdin": subprocess.DEVNULL, "stdout": subprocess.PIPE, "stderr": subprocess.PIPE}
+    watch = subprocess.Popen(words, bufsize=0, **pipes)
+    told = read_until(watch, "input goes on")
+    watch.send_signal(signal.SIGINT)
+    watch.communicate(timeout=SECONDS)
+    record = json.loads(told.decode().splitlines()[-1])
+    return [] if 4 <= record["seconds"] < 9 else [f"{told!r}"]
 
 
 def dead_wires(folder: Path) -> List[str]:
@@ -241,6 +257,7 @@ TESTS = [
     stalls,
     port1_is_killed,
     source_that_ends,
+    stall_between_sources,
     dead_wires,
     one_watch,
     commands_for_incidents,

@@ -68,7 +68,8 @@ const OPTIONS = {
 class Duty {
   isOver = false;
   isToRead = false;
-  quiet = performance.now(); // when input came last, in milliseconds
+  quiet = performance.now(); // when input came last, or a source began, in milliseconds
+  stalled = 0; // when input came last before it stalled
   isStalled = false;
   isTaking = false;
   input = /** @type {Input} */ (/** @type {unknown} */ (null)); // until it goes
@@ -96,7 +97,7 @@ class Duty {
     if (this.watch.decoder.hasEnded) this.input.wake();
     const isWaiting = this.isLive && !this.isStalled && !this.isTaking;
     if (!isWaiting || performance.now() - this.quiet < 1000 * STALL) return;
-    this.isStalled = true;
+    [this.isStalled, this.stalled] = [true, this.quiet];
     this.watch.log("input stalled", { since: iso(this.watch.wall.now() - STALL) });
   }
 
@@ -104,7 +105,7 @@ class Duty {
   async take(piece) {
     if (this.isStalled) {
       this.watch.incidents.seam(this.watch.packer.places);
-      this.watch.log("input goes on", { seconds: Math.round((performance.now() - this.quiet) / 1000) });
+      this.watch.log("input goes on", { seconds: Math.round((performance.now() - this.stalled) / 100) / 10 });
     }
     [this.isStalled, this.isTaking] = [false, true];
     await this.watch.take(piece);
