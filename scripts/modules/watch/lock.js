@@ -4,9 +4,9 @@ import { join } from "node:path";
 import { Fault } from "../fault.js";
 
 /**
- * Holds a folder for this process alone. The lock is the kernel's, on a file that stays open. `flock` (util-linux) takes
- * it by the file that it inherits, and it ends with this process, however that ends: nothing is left to be cleared away,
- * as a number of a process would be. Processes that this one starts later do not inherit the file.
+ * Holds a folder for this process alone. The lock is the kernel's, on a file that stays open. `flock` (util-linux)
+ * takes it by the file that it inherits, and it ends with this process, however that ends: nothing is left to be
+ * cleared away, as a number of a process would be. Processes that this one starts later do not inherit the file.
  * @param {string} folder
  */
 export function hold(folder) {
