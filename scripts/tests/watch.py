@@ -8,7 +8,7 @@ import signal
 import subprocess
 import time
 from pathlib import Path
-from typing import List, NamedTuple, Sequence
+from typing import List, NamedTuple, Sequence, Set
 
 from needs import needs
 from tests.case import SCRIPTS, SECONDS, TOP, Run
@@ -64,6 +64,47 @@ def full_disk(folder: Path) -> List[str]:
         problems = [problem for problem in problems if not problem.endswith("is not there")]
         lines = run.stderr.splitlines()
         return problems + ([] if run.status == 0 and len(lines) < 20 else [f"status {run.status}, {lines[:5]}"])
+
+
+def holes(folder: Path) -> List[str]:
+    """A disk that is full for a while leaves a hole: what is saved beside it stands at its places."""
+    faults = [Fault(second * RATE, (second + 1) * RATE, "silent", 2) for second in (45, 125, 190)]
+    with disk_of(24, folder) as disk:
+        cabinet = Cabinet(folder, faults, ["--floor", "6M"])
+        watch = cabinet.watch(subprocess.PIPE, 0)
+        assert watch.stdin is not None
+        read_until(watch, "start")
+        for begin, past in ((0, 70), (70, 120), (120, 240)):
+            bits, _ = cabinet.simulator(begin * RATE, past * RATE).communicate(timeout=SECONDS)
+            if begin == 70:
+                (disk / "ballast").write_bytes(bytes(16 << 20))
+            elif begin == 120:
+                (disk / "ballast").unlink()
+            watch.stdin.write(bits)
+            watch.stdin.flush()
+            time.sleep(2)
+        watch.stdin.close()
+        watch.wait(timeout=SECONDS)
+        whole, _ = cabinet.simulator(0, 240 * RATE).communicate(timeout=SECONDS)
+        words = [os.environ["PORT1"], "list", "--bits", "--two", "--dict", DICTIONARY.read_text()]
+        listed = set(subprocess.run(words, input=whole, capture_output=True, check=True).stdout.splitlines())
+        return problems_of_holes(cabinet, listed)
+
+
+def problems_of_holes(cabinet: Cabinet, listed: Set[bytes]) -> List[str]:
+    """What is wrong with incidents beside a hole: all frames are of the bus, and missing bits are named."""
+    records = cabinet.incidents
+    told = [record["seconds"] for record in cabinet.log if record["event"] == "bits not kept"]
+    problems = [] if len(records) == 3 and len(told) == 1 else [f"{cabinet.log}"]
+    problems += [] if any("holes" in record for record in records) else [f"no hole: {records}"]
+    for record in records:
+        own = cabinet.folder / "watch" / "incidents" / (record["saved"] or "none")
+        frames = (own / "listing.txt").read_bytes().splitlines() if own.is_dir() else []
+        strange = [line for line in frames if b" frame " in line and line not in listed]
+        problems += [f"{len(strange)} of {len(frames)} lines are not of the bus: {record}"] if strange else []
+        has = "Bits are missing" in (own / "summary.txt").read_text() if own.is_dir() else "holes" in record
+        problems += [] if has == ("holes" in record) else [f"not named: {record}"]
+    return problems
 
 
 def stalls(folder: Path) -> List[str]:
@@ -206,24 +247,31 @@ class Wrong(NamedTuple):
     new: str
 
 
+# What the log has begun and the state has lost is found by the log: where that is to be seen, the log is not asked.
+NO_LOG = Wrong("watch.js", "[...left, ...onlyBegun(entries, left)]", "left")
+
 WRONG = [
-    Wrong("watch.js", "const { mark } = this.decoder;", "const mark = this.packer.places;"),
-    Wrong("incidents.js", "waiting.push(open);\n    this.office.keep();", "office.keep(), this.waiting.push(open);"),
-    Wrong("rest.js", "resume(before);", "resume({ ...before, open: null });"),
-    Wrong("saver.js", "if (at > 0) await", "if (at < 0) await"),
-    Wrong("saver.js", "renameSync(fresh, join(this.folder, name))", "undefined"),
+    [Wrong("watch.js", "const { mark } = this.decoder;", "const mark = this.packer.places;")],
+    [
+        Wrong("incidents.js", "push(...sure);\n    this.office.keep();", "push(...(this.office.keep(), sure));"),
+        NO_LOG,
+    ],
+    [Wrong("rest.js", "resume(before);", "resume({ ...before, open: null });"), NO_LOG],
+    [Wrong("saver.js", "if (at > 0) await", "if (at < 0) await")],
+    [Wrong("saver.js", "this.disk.putFolder(fresh, join(this.folder, name))", "undefined")],
 ]
 
 
-def problems_with(folder: Path, wrong: Wrong) -> List[str]:
+def problems_with(folder: Path, wrong: Sequence[Wrong]) -> List[str]:
     """What the judge says of a wrong form: on a short time with a fault, and on kills."""
     scripts = folder / "scripts"
     shutil.copytree(SCRIPTS, scripts, ignore=shutil.ignore_patterns("tests"))
-    path = scripts / "modules" / "watch" / wrong.file
-    text = path.read_text(encoding="utf-8")
-    if text.count(wrong.old) != 1:
-        return []
-    path.write_text(text.replace(wrong.old, wrong.new), encoding="utf-8")
+    for change in wrong:
+        path = scripts / "modules" / "watch" / change.file
+        text = path.read_text(encoding="utf-8")
+        if text.count(change.old) != 1:
+            return []
+        path.write_text(text.replace(change.old, change.new), encoding="utf-8")
     cabinet = Cabinet(folder, [Fault(30 * RATE, 32 * RATE, "silent", 2)], scripts=scripts)
     problems = judged(cabinet, [cabinet.run(0, 120 * RATE)])
     return problems or problems_of_kills(folder, [0.05 * at for at in range(16)], scripts)
@@ -235,7 +283,7 @@ def wrong_forms(folder: Path) -> List[str]:
     for number, wrong in enumerate(WRONG):
         own = folder / str(number)
         own.mkdir()
-        problems += [] if problems_with(own, wrong) else [f"{wrong.file}: {wrong.new!r} is not refused"]
+        problems += [] if problems_with(own, wrong) else [f"{wrong[0].file}: {wrong[0].new!r} is not refused"]
     return problems
 
 
@@ -254,6 +302,7 @@ TESTS = [
     an_hour,
     arrivals,
     full_disk,
+    holes,
     stalls,
     port1_is_killed,
     source_that_ends,
