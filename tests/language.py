@@ -32,7 +32,7 @@ MOST_WORDS = {
     "docs/RATTLE.md": 650,
     "docs/TESTING-EQUIPMENT.md": 650,
     "docs/TROUBLESHOOTING.md": 2050,
-    "docs/WATCH.md": 950,
+    "docs/WATCH.md": 1000,
 }
 WITHOUT_LIMIT = "CHANGELOG.md"
 

@@ -10,7 +10,7 @@ from pathlib import Path
 from typing import IO, List, Sequence
 
 from tests.case import SCRIPTS, SECONDS, Run
-from tests.watched import RATE, Cabinet, Fault, child_of, judged, read_until
+from tests.watched import RATE, ROUND, Cabinet, Fault, child_of, judged, read_until
 
 RUNS: List[Run] = []
 
@@ -74,4 +74,47 @@ def undecided(folder: Path) -> List[str]:
     return [] if not known and told == [(1, ["missing 2/1"], True)] and is_saved else [f"{known}, {cabinet.log}"]
 
 
-TESTS = [kills, undecided, many_kills]
+def is_kept(ring: Path, octets: int) -> bool:
+    """Whether the ring gets so many octets."""
+    for _ in range(100):
+        if sum(path.stat().st_size for path in ring.iterdir()) >= octets:
+            return True
+        time.sleep(0.1)
+    return False
+
+
+def row_that_is_cut(folder: Path) -> List[str]:
+    """Seven missing answers of which a kill -9 leaves three to one run and four to the next are one incident."""
+    begin = 375 * ROUND
+    cabinet = Cabinet(folder, [Fault(begin, begin + 7 * ROUND, "silent", 2)])
+    bits, _ = cabinet.simulator(0, begin + 3 * ROUND).communicate(timeout=SECONDS)
+    watch = cabinet.watch(subprocess.PIPE, 0)
+    assert watch.stdin is not None
+    read_until(watch, "start")
+    threading.Thread(target=feed, args=(watch.stdin, bits), daemon=True).start()
+    is_whole = is_kept(folder / "watch" / "ring", (begin + 3 * ROUND) // 4)
+    watch.kill()
+    watch.wait()
+    cabinet.run(begin + 3 * ROUND, begin + 40 * RATE)
+    told = [(record["run"], record["causes"], "seam" in record) for record in cabinet.incidents]
+    return [] if is_whole and told == [(2, {"missing 2/1": 1}, True)] else [f"{is_whole}, {cabinet.log}"]
+
+
+def ended_within(folder: Path) -> List[str]:
+    """SIGTERM within an incident cuts it, and the next run goes on with it."""
+    cabinet = Cabinet(folder, [Fault(15 * RATE, 20 * RATE, "burst", 0.03)])
+    bits, _ = cabinet.simulator(0, 18 * RATE).communicate(timeout=SECONDS)
+    watch = cabinet.watch(subprocess.PIPE, 0)
+    assert watch.stdin is not None
+    read_until(watch, "start")
+    threading.Thread(target=feed, args=(watch.stdin, bits), daemon=True).start()
+    read_until(watch, "begun")
+    watch.send_signal(signal.SIGTERM)
+    watch.communicate(timeout=SECONDS)
+    cabinet.run(18 * RATE, 60 * RATE)
+    told = [(r["run"], r.get("cut"), r.get("continues")) for r in cabinet.incidents if "burst" in r["causes"]]
+    is_well = watch.returncode == 0 and told == [(1, True, None), (2, None, "1-1")]
+    return [] if is_well else [f"{watch.returncode}, {cabinet.log}"]
+
+
+TESTS = [kills, undecided, row_that_is_cut, ended_within, many_kills]

@@ -8,7 +8,7 @@ import signal
 import subprocess
 import time
 from pathlib import Path
-from typing import List, NamedTuple, Sequence
+from typing import List, NamedTuple, Sequence, Set
 
 from needs import needs
 from tests.case import SCRIPTS, SECONDS, TOP, Run
@@ -66,6 +66,47 @@ def full_disk(folder: Path) -> List[str]:
         return problems + ([] if run.status == 0 and len(lines) < 20 else [f"status {run.status}, {lines[:5]}"])
 
 
+def holes(folder: Path) -> List[str]:
+    """A disk that is full for a while leaves a hole: what is saved beside it stands at its places."""
+    faults = [Fault(second * RATE, (second + 1) * RATE, "silent", 2) for second in (45, 125, 190)]
+    with disk_of(24, folder) as disk:
+        cabinet = Cabinet(folder, faults, ["--floor", "6M"])
+        watch = cabinet.watch(subprocess.PIPE, 0)
+        assert watch.stdin is not None
+        read_until(watch, "start")
+        for begin, past in ((0, 70), (70, 120), (120, 240)):
+            bits, _ = cabinet.simulator(begin * RATE, past * RATE).communicate(timeout=SECONDS)
+            if begin == 70:
+                (disk / "ballast").write_bytes(bytes(16 << 20))
+            elif begin == 120:
+                (disk / "ballast").unlink()
+            watch.stdin.write(bits)
+            watch.stdin.flush()
+            time.sleep(2)
+        watch.stdin.close()
+        watch.wait(timeout=SECONDS)
+        whole, _ = cabinet.simulator(0, 240 * RATE).communicate(timeout=SECONDS)
+        words = [os.environ["PORT1"], "list", "--bits", "--two", "--dict", DICTIONARY.read_text()]
+        listed = set(subprocess.run(words, input=whole, capture_output=True, check=True).stdout.splitlines())
+        return problems_of_holes(cabinet, listed)
+
+
+def problems_of_holes(cabinet: Cabinet, listed: Set[bytes]) -> List[str]:
+    """What is wrong with incidents beside a hole: all frames are of the bus, and missing bits are named."""
+    records = cabinet.incidents
+    told = [record["seconds"] for record in cabinet.log if record["event"] == "bits not kept"]
+    problems = [] if len(records) == 3 and len(told) == 1 else [f"{cabinet.log}"]
+    problems += [] if any("holes" in record for record in records) else [f"no hole: {records}"]
+    for record in records:
+        own = cabinet.folder / "watch" / "incidents" / (record["saved"] or "none")
+        frames = (own / "listing.txt").read_bytes().splitlines() if own.is_dir() else []
+        strange = [line for line in frames if b" frame " in line and line not in listed]
+        problems += [f"{len(strange)} of {len(frames)} lines are not of the bus: {record}"] if strange else []
+        has = "Bits are missing" in (own / "summary.txt").read_text() if own.is_dir() else "holes" in record
+        problems += [] if has == ("holes" in record) else [f"not named: {record}"]
+    return problems
+
+
 def stalls(folder: Path) -> List[str]:
     """In real time: a `port1` held up, a source that stalls, a dictionary read again: no faults of the cabinet."""
     cabinet = Cabinet(folder, [], speed="1")
@@ -84,9 +125,11 @@ def stalls(folder: Path) -> List[str]:
     out, err = watch.communicate(timeout=SECONDS)
     source.kill()
     source.communicate()
-    events = [json.loads(line)["event"] for line in (told + out).decode().splitlines()]
+    records = [json.loads(line) for line in (told + out).decode().splitlines()]
+    events = [record["event"] for record in records]
     wanted = ["start", "dictionary", "input stalled", "input goes on", "end"]
-    return [] if events == wanted and watch.returncode == 0 and not err else [f"{events}, {watch.returncode}, {err!r}"]
+    is_well = events == wanted and watch.returncode == 0 and not err and 4 < records[3]["seconds"] < 6
+    return [] if is_well else [f"{records}, {watch.returncode}, {err!r}"]
 
 
 def port1_is_killed(folder: Path) -> List[str]:
@@ -122,6 +165,20 @@ def source_that_ends(folder: Path) -> List[str]:
     return [] if is_well and watch.returncode == 0 and not err else [f"{records}, {watch.returncode}, {err!r}"]
 
 
+def stall_between_sources(folder: Path) -> List[str]:
+    """A stall while a source waits to be started again has its length."""
+    needs("node")
+    words = [SCRIPTS / "bus-watch", folder / "watch", "--dictionary", DICTIONARY, "--floor", "0", "--two"]
+    words += ["--source", f"node {SIMULATOR} 7 0 {RATE} '' 0"]
+    pipes = {"stdin": subprocess.DEVNULL, "stdout": subprocess.PIPE, "stderr": subprocess.PIPE}
+    watch = subprocess.Popen(words, bufsize=0, **pipes)
+    told = read_until(watch, "input goes on")
+    watch.send_signal(signal.SIGINT)
+    watch.communicate(timeout=SECONDS)
+    record = json.loads(told.decode().splitlines()[-1])
+    return [] if 4 <= record["seconds"] < 9 else [f"{told!r}"]
+
+
 def dead_wires(folder: Path) -> List[str]:
     """Wires without a bus are no incident at the first start; a bus that was known and does not come is one."""
     cabinet = Cabinet(folder, [Fault(0, 60 * RATE, "rest", 0), Fault(120 * RATE, 180 * RATE, "rest", 0)])
@@ -131,6 +188,24 @@ def dead_wires(folder: Path) -> List[str]:
     cabinet.run(125 * RATE, 170 * RATE)
     told = [(record["run"], record["place"]) for record in cabinet.incidents]
     return problems + ([] if told == [(3, 0)] else [f"then: {cabinet.incidents}"])
+
+
+def one_watch(folder: Path) -> List[str]:
+    """A second watch in a folder is refused and changes nothing; after a kill -9 of the first the next one goes on."""
+    cabinet = Cabinet(folder, [])
+    first = cabinet.watch(subprocess.PIPE, 0)
+    read_until(first, "start")
+    second = cabinet.watch(subprocess.DEVNULL, 0)
+    out, err = second.communicate(timeout=SECONDS)
+    told = [(record["event"], record["run"]) for record in cabinet.log]
+    first.kill()
+    first.communicate(timeout=SECONDS)
+    third = cabinet.watch(subprocess.DEVNULL, 0)
+    third.communicate(timeout=SECONDS)
+    is_refused = second.returncode == 2 and out == b"" and err.count(b"\n") == 1 and b"another watch" in err
+    runs = [record["run"] for record in cabinet.log if record["event"] == "start"]
+    is_well = is_refused and told == [("start", 1)] and third.returncode == 0 and runs == [1, 2]
+    return [] if is_well else [f"{second.returncode}, {out!r}, {err!r}, {third.returncode}, {runs}, {told}"]
 
 
 def commands_for_incidents(folder: Path) -> List[str]:
@@ -172,24 +247,31 @@ class Wrong(NamedTuple):
     new: str
 
 
+# What the log has begun and the state has lost is found by the log: where that is to be seen, the log is not asked.
+NO_LOG = Wrong("watch.js", "[...left, ...onlyBegun(entries, left)]", "left")
+
 WRONG = [
-    Wrong("watch.js", "const { mark } = this.decoder;", "const mark = this.packer.places;"),
-    Wrong("incidents.js", "waiting.push(open);\n    this.office.keep();", "office.keep(), this.waiting.push(open);"),
-    Wrong("rest.js", "resume(before);", "resume({ ...before, open: null });"),
-    Wrong("saver.js", "if (at > 0) await", "if (at < 0) await"),
-    Wrong("saver.js", "renameSync(fresh, join(this.folder, name))", "undefined"),
+    [Wrong("watch.js", "const { mark } = this.decoder;", "const mark = this.packer.places;")],
+    [
+        Wrong("incidents.js", "push(...sure);\n    this.office.keep();", "push(...(this.office.keep(), sure));"),
+        NO_LOG,
+    ],
+    [Wrong("rest.js", "resume(before);", "resume({ ...before, open: null });"), NO_LOG],
+    [Wrong("saver.js", "if (at > 0) await", "if (at < 0) await")],
+    [Wrong("saver.js", "this.disk.putFolder(fresh, join(this.folder, name))", "undefined")],
 ]
 
 
-def problems_with(folder: Path, wrong: Wrong) -> List[str]:
+def problems_with(folder: Path, wrong: Sequence[Wrong]) -> List[str]:
     """What the judge says of a wrong form: on a short time with a fault, and on kills."""
     scripts = folder / "scripts"
     shutil.copytree(SCRIPTS, scripts, ignore=shutil.ignore_patterns("tests"))
-    path = scripts / "modules" / "watch" / wrong.file
-    text = path.read_text(encoding="utf-8")
-    if text.count(wrong.old) != 1:
-        return []
-    path.write_text(text.replace(wrong.old, wrong.new), encoding="utf-8")
+    for change in wrong:
+        path = scripts / "modules" / "watch" / change.file
+        text = path.read_text(encoding="utf-8")
+        if text.count(change.old) != 1:
+            return []
+        path.write_text(text.replace(change.old, change.new), encoding="utf-8")
     cabinet = Cabinet(folder, [Fault(30 * RATE, 32 * RATE, "silent", 2)], scripts=scripts)
     problems = judged(cabinet, [cabinet.run(0, 120 * RATE)])
     return problems or problems_of_kills(folder, [0.05 * at for at in range(16)], scripts)
@@ -201,7 +283,7 @@ def wrong_forms(folder: Path) -> List[str]:
     for number, wrong in enumerate(WRONG):
         own = folder / str(number)
         own.mkdir()
-        problems += [] if problems_with(own, wrong) else [f"{wrong.file}: {wrong.new!r} is not refused"]
+        problems += [] if problems_with(own, wrong) else [f"{wrong[0].file}: {wrong[0].new!r} is not refused"]
     return problems
 
 
@@ -220,10 +302,13 @@ TESTS = [
     an_hour,
     arrivals,
     full_disk,
+    holes,
     stalls,
     port1_is_killed,
     source_that_ends,
+    stall_between_sources,
     dead_wires,
+    one_watch,
     commands_for_incidents,
     unit_and_metrics,
     wrong_forms,

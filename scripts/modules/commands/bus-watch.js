@@ -5,6 +5,7 @@ import { DayTime } from "../statistics/day-time.js";
 import { refusalOf } from "../watch/decoder.js";
 import { PAIRS, arrivalsOf } from "../watch/forms.js";
 import { roomOf } from "../watch/limits.js";
+import { hold } from "../watch/lock.js";
 import { Input, Source } from "../watch/source.js";
 import { RecordedWall, Wall, iso } from "../watch/wall.js";
 import { Watch } from "../watch/watch.js";
@@ -67,7 +68,8 @@ const OPTIONS = {
 class Duty {
   isOver = false;
   isToRead = false;
-  quiet = performance.now(); // when input came last, in milliseconds
+  quiet = performance.now(); // when input came last, or a source began, in milliseconds
+  stalled = 0; // when input came last before it stalled
   isStalled = false;
   isTaking = false;
   input = /** @type {Input} */ (/** @type {unknown} */ (null)); // until it goes
@@ -95,7 +97,7 @@ class Duty {
     if (this.watch.decoder.hasEnded) this.input.wake();
     const isWaiting = this.isLive && !this.isStalled && !this.isTaking;
     if (!isWaiting || performance.now() - this.quiet < 1000 * STALL) return;
-    this.isStalled = true;
+    [this.isStalled, this.stalled] = [true, this.quiet];
     this.watch.log("input stalled", { since: iso(this.watch.wall.now() - STALL) });
   }
 
@@ -103,7 +105,7 @@ class Duty {
   async take(piece) {
     if (this.isStalled) {
       this.watch.incidents.seam(this.watch.packer.places);
-      this.watch.log("input goes on", { seconds: Math.round((performance.now() - this.quiet) / 1000) });
+      this.watch.log("input goes on", { seconds: Math.round((performance.now() - this.stalled) / 100) / 10 });
     }
     [this.isStalled, this.isTaking] = [false, true];
     await this.watch.take(piece);
@@ -166,10 +168,12 @@ run(async () => {
   const readDictionary = () => dictionaryOf(/** @type {string} */ (values.dictionary), program);
   const wall = values.begin === undefined ? new Wall(values.lost ?? 0.5) : new RecordedWall(values.begin);
   const { before = 10, after = 10, longest = 120, ring = 4 * 2 ** 30, keep = 2 ** 30, floor = 2 ** 29 } = values;
+  const dictionary = readDictionary();
+  hold(folder);
   const watch = new Watch({
     ...{ folder, program, form: values.two ? PAIRS : arrivalsOf(values.rest) },
     ...{ limits: { before, after, longest, ring, keep, floor }, gaps: values.gap ?? new Map(), wall },
-    dictionary: readDictionary(),
+    dictionary,
     ...{ prometheus: values.prometheus, run: values.run, write: safely(writeText), warn: safely(warn) },
   });
   await watch.begin();

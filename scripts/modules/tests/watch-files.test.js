@@ -11,7 +11,9 @@ import { Incidents } from "../watch/incidents.js";
 import { Journal } from "../watch/journal.js";
 import { untold } from "../watch/memory.js";
 import { Ring, SEGMENT } from "../watch/ring.js";
+import { Triggers } from "../watch/triggers.js";
 import { randomOf } from "./support/random.js";
+import { rowsOf } from "./support/talk.js";
 
 /** Runs a test in a folder of its own. */
 async function within(body) {
@@ -116,4 +118,42 @@ test("an incident goes on in the next run where that run was cut off in it, and 
     assert.equal(incidents.open?.continues, wanted);
     incidents.close();
   }
+});
+
+test("an incident within which the watch ends is cut, and may go on in the next run", () => {
+  const office = { zero: () => 0, keep() {}, save() {}, log() {} };
+  const incidents = new Incidents(1, { after: 5, longest: 600 }, office);
+  incidents.trigger("burst", 10, 20);
+  incidents.finish(30);
+  incidents.cutOff();
+  incidents.close();
+  incidents.settle(Infinity);
+  const { waiting, before } = incidents.kept();
+  assert.deepEqual(waiting.map(({ id, cut }) => [id, cut]), [["1-1", true]]);
+  const next = new Incidents(2, { after: 5, longest: 600 }, office);
+  next.takeOver([], before);
+  next.trigger("burst", 10, 20);
+  next.take(20);
+  assert.equal(next.open?.continues, "1-1");
+});
+
+/** How often missing answers are told where a run had some of them and the next one the others. */
+function toldOfRow(before, after, isNear, isAnswered = false) {
+  /** @type {string[]} */
+  const told = [];
+  const [first, second] = [1, 2].map(() => new Triggers({ trigger: (cause) => told.push(cause), wellAgain() {} }, new Map()));
+  const rows = (kind, count) => rowsOf(Array.from({ length: count }, (_, at) => `1 ${100 * at} ${100 * at + 9} ${kind} station 2 type 1`));
+  first.hear(rows("missing", before));
+  if (isAnswered) first.hear(rows("answered", 1));
+  second.restore(first.kept(() => 7).kinds, 0, isNear);
+  second.hear(rows("missing", after));
+  return told;
+}
+
+test("a row of missing answers goes on in the next run, if that begins soon", () => {
+  assert.deepEqual(toldOfRow(3, 4, true), ["missing 2/1"]);
+  assert.deepEqual(toldOfRow(3, 1, true), []);
+  assert.deepEqual(toldOfRow(3, 4, false), []);
+  assert.deepEqual(toldOfRow(3, 4, true, true), []);
+  assert.deepEqual(toldOfRow(6, 4, true), ["missing 2/1"]);
 });

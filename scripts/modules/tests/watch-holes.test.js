@@ -62,11 +62,11 @@ test("a ring with holes gives pieces that stand at their places, and tells the h
 const bitsOf = (folder, name) => readFileSync(join(folder, name)).subarray(16);
 
 /** A saver whose program lists nothing. */
-function saverIn(folder, ring) {
+function saverIn(folder, ring, keep = 1 << 30) {
   const program = join(folder, "port1");
   writeFileSync(program, "#!/bin/sh\nexec cat > /dev/null\n");
   chmodSync(program, 0o755);
-  const limits = { before: 10, after: 10, longest: 120, keep: 1 << 30, floor: 0 };
+  const limits = { before: 10, after: 10, longest: 120, keep, floor: 0 };
   return new Saver(join(folder, "incidents"), ring, { program, form: PAIRS, dictionary: () => DICTIONARY, limits });
 }
 
@@ -108,3 +108,27 @@ for (const { at, main, beside, holes } of CASES) {
     }
   });
 }
+
+/** The folders that are left after incidents of some causes, each a second long. */
+async function leftBy(keep, causes) {
+  const folder = mkdtempSync(join(tmpdir(), "port1-"));
+  try {
+    const saver = saverIn(folder, ringIn(folder), keep);
+    for (const [number, cause] of causes.entries()) {
+      const first = (20 + number) * RATE;
+      const incident = { id: `1-${number}`, run: 1, first, past: first + RATE, causes: { [cause]: 1 }, zero: 0, cut: false };
+      assert.ok((await saver.save(incident, /** @type {any} */ ({ wall: "", causes: {} }))).saved);
+    }
+    return readdirSync(join(folder, "incidents")).map((name) => name.slice(15, 17) + name.slice(name.indexOf("Z-") + 1));
+  } finally {
+    rmSync(folder, { recursive: true, force: true });
+  }
+}
+
+test("old folders go before the first ones of their causes, and the last one stays however great it is", async () => {
+  const [size, causes] = [21 * SECOND, ["burst", "rest", "burst", "burst"]];
+  assert.deepEqual(await leftBy(1, causes), ["23-burst"]);
+  assert.deepEqual(await leftBy(2.5 * size, causes), ["22-burst", "23-burst"]);
+  assert.deepEqual(await leftBy(3.5 * size, causes), ["20-burst", "21-rest", "23-burst"]);
+  assert.deepEqual(await leftBy(9 * size, causes), ["20-burst", "21-rest", "22-burst", "23-burst"]);
+});

@@ -101,9 +101,10 @@ export class Incidents {
   /**
    * Takes over what the run before did not tell.
    * @param {Incident[]} incidents
+   * @param {Incident[]} [cut] those that it told, and ended in
    */
-  takeOver(incidents) {
-    this.before = incidents;
+  takeOver(incidents, cut = []) {
+    this.before = [...incidents, ...cut];
     this.waiting.push(...incidents);
     incidents.forEach((incident) => this.office.save(incident));
   }
@@ -225,6 +226,12 @@ export class Incidents {
   finish(place) {
     this.take(Infinity);
     this.advance(place);
+  }
+
+  /** Marks the incident, if there is one, within which the watch ends: the next run may go on with it. */
+  cutOff() {
+    if (this.open) this.open.cut = true;
+    this.before = this.open ? [this.open] : [];
   }
 
   /** Ends the incident, if there is one. */

@@ -61,7 +61,7 @@ export class Kind {
    * @param {(place: number) => number} timeOf a place
    */
   kept(timeOf) {
-    const from = this.isGone ? this.last : this.isBad ? this.badFrom : null;
+    const from = this.isGone ? this.last : this.bad > 0 || this.isBad ? this.badFrom : null;
     const since = this.since ?? (from === null ? null : timeOf(from));
     const { usual, last, bad, badFrom, isBad, isGone } = this;
     return { usual, last, bad, badFrom, isBad, isGone, since };

@@ -80,9 +80,9 @@ export async function judgedRest({ run, zero: last, zeros, triggers: known, inci
     wellAgain: (about, first, past, since) => incidents.wellAgain(about, first, past, since),
   }, asked.gaps);
   triggers.resume(known);
-  await judge(triggers, incidents, ring, asked);
+  const past = await judge(triggers, incidents, ring, asked);
   const { kinds } = triggers.kept((place) => zero(place) + place / RATE);
-  return { kinds, incidents: incidents.kept(), tally: incidents.tally };
+  return { kinds, incidents: incidents.kept(), tally: incidents.tally, past: zero(past) + past / RATE };
 }
 
 /**
@@ -90,6 +90,7 @@ export async function judgedRest({ run, zero: last, zeros, triggers: known, inci
  * @param {Incidents} incidents
  * @param {import("./ring.js").Ring} ring
  * @param {import("./limits.js").Asked} asked
+ * @returns {Promise<number>} the place up to which there are bits
  */
 async function judge(triggers, incidents, ring, asked) {
   const { judged } = triggers;
@@ -102,6 +103,7 @@ async function judge(triggers, incidents, ring, asked) {
     await judgePiece(triggers, incidents, other, null, asked);
   }
   incidents.take(Infinity);
+  return others.at(-1)?.past ?? piece?.past ?? from;
 }
 
 /**
@@ -111,7 +113,8 @@ async function judge(triggers, incidents, ring, asked) {
  * @param {import("./triggers.js").Mark|null} judged the last line that was
  * @param {import("./limits.js").Asked} asked
  */
-async function judgePiece(triggers, incidents, { octets, place, past }, judged, { form, program, dictionary, lines = linesOf }) {
+async function judgePiece(triggers, incidents, { octets, place, past }, judged, asked) {
+  const { form, program, dictionary, lines = linesOf } = asked;
   let mark = 0;
   const tick = (/** @type {number} */ to) => {
     mark = to;

@@ -153,6 +153,16 @@ export class Saver {
   }
 
   /**
+   * Whether the disk has so much room; where it has not, old folders go that --keep would not have for long.
+   * @param {number} room
+   */
+  hasRoom(room) {
+    const has = () => roomIn(this.folder) >= this.limits.floor + room;
+    if (!has()) this.prune(Math.min(room, this.limits.keep), "");
+    return has();
+  }
+
+  /**
    * Saves an incident.
    * @param {Incident} incident
    * @param {Told} record
@@ -162,13 +172,13 @@ export class Saver {
     const found = this.ring.read(this.decoding.form, incident.run, ...this.wanted(incident));
     const holes = this.holesIn(incident, found);
     const room = BESIDE * found.reduce((sum, { octets }) => sum + octets.length, 0) + PAGE;
-    this.prune(room);
-    if (found.length === 0 || roomIn(this.folder) < this.limits.floor + room) return { saved: null, holes };
+    if (found.length === 0 || !this.hasRoom(room)) return { saved: null, holes };
     const [name, fresh] = [this.nameOf(incident), join(this.folder, `.${incident.id}-${process.pid}`)];
     try {
       rmSync(fresh, { recursive: true, force: true });
       mkdirSync(fresh);
       await this.fill(fresh, incident, found, { ...record, ...(holes.length > 0 && { holes }) });
+      this.prune(sizeOf(fresh), name);
       this.disk.putFolder(fresh, join(this.folder, name));
       return { saved: name, holes };
     } catch (fault) {
@@ -234,11 +244,14 @@ export class Saver {
   }
 
   /**
-   * Makes room: the oldest folders go first, but the first one of each cause stays as long as there are others.
+   * Makes room for a folder, which stays however great it is: the oldest ones go first, but the first one of each cause
+   * stays as long as there are others.
    * @param {number} room
+   * @param {string} own the name of the folder
    */
-  prune(room) {
-    const folders = readdirSync(this.folder).filter((name) => !name.startsWith(".")).sort();
+  prune(room, own) {
+    const isOther = (/** @type {string} */ name) => !name.startsWith(".") && name !== own;
+    const folders = readdirSync(this.folder).filter(isOther).sort();
     const sizes = new Map(folders.map((name) => [name, sizeOf(join(this.folder, name))]));
     const causes = folders.map(causeOf);
     const firsts = new Set(folders.filter((_, at) => causes.indexOf(causes[at]) === at));
@@ -246,7 +259,7 @@ export class Saver {
     let total = [...sizes.values()].reduce((sum, size) => sum + size, 0);
     for (const name of order) {
       if (total + room <= this.limits.keep) return;
-      rmSync(join(this.folder, name), { recursive: true, force: true });
+      this.disk.remove(join(this.folder, name));
       total -= sizes.get(name) ?? 0;
     }
   }

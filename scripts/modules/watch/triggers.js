@@ -75,10 +75,13 @@ export class Triggers {
    * What an earlier run knew.
    * @param {Record<string, ReturnType<Kind["kept"]>>} kept
    * @param {number} place
+   * @param {boolean} [isNear] whether so little lies between that a row of bad answers goes on
    */
-  restore(kept, place) {
-    for (const [name, { usual, isBad, isGone, since }] of Object.entries(kept)) {
-      Object.assign(this.kind(name), { usual, isBad, isGone, since, last: place, badFrom: place });
+  restore(kept, place, isNear = false) {
+    for (const [name, { usual, isBad, isGone, since, bad }] of Object.entries(kept)) {
+      const row = isNear && !isBad ? bad : 0;
+      const when = isBad || isGone || row > 0 ? since : null;
+      Object.assign(this.kind(name), { usual, isBad, isGone, since: when, last: place, badFrom: place, bad: row });
     }
   }
 
@@ -152,8 +155,8 @@ export class Triggers {
     if (row.replyBits !== null) kind.reply(row.replyBits);
     if (kind.isBad) {
       this.ears.wellAgain({ kind: name, commands: kind.bad }, kind.badFrom, row.first, kind.since);
-      kind.since = null;
     }
+    if (!kind.isGone) kind.since = null;
     kind.isBad = false;
     kind.bad = 0;
   }

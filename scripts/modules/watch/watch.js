@@ -101,13 +101,15 @@ export class Watch {
     const last = this.old.wall === null ? this.journal.told().at(-1)?.wall : iso(this.old.wall);
     const since = last === undefined ? {} : { since: last };
     this.log("start", since);
-    const { kinds, incidents, tally } = await this.rest();
-    this.triggers.restore(kinds, 0);
+    const { kinds, incidents, tally, past } = await this.rest();
+    const isNear = past !== null && Math.abs(this.wall.now() - past) <= this.asked.limits.after;
+    this.triggers.restore(kinds, 0, isNear);
     this.incidents.seam(0);
     this.incidents.tally = tally;
     const entries = this.journal.told();
     const left = untold(incidents, entries.filter(({ event }) => event === "incident"));
-    this.incidents.takeOver([...left, ...onlyBegun(entries, left)]);
+    const cut = this.old.isOver ? this.old.incidents.before : [];
+    this.incidents.takeOver([...left, ...onlyBegun(entries, left)], cut);
     this.keep();
     await this.decode(0);
   }
@@ -115,7 +117,7 @@ export class Watch {
   /** What the run before knew, with what it had not judged when it was killed. */
   async rest() {
     const { old } = this;
-    const known = { kinds: old.triggers.kinds, incidents: old.incidents, tally: new Map() };
+    const known = { kinds: old.triggers.kinds, incidents: old.incidents, tally: new Map(), past: old.wall };
     if (old.isOver) return known;
     try {
       return await judgedRest(old, this.ring, this.asked, this.journal);
@@ -272,6 +274,7 @@ export class Watch {
     if (isWell) await this.decoder.end();
     if (isWell) this.triggers.tick(places);
     this.incidents.finish(places);
+    this.incidents.cutOff();
     this.incidents.close();
     this.wall.settle();
     this.incidents.settle(Infinity);
