@@ -141,8 +141,10 @@ test("an incident within which the watch ends is cut, and may go on in the next 
 function toldOfRow(before, after, isNear, isAnswered = false) {
   /** @type {string[]} */
   const told = [];
-  const [first, second] = [1, 2].map(() => new Triggers({ trigger: (cause) => told.push(cause), wellAgain() {} }, new Map()));
-  const rows = (kind, count) => rowsOf(Array.from({ length: count }, (_, at) => `1 ${100 * at} ${100 * at + 9} ${kind} station 2 type 1`));
+  const ears = { trigger: (cause) => told.push(cause), wellAgain() {} };
+  const [first, second] = [1, 2].map(() => new Triggers(ears, new Map()));
+  const line = (kind, at) => `1 ${100 * at} ${100 * at + 9} ${kind} station 2 type 1`;
+  const rows = (kind, count) => rowsOf(Array.from({ length: count }, (_, at) => line(kind, at)));
   first.hear(rows("missing", before));
   if (isAnswered) first.hear(rows("answered", 1));
   second.restore(first.kept(() => 7).kinds, 0, isNear);

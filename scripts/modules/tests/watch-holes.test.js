@@ -21,7 +21,8 @@ const octetsOf = (from, past) =>
 
 /** A ring of 180 seconds, of which the disk took none from 60 to 100 and from 130 to 134. */
 function ringIn(folder, told = []) {
-  const ring = new Ring(join(folder, "ring"), 1, { most: 1 << 30, floor: 0, warn() {}, missed: (hole) => told.push(hole) });
+  const limits = { most: 1 << 30, floor: 0, warn() {}, missed: (hole) => told.push(hole) };
+  const ring = new Ring(join(folder, "ring"), 1, limits);
   ring.prune = () => undefined; // what is old stays, also on a full disk
   const add = (from, past) => ring.add(octetsOf(from, past), from * RATE, past * RATE);
   add(0, 60);
@@ -116,10 +117,12 @@ async function leftBy(keep, causes) {
     const saver = saverIn(folder, ringIn(folder), keep);
     for (const [number, cause] of causes.entries()) {
       const first = (20 + number) * RATE;
-      const incident = { id: `1-${number}`, run: 1, first, past: first + RATE, causes: { [cause]: 1 }, zero: 0, cut: false };
+      const places = { run: 1, first, past: first + RATE, zero: 0 };
+      const incident = { ...places, id: `1-${number}`, causes: { [cause]: 1 }, cut: false };
       assert.ok((await saver.save(incident, /** @type {any} */ ({ wall: "", causes: {} }))).saved);
     }
-    return readdirSync(join(folder, "incidents")).map((name) => name.slice(15, 17) + name.slice(name.indexOf("Z-") + 1));
+    const names = readdirSync(join(folder, "incidents"));
+    return names.map((name) => name.slice(15, 17) + name.slice(name.indexOf("Z-") + 1));
   } finally {
     rmSync(folder, { recursive: true, force: true });
   }

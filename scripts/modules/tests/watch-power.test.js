@@ -51,7 +51,8 @@ async function* lines(_, words, capture) {
 class Tried extends Watch {
   constructor(folder, disk, warn = assert.fail) {
     super(/** @type {any} */ ({
-      ...{ folder, disk, program: "", form: PAIRS, dictionary: "", gaps: new Map(), wall: new RecordedWall(1.8e9), lines },
+      ...{ folder, disk, program: "", form: PAIRS, dictionary: "", gaps: new Map() },
+      ...{ wall: new RecordedWall(1.8e9), lines },
       limits: { before: 10, after: 5, longest: 120, ring: 1 << 30, keep: 1 << 30, floor: 0 },
       ...{ write() {}, warn },
     }));
@@ -80,7 +81,7 @@ const stepsOfRun = () => inFolder(async (folder) => {
   const watch = new Tried(folder, disk);
   await watch.begin();
   for (let second = 0; second < SECONDS; second++) {
-    await watch.take(Buffer.from("3".repeat(RATE)));
+    await watch.take(Buffer.from("0".repeat(RATE)));
     await watch.ring.packing;
     await watch.saving;
   }
@@ -88,7 +89,15 @@ const stepsOfRun = () => inFolder(async (folder) => {
   return disk.steps;
 });
 
-const logOf = (files) => (files.get("incidents.jsonl")?.toString() ?? "").split("\n").slice(0, -1).map((line) => JSON.parse(line));
+const entriesOf = (text) => text.split("\n").slice(0, -1).map((line) => JSON.parse(line));
+
+const logOf = (files) => entriesOf(files.get("incidents.jsonl")?.toString() ?? "");
+
+/** The events of a log, by their kinds. */
+const those = (log, kind) => log.filter(({ event }) => event === kind);
+
+/** The number of the run that a segment is of. */
+const runOf = (name) => Number(name.slice(5, 11));
 
 /** What is wrong after a power cut that left some files: what the next run tells, and how it goes on. */
 const problemsAfter = (files, bits) => inFolder(async (folder) => {
@@ -97,28 +106,35 @@ const problemsAfter = (files, bits) => inFolder(async (folder) => {
   const watch = new Tried(folder, new Quick());
   await watch.begin();
   await watch.end();
-  const log = readFileSync(join(folder, "incidents.jsonl"), "utf8").trim().split("\n").map((line) => JSON.parse(line));
-  const told = log.filter(({ event }) => event === "incident");
+  const log = entriesOf(readFileSync(join(folder, "incidents.jsonl"), "utf8"));
+  const told = those(log, "incident");
   const found = told.map(({ causes, place }) => JSON.stringify([Object.keys(causes).join(), place]));
-  const begun = known.filter(({ event }) => event === "begun").map(({ id }) => id);
-  const wanted = WANTED.filter(([, place]) => /** @type {number} */ (place) + 3 * RATE < bits);
-  const runs = [...known.map(({ run }) => run), ...[...files.keys()].filter((name) => name.startsWith("ring/")).map((name) => Number(name.slice(5, 11)))];
+  const all = WANTED.map((one) => JSON.stringify(one));
+  const due = all.filter((_, at) => /** @type {number} */ (WANTED[at][1]) + 3 * RATE < bits);
+  const begun = (id) => those(log, "begun").filter((one) => one.id === id);
+  const isSaved = ({ saved }) => saved !== null && existsSync(join(folder, "incidents", saved));
+  const segments = [...files.keys()].filter((name) => name.startsWith("ring/"));
+  const runs = [...known.map(({ run }) => run), ...segments.map(runOf)];
   return [
-    ...found.filter((one) => !WANTED.some((wanted) => JSON.stringify(wanted) === one)).map((one) => `invented ${one}`),
+    ...found.filter((one) => !all.includes(one)).map((one) => `invented ${one}`),
     ...found.filter((one, at) => found.indexOf(one) !== at).map((one) => `twice ${one}`),
-    ...wanted.filter((one) => !found.includes(JSON.stringify(one))).map((one) => `lost ${one}`),
-    ...begun.filter((id) => !told.some((one) => one.id === id)).map((id) => `begun and not told: ${id}`),
-    ...told.filter(({ id }) => log.filter((one) => one.event === "begun" && one.id === id).length !== 1).map(({ id }) => `begun: ${id}`),
-    ...told.filter(({ saved }) => saved === null || !existsSync(join(folder, "incidents", saved))).map(({ id }) => `not saved: ${id}`),
+    ...due.filter((one) => !found.includes(one)).map((one) => `lost ${one}`),
+    ...those(known, "begun").filter(({ id }) => !told.some((one) => one.id === id)).map(({ id }) => `not told: ${id}`),
+    ...told.filter(({ id }) => begun(id).length !== 1).map(({ id }) => `begun ${begun(id).length} times: ${id}`),
+    ...told.filter((one) => !isSaved(one)).map(({ id }) => `not saved: ${id}`),
     ...(runs.includes(watch.number) ? [`run ${watch.number} comes again`] : []),
   ];
 });
 
 /** How many places the ring has among some files. */
-const bitsIn = (files) => [...files].filter(([name]) => /^ring\/[0-9-]+$/.test(name)).reduce((most, [name, octets]) => Math.max(most, Number(name.slice(12)) + 4 * octets.length), 0);
+function bitsIn(files) {
+  const open = [...files].filter(([name]) => /^ring\/[0-9-]+$/.test(name));
+  return Math.max(0, ...open.map(([name, octets]) => Number(name.slice(12)) + 4 * octets.length));
+}
 
 for (const isFlushed of [false, true]) {
-  test(`power fails after each step, and ${isFlushed ? "only what was flushed" : "all that was written"} is left`, async () => {
+  const what = isFlushed ? "only what was flushed" : "all that was written";
+  test(`power fails after each step, and ${what} is left`, async () => {
     const [steps, left] = [await stepsOfRun(), new Left()];
     const kinds = new Set(steps.map(({ kind }) => kind));
     assert.deepEqual([...kinds].sort(), ["open", "remove", "rename", "sync", "syncFolder", "write"]);
@@ -127,7 +143,8 @@ for (const isFlushed of [false, true]) {
       const [all, files] = [left.files(false), left.files(isFlushed)];
       const lost = (bitsIn(all) - bitsIn(files)) / RATE;
       assert.ok(lost <= KEEP + 1, `${lost} s of bits are lost after step ${number}`);
-      assert.deepEqual(await problemsAfter(files, bitsIn(files)), [], `after step ${number}, ${step.kind} ${step.path ?? step.to}`);
+      const problems = await problemsAfter(files, bitsIn(files));
+      assert.deepEqual(problems, [], `after step ${number}, ${step.kind} ${step.path}`);
     }
   });
 }
@@ -147,7 +164,8 @@ test("power fails at each octet of what is written: the log has whole lines, the
       for (let cut = 0; cut < step.octets.length; cut++) {
         lay([[step.path, whole.subarray(0, whole.length - step.octets.length + cut)]], folder);
 
-        assert.deepEqual(new Journal(join(folder, "incidents.jsonl"), () => {}, assert.fail, new Quick()).told(), known);
+        const journal = new Journal(join(folder, "incidents.jsonl"), () => {}, assert.fail, new Quick());
+        assert.deepEqual(journal.told(), known);
         const kept = read(join(folder, "state.json"), assert.fail, new Quick());
         assert.equal(JSON.stringify(kept), state ?? JSON.stringify(kept));
       }
@@ -188,11 +206,12 @@ test("a state of another shape is set aside in one line, and its run is not numb
       await watch.begin();
       await watch.end();
       assert.equal(watch.number, 2);
-      assert.equal(said.filter((text) => text.startsWith("the state: ") && !text.includes("\n")).length, junk === null ? 0 : 1);
+      const lines = said.filter((text) => text.startsWith("the state: ") && !text.includes("\n"));
+      assert.equal(lines.length, junk === null ? 0 : 1);
       assert.equal(readdirSync(folder).includes("state.json.bad"), junk !== null);
-      const told = readFileSync(join(folder, "incidents.jsonl"), "utf8").trim().split("\n").map((line) => JSON.parse(line));
-      const incidents = told.filter(({ event }) => event === "incident");
-      assert.deepEqual(incidents.map(({ id, place, cut }) => [id, place, cut]), [["1-1", WANTED[0][1], true]], junk ?? "none");
+      const told = those(entriesOf(readFileSync(join(folder, "incidents.jsonl"), "utf8")), "incident");
+      const found = told.map(({ id, place, cut }) => [id, place, cut]);
+      assert.deepEqual(found, [["1-1", WANTED[0][1], true]], junk ?? "none");
     });
   }
 });

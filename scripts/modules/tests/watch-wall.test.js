@@ -143,7 +143,8 @@ function toldOf(seconds, lost, after) {
     seamsOf(made, incidents);
     incidents.tick(made.place - RATE / 5);
   }
-  return records.map(({ wall, causes, seam }) => ({ wall: Date.parse(wall) / 1000, causes: Object.keys(causes), seam: seam === true }));
+  const timeOf = (wall) => Date.parse(wall) / 1000;
+  return records.map(({ wall, causes, seam = false }) => ({ wall: timeOf(wall), causes: Object.keys(causes), seam }));
 }
 
 /** Marks what was lost, as a watch does. */

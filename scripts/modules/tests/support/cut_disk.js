@@ -1,6 +1,6 @@
 // A disk that takes down what is done to it, and what a power cut leaves of that.
 
-import { mkdirSync, writeFileSync } from "node:fs";
+import { mkdirSync, truncateSync, writeFileSync } from "node:fs";
 import { dirname, join, relative } from "node:path";
 
 import { Disk } from "../../watch/disk.js";
@@ -18,7 +18,8 @@ export class TakenDown extends Disk {
 
   note(step) {
     const paths = Object.entries(step).filter(([, value]) => typeof value === "string" && value.startsWith("/"));
-    this.steps.push({ ...step, ...Object.fromEntries(paths.map(([name, path]) => [name, relative(this.folder, path)])) });
+    const own = paths.map(([name, path]) => [name, relative(this.folder, path)]);
+    this.steps.push({ ...step, ...Object.fromEntries(own) });
   }
 
   open(path, flags) {
@@ -119,10 +120,12 @@ export class Left {
   }
 }
 
-/** Writes files into a folder. */
+/** Writes files into a folder; one of zeros alone takes no room. */
 export function lay(files, folder) {
   for (const [name, octets] of files) {
+    const isBlank = octets.equals(Buffer.alloc(octets.length));
     mkdirSync(dirname(join(folder, name)), { recursive: true });
-    writeFileSync(join(folder, name), octets);
+    writeFileSync(join(folder, name), isBlank ? "" : octets);
+    if (isBlank) truncateSync(join(folder, name), octets.length);
   }
 }
