@@ -80,6 +80,12 @@ def written_by(words: Sequence[Word]) -> bytes:
     return subprocess.run(words, stdin=subprocess.DEVNULL, capture_output=True, check=True, timeout=SECONDS).stdout
 
 
+def sampler() -> Path:
+    """The program port1-sample: the one that a variable names, or that was built beside port1."""
+    built = Path(os.environ["PORT1"]).parents[2] / "port1_sample" / "out" / "port1_sample"
+    return Path(os.environ.get("PORT1_SAMPLE", built))
+
+
 def listed(capture: bytes, options: Sequence[str]) -> subprocess.CompletedProcess:
     """The listing of one run."""
     words = [os.environ["PORT1"], "list", *options]

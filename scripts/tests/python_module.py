@@ -185,7 +185,8 @@ def tapped(generator: random.Random, count: int) -> Tuple[bytes, str]:
         first, other = generator.choice("01"), generator.choice(["0", "1", "1", "", "", "", "", ""])
         silent += 1
         rests = silent == 3 and not second.endswith("1" * 15)
-        marks += first + "-" * bool(rests) + other.translate({48: "o", 49: "i"})
+        second += "1" * 15 * rests
+        marks += first + "-" * rests + other.translate({48: "o", 49: "i"})
         for sample in range(8):
             is_high, is_high_too = 2 <= sample < 6, other and sample >= 5
             samples.append((not is_high) << 9 | int(first) << 1 | bool(is_high_too) << 2 | int(other or 0) << 12)

@@ -13,7 +13,7 @@ from pathlib import Path
 from typing import Any, Callable, Dict, Iterator, List, NamedTuple, Optional, Sequence, Tuple
 
 from needs import needs, needs_module
-from tests.case import SCRIPTS, SECONDS, Run, ran
+from tests.case import SCRIPTS, SECONDS, Run, ran, sampler
 
 try:
     import numpy as np
@@ -277,7 +277,7 @@ def taken(samples: "np.ndarray", setting: Setting, rate: int) -> Dict[str, Any]:
     bit = rate / cabinet.RATE
     options = ["--facts", f"--hold={int(bit / 16)}", f"--jump={max(3, int(bit / 13))}", *setting.words()]
     how: Dict[str, Any] = {"capture_output": True, "check": True, "timeout": SECONDS}
-    got = subprocess.run([os.environ["PORT1_SAMPLE"], *options], input=samples.tobytes(), **how)
+    got = subprocess.run([sampler(), *options], input=samples.tobytes(), **how)
     words = [os.environ["PORT1"], "list", "--bits", "--arrivals", "--dict", cabinet.DICTIONARY]
     listing = subprocess.run(words, input=got.stdout, **how).stdout.decode()
     return {"facts": got.stderr.decode().splitlines(), "samples": rate, "listing": listing}
