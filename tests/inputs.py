@@ -80,15 +80,19 @@ def levels_of(lines: Sequence[Line]) -> Iterator[int]:
 NAMES = ("TXC", "TXD", "RXC", "RXD")
 
 
+# How many samples of a session have the same levels: of a bit there are twice as many.
+ALIKE = 4
+
+
 def session_of(lines: Sequence[Line], names: Sequence[str] = NAMES) -> bytes:
     """A session as PulseView saves it."""
     probes = "".join(f"probe{at}={name}\n" for at, name in enumerate(names, 1))
-    rate = f"samplerate={2 * RATE} Hz"
+    rate = f"samplerate={2 * ALIKE * RATE} Hz"
     written = io.BytesIO()
     with zipfile.ZipFile(written, "w", zipfile.ZIP_DEFLATED) as archive:
         archive.writestr("version", "2")
         archive.writestr("metadata", f"[device 1]\ncapturefile=logic-1\n{rate}\n{probes}unitsize=1\n")
-        archive.writestr("logic-1-1", bytes(levels_of(lines)))
+        archive.writestr("logic-1-1", bytes(level for level in levels_of(lines) for _ in range(ALIKE)))
     return written.getvalue()
 
 

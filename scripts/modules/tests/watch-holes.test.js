@@ -1,7 +1,7 @@
 // Where the disk took no bits there is a hole, which is told, and what is saved stands at its places.
 
 import assert from "node:assert/strict";
-import { chmodSync, mkdtempSync, readFileSync, readdirSync, rmSync, writeFileSync } from "node:fs";
+import { chmodSync, mkdtempSync, readFileSync, readdirSync, rmSync, statSync, writeFileSync } from "node:fs";
 import { tmpdir } from "node:os";
 import { join } from "node:path";
 import { test } from "node:test";
@@ -110,7 +110,10 @@ for (const { at, main, beside, holes } of CASES) {
   });
 }
 
-/** The folders that are left after incidents of some causes, each a second long. */
+/** The octets of a folder. */
+const sizeOf = (folder) => readdirSync(folder).reduce((sum, name) => sum + statSync(join(folder, name)).size, 0);
+
+/** The folders that are left after incidents of some causes, each a second long, and the octets of the last. */
 async function leftBy(keep, causes) {
   const folder = mkdtempSync(join(tmpdir(), "port1-"));
   try {
@@ -121,17 +124,19 @@ async function leftBy(keep, causes) {
       const incident = { ...places, id: `1-${number}`, causes: { [cause]: 1 }, cut: false };
       assert.ok((await saver.save(incident, /** @type {any} */ ({ wall: "", causes: {} }))).saved);
     }
-    const names = readdirSync(join(folder, "incidents"));
-    return names.map((name) => name.slice(15, 17) + name.slice(name.indexOf("Z-") + 1));
+    const names = readdirSync(join(folder, "incidents")).sort();
+    const left = names.map((name) => name.slice(15, 17) + name.slice(name.indexOf("Z-") + 1));
+    return { left, size: sizeOf(join(folder, "incidents", names[names.length - 1])) };
   } finally {
     rmSync(folder, { recursive: true, force: true });
   }
 }
 
 test("old folders go before the first ones of their causes, and the last one stays however great it is", async () => {
-  const [size, causes] = [21 * SECOND, ["burst", "rest", "burst", "burst"]];
-  assert.deepEqual(await leftBy(1, causes), ["23-burst"]);
-  assert.deepEqual(await leftBy(2.5 * size, causes), ["22-burst", "23-burst"]);
-  assert.deepEqual(await leftBy(3.5 * size, causes), ["20-burst", "21-rest", "23-burst"]);
-  assert.deepEqual(await leftBy(9 * size, causes), ["20-burst", "21-rest", "22-burst", "23-burst"]);
+  const causes = ["burst", "rest", "burst", "burst"];
+  const { left, size } = await leftBy(Infinity, causes);
+  assert.deepEqual(left, ["20-burst", "21-rest", "22-burst", "23-burst"]);
+  assert.deepEqual((await leftBy(1, causes)).left, ["23-burst"]);
+  assert.deepEqual((await leftBy(2.5 * size, causes)).left, ["22-burst", "23-burst"]);
+  assert.deepEqual((await leftBy(3.5 * size, causes)).left, ["20-burst", "21-rest", "23-burst"]);
 });
