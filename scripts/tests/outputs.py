@@ -115,12 +115,12 @@ def devices_stay(folder: Path) -> List[str]:
 
 
 def standard_output_by_name(folder: Path) -> List[str]:
-    """/dev/stdout is what the command was given for it."""
-    path = folder / "out.pcap"
-    with path.open("wb") as sink:
+    """/dev/stdout is the file that the command was given open, and no new one of that name."""
+    with (folder / "out.pcap").open("wb") as sink:
         words = [SCRIPTS / "list-to-pcap", RATE, "/dev/stdout"]
         done = subprocess.run(words, input=LISTING, stdout=sink, stderr=subprocess.PIPE, timeout=SECONDS)
-    return compared((done.returncode, done.stderr, path.stat().st_size > 24), (0, b"", True))
+        size = os.fstat(sink.fileno()).st_size
+    return compared((done.returncode, done.stderr, size > 24), (0, b"", True))
 
 
 def a_pipe_without_reader(folder: Path) -> List[str]:
