@@ -351,7 +351,7 @@ struct port1_rest {
 };
 
 /* The silence that suits a traffic cabinet: no sender pauses so long within a frame. */
-#define PORT1_SILENCE 400
+#define PORT1_SILENCE 40
 
 /* Makes the rule before the first bit, whatever the memory holds. Returns PORT1_OK. */
 uint32_t port1_rest_init(struct port1_rest *rest, uint64_t most);

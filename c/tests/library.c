@@ -16,32 +16,6 @@ static void version(void) {
     WANT(strcmp(text, PORT1_VERSION) == 0);
 }
 
-/* Which longest frames and origins make a decoder. */
-static void line_init(void) {
-    static const struct {
-        uint64_t longest, origin;
-        uint32_t status;
-    } rows[] = {{3, 0, PORT1_OK},
-                {256, LIMIT, PORT1_OK},
-                {2, 0, PORT1_BAD_LENGTH},
-                {257, 0, PORT1_BAD_LENGTH},
-                {0, LIMIT + 1, PORT1_BAD_LENGTH},
-                {TWO_32 + 3, 0, PORT1_BAD_LENGTH},
-                {UINT64_MAX, 0, PORT1_BAD_LENGTH},
-                {256, LIMIT + 1, PORT1_PLACE_LIMIT},
-                {256, UINT64_MAX, PORT1_PLACE_LIMIT}};
-    for (size_t k = 0; k < sizeof rows / sizeof *rows; k++) {
-        struct port1_line before;
-        memset(&line, 0xa5, sizeof line);
-        before = line;
-        WANT(port1_line_init(&line, rows[k].longest, rows[k].origin) == rows[k].status);
-        if (rows[k].status != PORT1_OK)
-            WANT(memcmp(&line, &before, sizeof line) == 0);
-        else
-            WANT(line.longest == rows[k].longest && line.origin == rows[k].origin && line.place == rows[k].origin);
-    }
-}
-
 /* A line of zeros holds no decoder, and nothing changes. */
 static void no_decoder(void) {
     struct port1_line zeros;
@@ -311,10 +285,9 @@ static void pair_causes(void) {
 }
 
 int main(void) {
-    static void (*const tests[])(void) = {version,       line_init,     no_decoder,   null_octets, feed_arguments,
-                                          place_limit,   push_and_open, high_first,   send_refusals, send_lengths,
-                                          fresh_lines,   send_align,    verdicts,     two_lines,   pair_refusals,
-                                          pair_causes};
+    static void (*const tests[])(void) = {version,       no_decoder,  null_octets,   feed_arguments, place_limit,
+                                          push_and_open, high_first,  send_refusals, send_lengths,   fresh_lines,
+                                          send_align,    verdicts,    two_lines,     pair_refusals,  pair_causes};
     for (size_t k = 0; k < sizeof tests / sizeof *tests; k++)
         tests[k]();
     return wrong;

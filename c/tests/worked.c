@@ -178,6 +178,7 @@ static void decoders_are_made(void) {
                 {257, 0, PORT1_BAD_LENGTH},
                 {0, LIMIT + 1, PORT1_BAD_LENGTH},
                 {0x100000003, 0, PORT1_BAD_LENGTH},
+                {UINT64_MAX, 0, PORT1_BAD_LENGTH},
                 {256, LIMIT + 1, PORT1_PLACE_LIMIT},
                 {256, UINT64_MAX, PORT1_PLACE_LIMIT}};
     for (size_t k = 0; k < sizeof rows / sizeof *rows; k++) {

@@ -16,4 +16,4 @@ export const AROUND = 5;
 export const ALL_STATIONS = 255;
 
 /** After so many bits of the controller without one of the stations their line is brought to rest, unless it is said. */
-export const SILENCE = 400;
+export const SILENCE = 40;

@@ -32,7 +32,7 @@ from definitions.values import Case, Items, Record, items_of
 MOST_PLACES = 2**60
 
 # What brings a second line with a clock of its own to rest, unless it is said, in bits of the first.
-SILENCE = 400
+SILENCE = 40
 
 # What is run, by file and name. A definition in a block with a form takes the form first.
 LISTING = ("bus_calls.specs.Known", "listing_in_all")

@@ -154,7 +154,7 @@ CHECKED = report(
     "last 1 8 49 108300fde5",
     "last 2 68 109 108380f561",
     frames=2,
-    idles=1,
+    idles=2,
     answered=1,
 )
 

@@ -23,7 +23,7 @@ from . import decoder_words, held_octets, limit, loaded, refusal, reported
 __all__ = ["SILENCE", "Arrival", "Gap", "LineFacts", "Occurrences", "RestRule", "Tap", "TwoClocks", "Wire"]
 
 # The silence that suits a traffic cabinet, in bits of line 1.
-SILENCE = 400
+SILENCE = 40
 
 # Bits of a sample, octets that it may have, and how many arrivals a call has room for.
 WIRES = 64

@@ -19,7 +19,7 @@ const READS: u64 = 1 << 40;
 const LISTED_DEPTH: usize = 1;
 
 /// The silence that brings a second line with its own clock to rest, unless it is said.
-const REST: u64 = 400;
+const REST: u64 = 40;
 
 /// How many frames a check tells at its end, unless it is said.
 const CHECKED_DEPTH: usize = 16;

@@ -1,8 +1,10 @@
 -- Captures of two lines with a clock each.
-use Rattle.std.proofs.Common.{◌≡◌, ℕ, ◌+◌, Bool, List, [], ◌∷◌, ◌++◌, length, map, Option, Result, Ok, Err, MatchResult}
+use Rattle.std.proofs.Common.{◌≡◌, ℕ, ◌+◌, ◌-◌, ◌≤◌, Bool, List, [], ◌∷◌, ◌++◌, length, map, zip, Option, Result, Ok, Err}
+use Rattle.std.proofs.Common.{MatchResult}
 use Rattle.std.proofs.Common.{refl, sym, ap, ◌∙◌, subst, arith, append-nil, append_assoc}
 use Rattle.std.proofs.lemmas.List.{map-append}
 use Rattle.bus_formats.specs.Packed.{packed_arrival_capture, packed_arrival_whole, pair_body, arrival_head_fault}
+use Rattle.bus_bits.specs.Bits.{bits_from}
 use Rattle.bus_fcs.specs.Check.{CheckView}
 use Rattle.bus_dictionary.specs.Entry.{FrameType}
 use Rattle.bus_pairing.specs.LineReport.{LineReport}
@@ -13,16 +15,18 @@ use Rattle.bus_tap.specs.Arrival.{Arrival, arrival_of, arrived, decides}
 use Rattle.bus_clocks.specs.Clocks.{IsAfterArrivals, bits_taken, two_clocks}
 use Rattle.bus_tap.specs.Laws.{ArrivalsGrow}
 use Rattle.bus_tap.specs.Rested.{IsRestAfter, RestState, comes_to_rest, rested, fill}
+use Rattle.bus_tap.proofs.ArrivalLemmas.{symbols-more}
 use Rattle.bus_tap.proofs.RestLemmas.{rested-more}
 use Rattle.bus_clocks.proofs.RoomLemmas.{own-count}
 use Rattle.bus_text.specs.declared.fault.ToolFault.{ToolFault}
 use Rattle.bus_calls.specs.Captures.{form_of_arrivals}
 use Rattle.bus_calls.specs.Internal.Arrivals.{RestsAfter, arrivals_kind, clocks_behind}
-use Rattle.bus_calls.specs.Internal.Kinds.{FedOn}
+use Rattle.bus_calls.specs.Internal.Kinds.{FedOn, KindLaws}
 use Rattle.bus_calls.specs.Internal.Watching.{FeedStopsWith, FeedAfter, WatchStopsWith, WatchAfter}
 use Rattle.bus_calls.specs.declared.arrivals.ClockAnalyser.{ClockAnalyser}
 use Rattle.bus_calls.specs.declared.run.CaptureRun.{CaptureRun}
 use Rattle.bus_calls.proofs.HeadedLemmas.{whole-bits}
+use Rattle.bus_calls.proofs.WatchingLemmas.{feed-halts-more}
 
 -- the end of the input adds no arrival
 pub same_arrivals : (xs : List ℕ) → (packed_arrival_whole xs).bits ≡ (packed_arrival_capture xs).bits
@@ -139,3 +143,26 @@ module _ {C : Type 0} (view : CheckView C) where
       }
   symbols-taken start now w (Err f) stands taken =
       subst (λ (zs : List Arrival). WatchStopsWith (arrivals_kind view) start now w zs f) (sym stands.rested) taken
+
+-- ---- what the rule takes of them, and what it puts behind
+module _ {C : Type 0} (view : CheckView C) (bits lines : List ℕ) (from end n : ℕ) (within : n ≤ end - from) where
+  abbrev pub symbols : List (Bool × Bool)
+  symbols = zip (bits_from bits from (end - from)) (bits_from lines from (end - from))
+
+  abbrev pub taken : List (Bool × Bool)
+  taken = zip (bits_from bits from n) (bits_from lines from n)
+
+  -- what stopped among those taken, stops among all
+  pub stops-among : KindLaws (arrivals_kind view) → (start now : Option (List ℕ)) (w : CaptureRun (ClockAnalyser C))
+      (b : List (Bool × Bool)) (f : ToolFault) → FeedStopsWith (arrivals_kind view) start now w (b ++ taken) f →
+      FeedStopsWith (arrivals_kind view) start now w (b ++ symbols) f
+  stops-among law start now w b f stopped =
+      let more = zip (bits_from bits (from + n) (end - from - n)) (bits_from lines (from + n) (end - from - n)) in
+      let count : end - from ≡ n + (end - from - n) = omega (arith, within) in
+      let all : (b ++ taken) ++ more ≡ b ++ symbols =
+      append_assoc b taken more
+      ∙ ap (λ (xs : List (Bool × Bool)). b ++ xs)
+      (sym (symbols-more bits lines from n (end - from - n))
+      ∙ ap (λ (k : ℕ). zip (bits_from bits from k) (bits_from lines from k)) (sym count)) in
+      subst (λ (xs : List (Bool × Bool)). FeedStopsWith (arrivals_kind view) start now w xs f) all
+      (feed-halts-more (arrivals_kind view) law start now w (b ++ taken) more f stopped)

@@ -1,12 +1,11 @@
 //! Captures of two lines with a clock each.
 
-ghost use Rattle.std.specs.Prelude.{◌≡◌, ◌≤◌, ◌*◌, ℕ, Bool, List, Option, ◌∷◌, ◌++◌, length, take, zip, MatchResult};
+ghost use Rattle.std.specs.Prelude.{◌≡◌, ◌≤◌, ◌<◌, ◌-◌, ◌*◌, ℕ, Bool, List, Option, ◌++◌, length, zip, MatchResult, IfOk};
 ghost use Rattle.bus_bits.specs.Bits.{bits_from};
 ghost use Rattle.bus_calls.specs.Internal.Arrivals.{arrivals_kind};
 ghost use Rattle.bus_calls.specs.Internal.Watching.{FeedAfter, FeedStopsWith, WatchStopsWith, IsSame, IsSound};
 ghost use Rattle.bus_calls.specs.Internal.Watching.{WatchAfter};
-ghost use Rattle.bus_tap.specs.Arrival.{Arrival, arrival_of, arrivals_from};
-ghost use Rattle.bus_tap.specs.Rested.{IsRestAfter, fill, rested};
+ghost use Rattle.bus_tap.specs.Arrival.{Arrival, arrivals_from};
 
 use crate::capture_kind::CaptureKind;
 use crate::run::CaptureRun;
@@ -20,13 +19,16 @@ use bus_formats::{ArrivalHead, BadMark, HeadFault, PackedFault, PackedPairs, Tex
 use bus_tap::RestRule;
 use bus_text::{Page, Printer, ShortWrite, ToolFault, put_kept};
 use bus_watch::laws::seen_grows;
-use bus_watch::{Counts, Line, NewFault};
+use bus_watch::{Counts, NewFault};
 use std::alloc::Global;
 use std::cmp::min;
 use std::io::Write;
 
 /// How many octets hold the arrivals that are taken at once, and as many their lines.
 const BLOCK: usize = 128;
+
+/// The bits that bring the second line to rest, and their lines.
+const REST: [u8; 2] = [0xff; 2];
 
 /// An analyser of two lines with a clock each, behind the rule of rest.
 #[derive(Drop)]
@@ -35,34 +37,24 @@ pub struct ClockAnalyser<C: Check> {
     pub rest: RestRule,
 }
 
-/// A symbol as an arrival.
-fn arrival(symbol: (bool, bool)) -> Arrival
-    ensures { result ≡ arrival_of symbol }
-{
-    let (bit, is_second) = symbol;
-    if is_second {
-        (Line::Second, bit)
-    } else {
-        (Line::First, bit)
-    }
-}
-
-/// Takes so many arrivals of these octets, their bits and their lines, and tells what is seen at them.
+/// Takes the arrivals of these octets, from one on and before another, and tells what is seen at them.
 fn analyse_arrivals<C: Check, W: Write>(
     bits: &[u8],
     lines: &[u8],
-    count: usize,
+    from: usize,
+    end: usize,
     run: &mut CaptureRun<ClockAnalyser<C>>,
     w: &mut W,
 ) -> Result<(), ToolFault>
     requires sound { IsSound (arrivals_kind C.check) run.old }
-    requires enough { (count ≤ 8 * length bits.now) × (count ≤ 8 * length lines.now) }
+    requires some { from ≤ end }
+    requires enough { (end ≤ 8 * length bits.now) × (end ≤ 8 * length lines.now) }
     ensures taken { (start : Option (List ℕ)) (b : List Arrival) →
         WatchAfter (arrivals_kind C.check) start (W.contents w.old) run.old b → MatchResult result
         (λ _. WatchAfter (arrivals_kind C.check) start (W.contents w.new) run.new
-        (b ++ arrivals_from bits.now lines.now 0 count))
+        (b ++ arrivals_from bits.now lines.now from (end - from)))
         (λ fault. WatchStopsWith (arrivals_kind C.check) start (W.contents w.new) run.new
-        (b ++ arrivals_from bits.now lines.now 0 count) fault) }
+        (b ++ arrivals_from bits.now lines.now from (end - from)) fault) }
     ensures rule { run.new.analyser.rest ≡ run.old.analyser.rest }
     ensures same { IsSame (arrivals_kind C.check) run.old run.new }
     ensures sound { IsSound (arrivals_kind C.check) run.new }
@@ -72,12 +64,44 @@ fn analyse_arrivals<C: Check, W: Write>(
     let taken = run
         .analyser
         .analyser
-        .scan(bits, lines, count, &mut run.reporter, w);
-    run.reporter.scanned(taken, count)
+        .scan(bits, lines, from, end, &mut run.reporter, w);
+    run.reporter.scanned(taken, end - from)
 }
 
-/// Takes so many symbols of these octets, none of which brings the second line to rest.
-fn analyse_quiet<C: Check, W: Write>(
+/// Takes symbols of these octets, from one on and before another, at least one, with the 1s that bring the second line
+/// to rest right after them. Returns how many were taken.
+fn analyse_some<C: Check, W: Write>(
+    bits: &[u8],
+    lines: &[u8],
+    from: usize,
+    end: usize,
+    run: &mut CaptureRun<ClockAnalyser<C>>,
+    w: &mut W,
+) -> Result<usize, ToolFault>
+    requires sound { IsSound (arrivals_kind C.check) run.old }
+    requires some { from < end }
+    requires enough { (end ≤ 8 * length bits.now) × (end ≤ 8 * length lines.now) }
+    ensures taken { (start : Option (List ℕ)) (b : List (Bool × Bool)) →
+        FeedAfter (arrivals_kind C.check) start (W.contents w.old) run.old b → MatchResult result
+        (λ n. FeedAfter (arrivals_kind C.check) start (W.contents w.new) run.new
+        (b ++ zip (bits_from bits.now from n) (bits_from lines.now from n)))
+        (λ fault. FeedStopsWith (arrivals_kind C.check) start (W.contents w.new) run.new
+        (b ++ zip (bits_from bits.now from (end - from)) (bits_from lines.now from (end - from))) fault) }
+    ensures within { IfOk result (λ n. (1 ≤ n) × (n ≤ end - from)) }
+    ensures same { IsSame (arrivals_kind C.check) run.old run.new }
+    ensures sound { IsSound (arrivals_kind C.check) run.new }
+{
+    ClockAnalyser::<C>::laws();
+    let (count, comes) = run.analyser.rest.push_some(bits, lines, from, end);
+    analyse_arrivals(bits, lines, from, from + count, run, w)?;
+    if comes {
+        analyse_arrivals(&REST, &REST, 0, 15, run, w)?;
+    }
+    Ok(count)
+}
+
+/// Takes so many symbols of these octets, with the 1s that bring the second line to rest among them.
+fn analyse_block<C: Check, W: Write>(
     bits: &[u8],
     lines: &[u8],
     count: usize,
@@ -86,8 +110,6 @@ fn analyse_quiet<C: Check, W: Write>(
 ) -> Result<(), ToolFault>
     requires sound { IsSound (arrivals_kind C.check) run.old }
     requires enough { (count ≤ 8 * length bits.now) × (count ≤ 8 * length lines.now) }
-    requires quiet { (xs ys : List Arrival) → IsRestAfter run.old.analyser.rest xs → length ys ≤ count →
-        rested run.old.analyser.rest.most (xs ++ ys) ≡ rested run.old.analyser.rest.most xs ++ ys }
     ensures taken { (start : Option (List ℕ)) (b : List (Bool × Bool)) →
         FeedAfter (arrivals_kind C.check) start (W.contents w.old) run.old b → MatchResult result
         (λ _. FeedAfter (arrivals_kind C.check) start (W.contents w.new) run.new
@@ -97,8 +119,12 @@ fn analyse_quiet<C: Check, W: Write>(
     ensures same { IsSame (arrivals_kind C.check) run.old run.new }
     ensures sound { IsSound (arrivals_kind C.check) run.new }
 {
-    run.analyser.rest.pass(bits, lines, count);
-    analyse_arrivals(bits, lines, count, run, w)
+    ClockAnalyser::<C>::laws();
+    let mut taken = 0;
+    while taken < count {
+        taken += analyse_some(bits, lines, taken, count, run, w)?;
+    }
+    Ok(())
 }
 
 impl<C: Check> CaptureKind for ClockAnalyser<C> {
@@ -172,12 +198,8 @@ impl<C: Check> CaptureKind for ClockAnalyser<C> {
         run: &mut CaptureRun<Self>,
         w: &mut W,
     ) -> Result<(), ToolFault> {
-        let arrival = arrival(symbol);
-        let comes = run.analyser.rest.push(arrival.0, arrival.1);
-        // Behind it are the fifteen 1s that bring the second line to rest.
-        let bits = [u8::from(symbol.0) | 0xfe, 0xff];
-        let lines = [u8::from(symbol.1) | 0xfe, 0xff];
-        analyse_arrivals(&bits, &lines, if comes { 16 } else { 1 }, run, w)
+        let (bit, is_second) = symbol;
+        analyse_block(&[u8::from(bit)], &[u8::from(is_second)], 1, run, w)
     }
 
     fn analyse_text<W: Write>(
@@ -186,17 +208,14 @@ impl<C: Check> CaptureKind for ClockAnalyser<C> {
         w: &mut W,
     ) -> Result<usize, ToolFault> {
         Self::laws();
-        let room = min(run.analyser.rest.quiet() / 8, BLOCK as u64) as usize;
         // Fewer octets are not looked at together, and do not pay for clearing the blocks.
-        if octets.len() < 32 || room == 0 {
+        if octets.len() < 32 {
             return Ok(0);
         }
         let mut bits = [0; BLOCK];
         let mut lines = [0; BLOCK];
-        let bits = &mut bits[..room];
-        let lines = &mut lines[..room];
-        let block = TextArrivals::part(octets, bits, lines);
-        analyse_quiet(bits, lines, block.count, run, w)?;
+        let block = TextArrivals::part(octets, &mut bits, &mut lines);
+        analyse_block(&bits, &lines, block.count, run, w)?;
         Ok(block.taken)
     }
 
@@ -208,8 +227,7 @@ impl<C: Check> CaptureKind for ClockAnalyser<C> {
     ) -> Result<usize, ToolFault> {
         arrivals_are_head_and_body();
         Self::laws();
-        let most = min(run.analyser.rest.quiet() / 4, 2 * BLOCK as u64) as usize;
-        let count = body.whole(min(octets.len(), most));
+        let count = body.whole(min(octets.len(), 2 * BLOCK));
         if count == 0 {
             return Ok(0);
         }
@@ -217,7 +235,7 @@ impl<C: Check> CaptureKind for ClockAnalyser<C> {
         let mut bits = [0; BLOCK];
         let mut lines = [0; BLOCK];
         body.unpack_octets(whole, &mut bits, &mut lines);
-        analyse_quiet(&bits, &lines, 4 * whole.len(), run, w)?;
+        analyse_block(&bits, &lines, 4 * whole.len(), run, w)?;
         Ok(count)
     }
 

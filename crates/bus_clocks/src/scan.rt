@@ -20,34 +20,37 @@ use bus_watch::{ReportObserver, newest, observe_bits, show};
 use std::cmp::min;
 
 impl<C: Check> TwoClockAnalyser<C> {
-    /// Takes so many bits in their order of arrival, and shows the observer what is seen at them. Of the octets of
-    /// `lines` a bit is 1 where that of `bits` arrives on the second line; the lowest of each octet is the first.
-    /// Returns how many it took: the origin and the bits of both lines together never come to more than 2^60.
+    /// Takes bits in their order of arrival, from one on and before another, and shows the observer what is seen at
+    /// them. Of the octets of `lines` a bit is 1 where that of `bits` arrives on the second line; the lowest of each
+    /// octet is the first. Returns how many it took: the origin and the bits of both lines together never come to more
+    /// than 2^60.
     pub fn scan<X, L: ReportObserver<X>>(
         &mut self,
         bits: &[u8],
         lines: &[u8],
-        count: usize,
+        from: usize,
+        end: usize,
         observer: &mut L,
         out: &mut X,
     ) -> usize
-        requires enough { (count ≤ 8 * length bits.now) × (count ≤ 8 * length lines.now) }
-        requires room { L.has_room observer.old (min count (most_places - bits_taken self.old)) }
-        ensures taken { result ≡ min count (most_places - bits_taken self.old) }
-        ensures told { AdvancesWatchShown (two_clocks C.check) self.old (arrivals_from bits.now lines.now 0 result)
+        requires some { from ≤ end }
+        requires enough { (end ≤ 8 * length bits.now) × (end ≤ 8 * length lines.now) }
+        requires room { L.has_room observer.old (min (end - from) (most_places - bits_taken self.old)) }
+        ensures taken { result ≡ min (end - from) (most_places - bits_taken self.old) }
+        ensures told { AdvancesWatchShown (two_clocks C.check) self.old (arrivals_from bits.now lines.now from result)
             self.new (λ ss. L.observes self.old.conversation.dictionary observer.old out.old ss observer.new out.new) }
     {
         let places = PLACES.saturating_sub(
             self.place_on(Line::First) + self.place_on(Line::Second),
         );
-        let end = min(count as u64, places) as usize;
-        let mut at = 0;
-        while at < end {
-            let some = min(BLOCK, end - at);
-            self.scan_block(bits, lines, at, some, observer, out);
-            at += some;
+        let count = min((end - from) as u64, places) as usize;
+        let mut taken = 0;
+        while taken < count {
+            let some = min(BLOCK, count - taken);
+            self.scan_block(bits, lines, from + taken, some, observer, out);
+            taken += some;
         }
-        end
+        count
     }
 
     /// Takes these arrivals, at most 512 from one on.

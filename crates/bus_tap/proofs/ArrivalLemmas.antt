@@ -1,5 +1,5 @@
 -- More arrivals: the bits of each line, and their places.
-use Rattle.std.proofs.Common.{◌≡◌, ℕ, zero, suc, ◌+◌, ◌<◌, ◌≤◌, Bool, List, [], ◌∷◌, ◌++◌, length, map, zip, refl, sym}
+use Rattle.std.proofs.Common.{◌≡◌, ℕ, zero, suc, ◌+◌, ◌-◌, ◌<◌, ◌≤◌, Bool, List, [], ◌∷◌, ◌++◌, length, map, zip, refl, sym}
 use Rattle.std.proofs.Common.{ap, ◌∙◌, arith}
 use Rattle.std.proofs.lemmas.List.{map-append}
 use Rattle.bus_bits.specs.Bits.{bit_at, bits_from}
@@ -42,15 +42,20 @@ before-within (suc k) ((Second, bit) ∷ xs) = before-within k xs
 -- ---- those of two rows of octets
 
 -- some of them, and more
+pub symbols-more : (bits lines : List ℕ) (i m n : ℕ) →
+    zip (bits_from bits i (m + n)) (bits_from lines i (m + n))
+    ≡ zip (bits_from bits i m) (bits_from lines i m) ++ zip (bits_from bits (i + m) n) (bits_from lines (i + m) n)
+symbols-more bits lines i m n =
+    rw (bits-more bits i m n, bits-more lines i m n)
+    (zip-append (bits_from bits i m) (bits_from lines i m) (bits_from bits (i + m) n) (bits_from lines (i + m) n)
+    (length-from bits i m ∙ sym (length-from lines i m)))
+
 pub arrivals-more : (bits lines : List ℕ) (i m n : ℕ) →
     arrivals_from bits lines i (m + n) ≡ arrivals_from bits lines i m ++ arrivals_from bits lines (i + m) n
 arrivals-more bits lines i m n =
-    rw (bits-more bits i m n, bits-more lines i m n)
-    (ap (map arrival_of)
-    (zip-append (bits_from bits i m) (bits_from lines i m) (bits_from bits (i + m) n) (bits_from lines (i + m) n)
-    (length-from bits i m ∙ sym (length-from lines i m)))
+    ap (map arrival_of) (symbols-more bits lines i m n)
     ∙ map-append arrival_of (zip (bits_from bits i m) (bits_from lines i m))
-    (zip (bits_from bits (i + m) n) (bits_from lines (i + m) n)))
+    (zip (bits_from bits (i + m) n) (bits_from lines (i + m) n))
 
 pub arrivals-first : (bits lines : List ℕ) (i n : ℕ) → arrivals_from bits lines i (suc n)
     ≡ arrival_of (bit_at bits i, bit_at lines i) ∷ arrivals_from bits lines (i + 1) n
@@ -61,16 +66,25 @@ pub arrivals-none : (bits lines : List ℕ) (i : ℕ) → arrivals_from bits lin
 unfolding bits_from
 arrivals-none bits lines i = refl
 
+pub arrivals-between : (bits lines : List ℕ) (from at end : ℕ) → from ≤ at → at ≤ end →
+    arrivals_from bits lines from (end - from)
+    ≡ arrivals_from bits lines from (at - from) ++ arrivals_from bits lines at (end - at)
+arrivals-between bits lines from at end begun within =
+    let count : end - from ≡ (at - from) + (end - at) = omega (arith, begun, within) in
+    let here : from + (at - from) ≡ at = omega (arith, begun) in
+    ap (arrivals_from bits lines from) count
+    ∙ (arrivals-more bits lines from (at - from) (end - at)
+    ∙ ap (λ (i : ℕ). arrivals_from bits lines from (at - from) ++ arrivals_from bits lines i (end - at)) here)
+
 -- and the last of them
-pub arrivals-last : (bits lines : List ℕ) (n : ℕ) → arrivals_from bits lines 0 (n + 1)
-    ≡ arrivals_from bits lines 0 n ++ arrival_of (bit_at bits n, bit_at lines n) ∷ []
-arrivals-last bits lines n =
-    let here : 0 + n ≡ n = omega arith in
-    arrivals-more bits lines 0 n 1
-    ∙ ap (λ (ys : List Arrival). arrivals_from bits lines 0 n ++ ys)
-    (ap (λ (i : ℕ). arrivals_from bits lines i 1) here
-    ∙ (arrivals-first bits lines n 0
-    ∙ ap (λ (ys : List Arrival). arrival_of (bit_at bits n, bit_at lines n) ∷ ys) (arrivals-none bits lines (n + 1))))
+pub arrivals-last : (bits lines : List ℕ) (i n : ℕ) → arrivals_from bits lines i (n + 1)
+    ≡ arrivals_from bits lines i n ++ arrival_of (bit_at bits (i + n), bit_at lines (i + n)) ∷ []
+arrivals-last bits lines i n =
+    arrivals-more bits lines i n 1
+    ∙ ap (λ (ys : List Arrival). arrivals_from bits lines i n ++ ys)
+    (arrivals-first bits lines (i + n) 0
+    ∙ ap (λ (ys : List Arrival). arrival_of (bit_at bits (i + n), bit_at lines (i + n)) ∷ ys)
+    (arrivals-none bits lines (i + n + 1)))
 
 pub length-arrivals : (bits lines : List ℕ) (i n : ℕ) → length (arrivals_from bits lines i n) ≡ n
 length-arrivals bits lines i zero = ap length (arrivals-none bits lines i)

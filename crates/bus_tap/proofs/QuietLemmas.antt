@@ -1,18 +1,22 @@
 -- The rule of rest, with many arrivals more.
-use Rattle.std.proofs.Common.{◌≡◌, ℕ, zero, suc, ◌+◌, ◌-◌, ◌*◌, ◌/◌, ◌%◌, ◌^◌, ◌<◌, ◌≤◌, ◌⊎◌, ◌==◌, ◌&&◌, min, ltb}
-use Rattle.std.proofs.Common.{Bool}
-use Rattle.std.proofs.Common.{true, false, List, [], ◌∷◌, ◌++◌, length, refl, sym, ap, ◌∙◌, arith, inl, inr}
-use Rattle.std.proofs.Common.{append-nil, append_assoc, if◌then◌else◌}
+use Rattle.std.proofs.Common.{◌≡◌, ℕ, zero, suc, ◌+◌, ◌-◌, ◌*◌, ◌/◌, ◌%◌, ◌^◌, ◌<◌, ◌≤◌, ◌⊎◌, ◌==◌, ◌&&◌, min, ltb, leb}
+use Rattle.std.proofs.Common.{Bool, true, false, List, [], ◌∷◌, ◌++◌, length, refl, sym, ap, ◌∙◌, subst, arith, inl, inr}
+use Rattle.std.proofs.Common.{append-nil, append_assoc, length-append, if◌then◌else◌}
 use Rattle.std.specs.Prelude.{slice_index}
+use Rattle.std.proofs.lemmas.Bool.{cases_lt}
 use Rattle.std.proofs.lemmas.Bool.Decides.{nat_tests}
+use Rattle.std.proofs.lemmas.List.{nil_from_length}
 use Rattle.bus_bits.specs.Bits.{bit_at}
 use Rattle.bus_line.specs.Run.{ones_after}
 use Rattle.bus_pairing.specs.declared.line.Line.TheVariants.{First, Second}
-use Rattle.bus_tap.specs.Arrival.{Arrival, arrivals_from, own}
+use Rattle.bus_tap.specs.Arrival.{Arrival, arrival_of, arrivals_from, own}
+use Rattle.bus_tap.specs.Internal.Quiet.{IsQuietFor, Passes}
 use Rattle.bus_tap.specs.Rested.{rested, silence, RestState, IsRestAfter}
-use Rattle.bus_tap.proofs.ArrivalLemmas.{own-append, arrivals-first, arrivals-last}
+use Rattle.bus_tap.proofs.ArrivalLemmas.{own-append, arrivals-first, arrivals-last, arrivals-more, arrivals-none}
+use Rattle.bus_tap.proofs.ArrivalLemmas.{arrivals-between, length-arrivals}
+use Rattle.bus_tap.proofs.RestLawLemmas.{rest-stays}
 use Rattle.bus_tap.proofs.RestLemmas.{rested-more, comes-first, comes-second, after-first, after-second, ones-more}
-use Rattle.bus_tap.proofs.RestLemmas.{ones-append, ones-none, silence-second, silent-first}
+use Rattle.bus_tap.proofs.RestLemmas.{ones-append, ones-none, rests-ones, silence-second, silent-first}
 
 -- no so many arrivals bring the second line to rest
 abbrev pub IsQuiet : RestState → ℕ → Type 0
@@ -66,6 +70,121 @@ quiet-many r xs ((Second, bit) ∷ ys) after within quiet =
     (omega arith) (quiet-second r (length ys) ones quiet)
     ∙ (ap (λ (zs : List Arrival). zs ++ ys) (rested-more r.most xs x false (comes-second r.most (rested r.most xs) bit))
     ∙ append_assoc (rested r.most xs) (x ∷ []) ys))
+
+-- ---- arrivals with which none can come
+
+pub fewer-left : (most m n : ℕ) (xs : List Arrival) → n ≤ m → IsQuietFor most xs m → IsQuietFor most xs n
+fewer-left most m n xs fewer quiet = λ ys few. quiet ys (omega (arith, fewer, few))
+
+pub none-left : (most : ℕ) (xs : List Arrival) → IsQuietFor most xs 0
+none-left most xs [] few = ap (rested most) (append-nil xs) ∙ sym (append-nil (rested most xs))
+none-left most xs (y ∷ ys) few = absurd (omega (arith, few))
+
+pub passes-none : (most left : ℕ) (xs : List Arrival) → IsQuietFor most xs left → Passes most xs [] left
+passes-none most left xs quiet = record {
+  same = none-left most xs [] (omega arith);
+  quiet = subst (λ (ys : List Arrival). IsQuietFor most ys left) (sym (append-nil xs)) quiet;
+}
+
+-- some of those that can bring none
+pub passes-some : (most left : ℕ) (xs ys : List Arrival) → IsQuietFor most xs left → length ys ≤ left →
+    Passes most xs ys (left - length ys)
+passes-some most left xs ys quiet few = record {
+  same = quiet ys few;
+  quiet = λ zs more.
+      ap (rested most) (append_assoc xs ys zs)
+      ∙ (quiet (ys ++ zs) (omega (arith, length-append ys zs, few, more))
+      ∙ (sym (append_assoc (rested most xs) ys zs) ∙ ap (λ (a : List Arrival). a ++ zs) (sym (quiet ys few))));
+}
+
+pub passes-more : (most m n : ℕ) (xs ys zs : List Arrival) → Passes most xs ys m → Passes most (xs ++ ys) zs n →
+    Passes most xs (ys ++ zs) n
+passes-more most m n xs ys zs first next = record {
+  same = ap (rested most) (sym (append_assoc xs ys zs))
+      ∙ (next.same
+      ∙ (ap (λ (a : List Arrival). a ++ zs) first.same ∙ append_assoc (rested most xs) ys zs));
+  quiet = subst (λ (a : List Arrival). IsQuietFor most a n) (append_assoc xs ys zs) next.quiet;
+}
+
+pub passes-on : (most m n : ℕ) (bits lines : List ℕ) (from at end : ℕ) (xs : List Arrival) → from ≤ at → at ≤ end →
+    Passes most xs (arrivals_from bits lines from (at - from)) m →
+    Passes most (xs ++ arrivals_from bits lines from (at - from)) (arrivals_from bits lines at (end - at)) n →
+    Passes most xs (arrivals_from bits lines from (end - from)) n
+passes-on most m n bits lines from at end xs begun within first next =
+    subst (λ (ys : List Arrival). Passes most xs ys n) (sym (arrivals-between bits lines from at end begun within))
+    (passes-more most m n xs _ _ first next)
+
+-- a bit of the second line
+pub second-quiet : (most : ℕ) (xs : List Arrival) (bit : Bool) → IsQuietFor most (xs ++ (Second, bit) ∷ []) (most - 1)
+second-quiet most xs bit = λ ys few.
+    let zs = xs ++ (Second, bit) ∷ [] in
+    let r : RestState = record {
+      most = most;
+      silent = 0;
+      ones = min 15 (ones_after 15 (own Second (rested most zs)));
+    } in
+    let after : IsRestAfter r zs = record { silent = λ some. omega (arith, silence-second xs bit); ones = refl } in
+    quiet-many r zs ys after (omega arith)
+    (elim (cases_lt 0 most) [
+      | inl some ↦ inr (omega (arith, some, few), inr (omega (arith, some, few)))
+      | inr none ↦ inl (omega (arith, none))
+    ])
+
+pub passes-second : (most : ℕ) (xs : List Arrival) (bit : Bool) → Passes most xs ((Second, bit) ∷ []) (most - 1)
+passes-second most xs bit = record {
+  same = rested-more most xs (Second, bit) false (comes-second most (rested most xs) bit);
+  quiet = second-quiet most xs bit;
+}
+
+pub passes-first : (most left : ℕ) (xs : List Arrival) (bit : Bool) → 1 ≤ left → IsQuietFor most xs left →
+    Passes most xs ((First, bit) ∷ []) (left - 1)
+passes-first most left xs bit some quiet = passes-some most left xs ((First, bit) ∷ []) quiet (omega (arith, some))
+
+pub second-in : (most : ℕ) (xs ys : List Arrival) → 1 ≤ length (own Second ys) →
+    IsQuietFor most (xs ++ ys) (most - length ys)
+second-in most xs [] some = absurd (omega (arith, some))
+second-in most xs ((First, bit) ∷ ys) some =
+    let x : Arrival = (First, bit) in
+    fewer-left most (most - length ys) (most - length (x ∷ ys)) (xs ++ (x ∷ ys)) (omega arith)
+    (subst (λ (zs : List Arrival). IsQuietFor most zs (most - length ys)) (append_assoc xs (x ∷ []) ys)
+    (second-in most (xs ++ x ∷ []) ys some))
+second-in most xs ((Second, bit) ∷ ys) some =
+    let x : Arrival = (Second, bit) in
+    elim (cases_lt (length ys) most) [
+      | inl few ↦
+          subst (λ (zs : List Arrival). IsQuietFor most zs (most - length (x ∷ ys))) (append_assoc xs (x ∷ []) ys)
+          (fewer-left most (most - 1 - length ys) (most - length (x ∷ ys)) ((xs ++ x ∷ []) ++ ys) (omega arith)
+          (passes-some most (most - 1) (xs ++ x ∷ []) ys (second-quiet most xs bit) (omega (arith, few))).quiet)
+      | inr many ↦
+          fewer-left most 0 (most - length (x ∷ ys)) (xs ++ (x ∷ ys)) (omega (arith, many))
+          (none-left most (xs ++ (x ∷ ys)))
+    ]
+
+-- as long as it may still be silent
+pub start-quiet : (r : RestState) (xs : List Arrival) → IsRestAfter r xs → r.silent ≤ r.most → 1 ≤ r.most →
+    IsQuietFor r.most xs (r.most - r.silent - 1)
+start-quiet r xs after within some = λ ys few. quiet-many r xs ys after within
+    (inr (
+      omega (arith, few, some),
+      elim (cases_lt r.silent r.most) [
+        | inl less ↦ inr (omega (arith, few, less))
+        | inr full ↦ inl full
+      ],
+    ))
+
+-- at rest, with bits of the first line alone
+pub rest-alone : (r : RestState) (xs ys : List Arrival) → IsRestAfter r xs → r.ones ≡ 15 → own Second ys ≡ [] →
+    Passes r.most xs ys 0
+rest-alone r xs ys after full alone = record {
+  same = rest-stays r.most xs ys
+      (rests-ones (own Second (rested r.most xs))
+      ∙ at-rest (ones_after 15 (own Second (rested r.most xs))) (omega (arith, after.ones, full)))
+      (rw alone refl);
+  quiet = none-left r.most (xs ++ ys);
+}
+  where
+    at-rest : (n : ℕ) → 15 ≤ n → leb 15 n ≡ true
+    at-rest n is = grind (arith, nat_tests, is)
 
 -- ---- what the rule keeps
 
@@ -144,29 +263,116 @@ octet-none bits lines past n some whole none rest =
     let there : past - 8 ≡ 8 * q + (8 - 8) = omega (arith, some, whole) in
     rw there (eight-none bits lines q 8 n none (omega arith) (rw (← here) rest))
 
+-- where none was, up to one
+pub none-behind : (bits lines : List ℕ) (i n : ℕ) → bit_at lines (i + n) ≡ false →
+    own Second (arrivals_from bits lines i n) ≡ [] → own Second (arrivals_from bits lines i (n + 1)) ≡ []
+none-behind bits lines i n none before =
+    ap (own Second) (arrivals-last bits lines i n)
+    ∙ (own-append Second (arrivals_from bits lines i n) (arrival_of (bit_at bits (i + n), bit_at lines (i + n)) ∷ [])
+    ∙ rw (before, none) refl)
+
+pub octet-behind : (bits lines : List ℕ) (i n : ℕ) → (i + n) % 8 ≡ 0 → slice_index lines ((i + n) / 8) ≡ 0 →
+    own Second (arrivals_from bits lines i n) ≡ [] → own Second (arrivals_from bits lines i (n + 8)) ≡ []
+octet-behind bits lines i n whole none before =
+    let q = (i + n) / 8 in
+    let past : 8 * q + 8 ≡ i + n + 8 = omega (arith, whole) in
+    let there : 8 * q + (8 - 8) ≡ i + n = omega (arith, whole) in
+    let behind = rw there at (eight-none bits lines q 8 0 none (omega arith)
+    (ap (own Second) (arrivals-none bits lines (8 * q + 8)))) in
+    ap (own Second) (arrivals-more bits lines i n 8)
+    ∙ (own-append Second (arrivals_from bits lines i n) (arrivals_from bits lines (i + n) 8)
+    ∙ rw (before, behind) refl)
+
+-- an octet that is not 0 has one
+none-first : (bits lines : List ℕ) (i n : ℕ) → own Second (arrivals_from bits lines i (suc n)) ≡ [] →
+    (bit_at lines i ≡ false) × (own Second (arrivals_from bits lines (i + 1) n) ≡ [])
+none-first bits lines i n alone =
+    by (bit_at lines i) (arrivals_from bits lines (i + 1) n) (sym (ap (own Second) (arrivals-first bits lines i n)) ∙ alone)
+  where
+    by : (is : Bool) (ys : List Arrival) → own Second (arrival_of (bit_at bits i, is) ∷ ys) ≡ [] →
+        (is ≡ false) × (own Second ys ≡ [])
+    by true ys none = absurd (cc)
+    by false ys none = (refl, none)
+
+octet-some : (bits lines : List ℕ) (at : ℕ) → at % 8 ≡ 0 → slice_index lines (at / 8) < 256 →
+    own Second (arrivals_from bits lines at 8) ≡ [] → slice_index lines (at / 8) ≡ 0
+octet-some bits lines at whole octet none =
+    let v = slice_index lines (at / 8) in
+    let a = none-first bits lines at 7 none in
+    let b = none-first bits lines (at + 1) 6 a.1 in
+    let c = none-first bits lines (at + 1 + 1) 5 b.1 in
+    let d = none-first bits lines (at + 1 + 1 + 1) 4 c.1 in
+    let e = none-first bits lines (at + 1 + 1 + 1 + 1) 3 d.1 in
+    let f = none-first bits lines (at + 1 + 1 + 1 + 1 + 1) 2 e.1 in
+    let g = none-first bits lines (at + 1 + 1 + 1 + 1 + 1 + 1) 1 f.1 in
+    let h = none-first bits lines (at + 1 + 1 + 1 + 1 + 1 + 1 + 1) 0 g.1 in
+    omega (
+      arith,
+      octet,
+      zero-bit 0 at a.0 (omega (arith, whole)) (omega (arith, whole)),
+      zero-bit 1 (at + 1) b.0 (omega (arith, whole)) (omega (arith, whole)),
+      zero-bit 2 (at + 1 + 1) c.0 (omega (arith, whole)) (omega (arith, whole)),
+      zero-bit 3 (at + 1 + 1 + 1) d.0 (omega (arith, whole)) (omega (arith, whole)),
+      zero-bit 4 (at + 1 + 1 + 1 + 1) e.0 (omega (arith, whole)) (omega (arith, whole)),
+      zero-bit 5 (at + 1 + 1 + 1 + 1 + 1) f.0 (omega (arith, whole)) (omega (arith, whole)),
+      zero-bit 6 (at + 1 + 1 + 1 + 1 + 1 + 1) g.0 (omega (arith, whole)) (omega (arith, whole)),
+      zero-bit 7 (at + 1 + 1 + 1 + 1 + 1 + 1 + 1) h.0 (omega (arith, whole)) (omega (arith, whole)),
+    )
+  where
+    is-even : (n : ℕ) → (n % 2 == 1) ≡ false → n % 2 ≡ 0
+    is-even n is = grind (arith, nat_tests, is)
+
+    zero-bit : (j i : ℕ) → bit_at lines i ≡ false → i / 8 ≡ at / 8 → i % 8 ≡ j →
+        slice_index lines (at / 8) / 2 ^ j % 2 ≡ 0
+    zero-bit j i is place low =
+        is-even (slice_index lines (at / 8) / 2 ^ j) (rw (place, low) at is)
+
+pub passes-octet : (most left : ℕ) (bits lines : List ℕ) (xs : List Arrival) (at : ℕ) → 8 ≤ left →
+    IsQuietFor most xs left → Passes most xs (arrivals_from bits lines at 8) (left - 8)
+passes-octet most left bits lines xs at enough quiet =
+    let count = length-arrivals bits lines at 8 in
+    subst (Passes most xs (arrivals_from bits lines at 8)) (ap (λ n. left - n) count)
+    (passes-some most left xs (arrivals_from bits lines at 8) quiet (omega (arith, count, enough)))
+
+pub passes-busy : (most left : ℕ) (bits lines : List ℕ) (xs : List Arrival) (at : ℕ) → at % 8 ≡ 0 →
+    slice_index lines (at / 8) < 256 → (slice_index lines (at / 8) ≡ 0 → ⊥) → 8 ≤ left →
+    IsQuietFor most xs left → Passes most xs (arrivals_from bits lines at 8) (most - 8)
+passes-busy most left bits lines xs at whole octet some enough quiet =
+    let ys = arrivals_from bits lines at 8 in
+    let count = length-arrivals bits lines at 8 in
+    record {
+      same = (passes-octet most left bits lines xs at enough quiet).same;
+      quiet = subst (IsQuietFor most (xs ++ ys)) (ap (λ n. most - n) count)
+          (second-in most xs ys (elim (cases_lt 0 (length (own Second ys))) [
+            | inl has ↦ has
+            | inr none ↦
+                absurd (some (octet-some bits lines at whole octet
+                (nil_from_length (own Second ys) (omega (arith, none)))))
+          ]));
+    }
+
 -- one arrival more
-pub ones-first : (k n : ℕ) (bits lines : List ℕ) → bit_at lines n ≡ false →
-    ones_after k (own Second (arrivals_from bits lines 0 (n + 1)))
-    ≡ ones_after k (own Second (arrivals_from bits lines 0 n))
-ones-first k n bits lines is =
-    let before = arrivals_from bits lines 0 n in
-    ap (λ (ys : List Arrival). ones_after k (own Second ys)) (arrivals-last bits lines n)
-    ∙ rw is (ap (ones_after k) (own-append Second before ((First, bit_at bits n) ∷ [])
-    ∙ append-nil (own Second before)))
+module _ (k i n : ℕ) (bits lines : List ℕ) where
+  abbrev before : List Arrival
+  before = arrivals_from bits lines i n
 
-pub ones-one : (k n : ℕ) (bits lines : List ℕ) → bit_at lines n ≡ true → bit_at bits n ≡ true →
-    ones_after k (own Second (arrivals_from bits lines 0 (n + 1)))
-    ≡ suc (ones_after k (own Second (arrivals_from bits lines 0 n)))
-ones-one k n bits lines is one =
-    let before = arrivals_from bits lines 0 n in
-    ap (λ (ys : List Arrival). ones_after k (own Second ys)) (arrivals-last bits lines n)
-    ∙ rw (is, one) (ap (ones_after k) (own-append Second before ((Second, true) ∷ []))
-    ∙ ones-more k (own Second before))
+  pub ones-first : bit_at lines (i + n) ≡ false →
+      ones_after k (own Second (arrivals_from bits lines i (n + 1))) ≡ ones_after k (own Second before)
+  ones-first is =
+      ap (λ (ys : List Arrival). ones_after k (own Second ys)) (arrivals-last bits lines i n)
+      ∙ rw is (ap (ones_after k) (own-append Second before ((First, bit_at bits (i + n)) ∷ [])
+      ∙ append-nil (own Second before)))
 
-pub ones-zero : (k n : ℕ) (bits lines : List ℕ) → bit_at lines n ≡ true → bit_at bits n ≡ false →
-    ones_after k (own Second (arrivals_from bits lines 0 (n + 1))) ≡ 0
-ones-zero k n bits lines is none =
-    let before = arrivals_from bits lines 0 n in
-    ap (λ (ys : List Arrival). ones_after k (own Second ys)) (arrivals-last bits lines n)
-    ∙ rw (is, none)
-    (ap (ones_after k) (own-append Second before ((Second, false) ∷ [])) ∙ ones-none k (own Second before))
+  pub ones-one : bit_at lines (i + n) ≡ true → bit_at bits (i + n) ≡ true →
+      ones_after k (own Second (arrivals_from bits lines i (n + 1))) ≡ suc (ones_after k (own Second before))
+  ones-one is one =
+      ap (λ (ys : List Arrival). ones_after k (own Second ys)) (arrivals-last bits lines i n)
+      ∙ rw (is, one) (ap (ones_after k) (own-append Second before ((Second, true) ∷ []))
+      ∙ ones-more k (own Second before))
+
+  pub ones-zero : bit_at lines (i + n) ≡ true → bit_at bits (i + n) ≡ false →
+      ones_after k (own Second (arrivals_from bits lines i (n + 1))) ≡ 0
+  ones-zero is none =
+      ap (λ (ys : List Arrival). ones_after k (own Second ys)) (arrivals-last bits lines i n)
+      ∙ rw (is, none)
+      (ap (ones_after k) (own-append Second before ((Second, false) ∷ [])) ∙ ones-none k (own Second before))

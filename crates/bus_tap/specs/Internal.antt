@@ -4,3 +4,4 @@ pub mod Held
 pub mod Tallies
 pub mod Taps
 pub mod Counts
+pub mod Quiet

@@ -1,8 +1,9 @@
 //! Brings the second line to rest where its clock has stopped.
 
-ghost use Rattle.std.specs.Prelude.{◌≡◌, ◌+◌, ◌-◌, ◌*◌, ◌≤◌, ◌==◌, ◌&&◌, ◌++◌, ◌∷◌, [], ℕ, List, length, min, nat_lt};
-ghost use Rattle.std.specs.Prelude.{◌↔◌, ◌^◌, IsSome, IfSome, if◌then◌else◌, true};
-ghost use Rattle.bus_tap.specs.Arrival.{Arrival, arrivals_from, own};
+ghost use Rattle.std.specs.Prelude.{◌≡◌, ◌+◌, ◌-◌, ◌*◌, ◌≤◌, ◌<◌, ◌==◌, ◌&&◌, ◌++◌, ◌∷◌, [], ℕ, List, length, min};
+ghost use Rattle.std.specs.Prelude.{◌↔◌, ◌^◌, Bool, IsSome, IfSome, if◌then◌else◌, true, false, nat_lt};
+ghost use Rattle.bus_tap.specs.Arrival.{Arrival, arrival_of, arrivals_from, own};
+ghost use Rattle.bus_tap.specs.Internal.Quiet.{IsQuietFor, Passes};
 ghost use Rattle.bus_tap.specs.Rested.{IsRestAfter, rested, fill};
 ghost use Rattle.bus_bits.specs.Bits.{bit_at};
 ghost use Rattle.bus_line.specs.Run.{ones_after};
@@ -43,8 +44,9 @@ impl Model for RestRule {
 }
 
 impl RestRule {
-    /// The silence that suits a traffic cabinet, in bits of the first line.
-    pub const SILENCE: u64 = 400;
+    /// The silence that suits a traffic cabinet, in bits of the first line. No sender pauses so long within a frame,
+    /// and the shortest command between two answers is longer.
+    pub const SILENCE: u64 = 40;
 
     /// The rule before the first arrival. `most` is the silence that brings the second line to rest, in bits
     /// of the first line; with 0 none does.
@@ -102,40 +104,90 @@ impl RestRule {
         }
     }
 
-    /// How many arrivals, whatever they are, do not bring the second line to rest.
-    pub fn quiet(&self) -> u64
-        ensures rested { (xs ys : List Arrival) → IsRestAfter self.now xs → length ys ≤ result →
-            rested self.now.most (xs ++ ys) ≡ rested self.now.most xs ++ ys }
-        ensures never { self.now.most ≡ 0 → result ≡ 2 ^ 64 - 1 }
-        ensures least { self.now.most ≤ result + 1
-            + (if self.now.silent == self.now.most then 0 else self.now.silent) }
-    {
-        if self.most == 0 {
-            return u64::MAX;
-        }
-        if self.silent >= self.most {
-            return self.most - 1;
-        }
-        self.most - self.silent - 1
-    }
-
-    /// These arrive, of which none brings the second line to rest: so many bits, and a 1 for each that is one of the
-    /// second line, the lowest of each octet first.
-    pub fn pass(&mut self, bits: &[u8], lines: &[u8], count: usize)
-        requires enough { (count ≤ 8 * length bits.now) × (count ≤ 8 * length lines.now) }
+    /// Some of these arrivals come, from one on and before another: their bits, and a 1 for each that is one of the
+    /// second line, the lowest of each octet first. Returns how many came, one at least, and whether fifteen 1s of the
+    /// second line arrive right after them. These are not pushed here.
+    pub fn push_some(
+        &mut self,
+        bits: &[u8],
+        lines: &[u8],
+        from: usize,
+        end: usize,
+    ) -> (usize, bool)
+        requires some { from < end }
+        requires enough { (end ≤ 8 * length bits.now) × (end ≤ 8 * length lines.now) }
+        ensures within { (1 ≤ result.0) × (result.0 ≤ end - from) }
+        ensures rested { (xs : List Arrival) → IsRestAfter self.old xs →
+            rested self.old.most (xs ++ arrivals_from bits.now lines.now from result.0)
+            ≡ rested self.old.most xs ++ (arrivals_from bits.now lines.now from result.0 ++ fill result.1) }
         ensures after { (xs : List Arrival) → IsRestAfter self.old xs →
-            rested self.old.most (xs ++ arrivals_from bits.now lines.now 0 count)
-            ≡ rested self.old.most xs ++ arrivals_from bits.now lines.now 0 count →
-            IsRestAfter self.new (xs ++ arrivals_from bits.now lines.now 0 count) }
+            IsRestAfter self.new (xs ++ arrivals_from bits.now lines.now from result.0) }
         ensures most { self.new.most ≡ self.old.most }
     {
-        let past = past_second(lines, count);
+        let past = self.quiet_until(lines, from, end);
+        self.pass(bits, lines, from, past);
+        if past == end {
+            return (end - from, false);
+        }
+        let line = if bit_at(lines, past) {
+            Line::Second
+        } else {
+            Line::First
+        };
+        let comes = self.push(line, bit_at(bits, past));
+        (past - from + 1, comes)
+    }
+
+    /// An arrival up to which none of these, from one on and before another, brings the second line to rest.
+    fn quiet_until(&self, lines: &[u8], from: usize, end: usize) -> usize
+        requires some { from ≤ end }
+        requires enough { end ≤ 8 * length lines.now }
+        ensures within { (from ≤ result) × (result ≤ end) }
+        ensures quiet { (bits : List ℕ) (xs : List Arrival) → IsRestAfter self.now xs →
+            rested self.now.most (xs ++ arrivals_from bits lines.now from (result - from))
+            ≡ rested self.now.most xs ++ arrivals_from bits lines.now from (result - from) }
+    {
+        if self.most == 0 {
+            return end;
+        }
+        let mut quiet = Quiet {
+            at: from,
+            left: (self.most - self.silent).saturating_sub(1),
+        };
+        if self.ones == IDLE_ONES {
+            quiet = Quiet {
+                at: next_second(lines, from, end),
+                left: 0,
+            };
+        }
+        while quiet.at < end {
+            quiet.pass_octets(lines, end, self.most);
+            let at = quiet.at;
+            if at == end || !quiet.pass_one(bit_at(lines, at), self.most) {
+                return at;
+            }
+        }
+        end
+    }
+
+    /// These arrive, from one on and before another, of which none brings the second line to rest: their bits, and a 1
+    /// for each that is one of the second line, the lowest of each octet first.
+    fn pass(&mut self, bits: &[u8], lines: &[u8], from: usize, end: usize)
+        requires some { from ≤ end }
+        requires enough { (end ≤ 8 * length bits.now) × (end ≤ 8 * length lines.now) }
+        ensures after { (xs : List Arrival) → IsRestAfter self.old xs →
+            rested self.old.most (xs ++ arrivals_from bits.now lines.now from (end - from))
+            ≡ rested self.old.most xs ++ arrivals_from bits.now lines.now from (end - from) →
+            IsRestAfter self.new (xs ++ arrivals_from bits.now lines.now from (end - from)) }
+        ensures most { self.new.most ≡ self.old.most }
+    {
+        let past = past_second(lines, from, end);
         let mut silent = self.silent;
-        if past > 0 {
-            self.ones = ones_before(bits, lines, past, self.ones);
+        if past > from {
+            self.ones = ones_before(bits, lines, from, past, self.ones);
             silent = 0;
         }
-        self.silent = min(self.most, silent.saturating_add((count - past) as u64));
+        self.silent = min(self.most, silent.saturating_add((end - past) as u64));
     }
 
     /// A bit of the first line arrives. Returns whether the second line comes to rest with it.
@@ -175,16 +227,85 @@ impl RestRule {
     }
 }
 
-/// How many of so many arrivals there are up to the last that is a bit of the second line.
-fn past_second(lines: &[u8], count: usize) -> usize
-    requires { count ≤ 8 * length lines.now }
-    ensures within { result ≤ count }
-    ensures behind { (bits : List ℕ) → own Second (arrivals_from bits lines.now result (count - result)) ≡ [] }
-    ensures last { 1 ≤ result → bit_at lines.now (result - 1) ≡ true }
+/// Up to an arrival none brought the second line to rest, and of the next `left` none will, whatever they are.
+#[derive(Clone, Copy)]
+struct Quiet {
+    at: usize,
+    left: u64,
+}
+
+impl Quiet {
+    /// Goes on over whole octets, while no arrival of the next can bring rest.
+    fn pass_octets(&mut self, lines: &[u8], end: usize, most: u64)
+        requires some { self.old.at ≤ end }
+        requires enough { end ≤ 8 * length lines.now }
+        ensures within { (self.old.at ≤ self.new.at) × (self.new.at ≤ end) }
+        ensures quiet { (bits : List ℕ) (xs : List Arrival) → IsQuietFor most xs self.old.left →
+            Passes most xs (arrivals_from bits lines.now self.old.at (self.new.at - self.old.at)) self.new.left }
+    {
+        if self.at % 8 != 0 {
+            return;
+        }
+        while end - self.at >= 8 && self.left >= 8 {
+            self.left = if lines[self.at / 8] == 0 {
+                self.left - 8
+            } else {
+                most.saturating_sub(8)
+            };
+            self.at += 8;
+        }
+    }
+
+    /// Goes on over an arrival of this line, where it cannot bring rest.
+    fn pass_one(&mut self, is_second: bool, most: u64) -> bool
+        requires { self.old.at < 2 ^ 64 - 1 }
+        ensures stays { result ≡ false → self.new ≡ self.old }
+        ensures next { result ≡ true → self.new.at ≡ self.old.at + 1 }
+        ensures quiet { (bit : Bool) (xs : List Arrival) → IsQuietFor most xs self.old.left → result ≡ true →
+            Passes most xs (arrival_of (bit, is_second) ∷ []) self.new.left }
+    {
+        if is_second {
+            self.left = most.saturating_sub(1);
+        } else if self.left > 0 {
+            self.left -= 1;
+        } else {
+            return false;
+        }
+        self.at += 1;
+        true
+    }
+}
+
+/// The first bit of the second line among these arrivals, from one on and before another; where there is none, that.
+fn next_second(lines: &[u8], from: usize, end: usize) -> usize
+    requires some { from ≤ end }
+    requires enough { end ≤ 8 * length lines.now }
+    ensures within { (from ≤ result) × (result ≤ end) }
+    ensures alone { (bits : List ℕ) → own Second (arrivals_from bits lines.now from (result - from)) ≡ [] }
 {
-    let mut past = count;
-    while past > 0 {
-        if past % 8 == 0 && lines[past / 8 - 1] == 0 {
+    let mut at = from;
+    while at < end && !bit_at(lines, at) {
+        if at % 8 == 0 && end - at >= 8 && lines[at / 8] == 0 {
+            at += 8;
+        } else {
+            at += 1;
+        }
+    }
+    at
+}
+
+/// Past the last bit of the second line among these arrivals, from one on and before another; where there is none, the
+/// first of them.
+fn past_second(lines: &[u8], from: usize, end: usize) -> usize
+    requires some { from ≤ end }
+    requires enough { end ≤ 8 * length lines.now }
+    ensures within { (from ≤ result) × (result ≤ end) }
+    ensures behind { (bits : List ℕ) → own Second (arrivals_from bits lines.now result (end - result)) ≡ [] }
+    ensures last { from < result → bit_at lines.now (result - 1) ≡ true }
+{
+    let mut past = end;
+    while past > from {
+        if past % 8 == 0 && past - from >= 8 && lines[past / 8 - 1] == 0 {
             past -= 8;
         } else if bit_at(lines, past - 1) {
             return past;
@@ -192,18 +313,20 @@ fn past_second(lines: &[u8], count: usize) -> usize
             past -= 1;
         }
     }
-    0
+    from
 }
 
-/// How many 1s are at the end of the second line, up to fifteen, with its bits among so many arrivals after others.
-fn ones_before(bits: &[u8], lines: &[u8], past: usize, others: u64) -> u64
+/// How many 1s are at the end of the second line, up to fifteen, with its bits among these arrivals after others.
+fn ones_before(bits: &[u8], lines: &[u8], from: usize, past: usize, others: u64) -> u64
+    requires some { from ≤ past }
     requires enough { (past ≤ 8 * length bits.now) × (past ≤ 8 * length lines.now) }
     requires few { others ≤ 15 }
-    ensures { result ≡ min 15 (ones_after others (own Second (arrivals_from bits.now lines.now 0 past))) }
+    ensures { result
+        ≡ min 15 (ones_after others (own Second (arrivals_from bits.now lines.now from (past - from)))) }
 {
     let mut at = past;
     let mut ones = 0;
-    while at > 0 && ones < IDLE_ONES {
+    while at > from && ones < IDLE_ONES {
         at -= 1;
         if bit_at(lines, at) {
             if !bit_at(bits, at) {
@@ -212,7 +335,7 @@ fn ones_before(bits: &[u8], lines: &[u8], past: usize, others: u64) -> u64
             ones += 1;
         }
     }
-    if at > 0 {
+    if at > from {
         return IDLE_ONES;
     }
     min(ones + others, IDLE_ONES)

@@ -39,7 +39,7 @@ const ARRIVALS: ArgumentRow = ArgumentRow {
 
 const REST: ArgumentRow = ArgumentRow {
     name: "rest",
-    defaults: &["400"],
+    defaults: &["40"],
     conflicts: &["two"],
     needs: &["arrivals"],
     help: "With --arrivals, the silence after which the second line rests",

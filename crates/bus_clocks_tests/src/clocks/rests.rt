@@ -139,7 +139,7 @@ fn bits_behind_an_answer(rt: HostRuntime) {
     same(&rt, text.as_str(), want, "bits behind an answer");
 }
 
-/// The silence that suits a cabinet, and what is left of it. A line that rests is quiet for as long as another.
+/// The silence that suits a cabinet.
 #[test]
 fn usual_silence(rt: HostRuntime) {
     let mut rule = RestRule::new(RestRule::SILENCE);
@@ -149,53 +149,62 @@ fn usual_silence(rt: HostRuntime) {
         false,
         "a bit of the second line",
     );
-    for place in 1..=500 {
+    for place in 1..=100 {
         same(
             &rt,
             rule.push(Line::First, true),
-            place == 400,
+            place == 40,
             format_args!("place {place}"),
         );
-        let left = if place < 400 { 399 - place } else { 399 };
-        same(&rt, rule.quiet(), left, format_args!("quiet at {place}"));
     }
-    same(&rt, RestRule::new(0).quiet(), u64::MAX, "no rest");
 }
 
-/// Arrivals that pass at once leave the rule as it is after each of them alone, and bring no rest.
-fn check_passed(rt: &impl Abort, alloc: Global, arrivals: &[Arrival], most: u64, size: usize) {
+/// What both rules say of these arrivals, one by one and together, is the same, and rest comes with the last alone.
+fn check_pushed(
+    rt: &impl Abort,
+    one_by_one: &mut RestRule,
+    together: &RestRule,
+    some: &[Arrival],
+    comes: bool,
+) {
+    for (at, arrival) in some.iter().enumerate() {
+        let is_last = at + 1 == some.len();
+        same(rt, one_by_one.push(arrival.0, arrival.1), comes && is_last, "rest comes");
+    }
+    same(rt, together.silent(), one_by_one.silent(), "the silence");
+    same(rt, together.ones(), one_by_one.ones(), "the ones");
+}
+
+/// Arrivals that are pushed together leave the rule as each of them alone does, and bring the same rests.
+fn check_together(rt: &impl Abort, alloc: Global, arrivals: &[Arrival], most: u64, size: usize) {
     let mut one_by_one = RestRule::new(most);
-    let mut passed = RestRule::new(most);
-    let mut rest = arrivals;
-    for _ in 0..arrivals.len() {
-        let many = passed.quiet().min(size.min(rest.len()) as u64) as usize;
-        let (some, behind) = rest.split_at(many.min(rest.len()));
-        for arrival in some {
-            holds(rt, !one_by_one.push(arrival.0, arrival.1), "no rest comes");
-        }
+    let mut together = RestRule::new(most);
+    for some in arrivals.chunks(size.max(1)) {
         let (bits, lines) = in_octets(rt, alloc, some);
         let held = bits.len().min(lines.len()).saturating_mul(8);
-        passed.pass(&bits, &lines, some.len().min(held));
-        rest = behind;
-        if let Some((next, behind)) = rest.split_first() {
-            let comes = one_by_one.push(next.0, next.1);
-            same(rt, passed.push(next.0, next.1), comes, "rest comes");
-            rest = behind;
+        let end = some.len().min(held);
+        same(rt, end, some.len(), "all are held");
+        let mut from = 0;
+        for _ in 0..end {
+            if from < end {
+                let (count, comes) = together.push_some(&bits, &lines, from, end);
+                let past = from + count;
+                check_pushed(rt, &mut one_by_one, &together, &some[from..past], comes);
+                from = past;
+            }
         }
-        same(rt, passed.silent(), one_by_one.silent(), "the silence");
-        same(rt, passed.ones(), one_by_one.ones(), "the ones");
+        same(rt, from, end, "all are pushed");
     }
-    holds(rt, rest.is_empty(), "all are taken");
 }
 
 /// Silences and sizes of every kind.
 #[test]
-fn many_pass(rt: HostRuntime) {
+fn many_together(rt: HostRuntime) {
     let alloc = rt.alloc();
     let arrivals = traffic(&rt, alloc, 11);
-    for most in [0, 1, 2, 3, 15, 16, 17, 64, 400] {
+    for most in [0, 1, 2, 3, 7, 8, 9, 15, 16, 17, 40, 64, 400] {
         for size in [1, 7, 8, 9, 64, 399, 3000] {
-            check_passed(&rt, alloc, &arrivals, most, size);
+            check_together(&rt, alloc, &arrivals, most, size);
         }
     }
 }

@@ -86,7 +86,7 @@ fn scan_some(
 ) -> usize {
     let (bits, lines) = in_octets(rt, alloc, some);
     let held = bits.len().min(lines.len()).saturating_mul(8);
-    analyser.scan(&bits, &lines, some.len().min(held), &mut Writing, text)
+    analyser.scan(&bits, &lines, 0, some.len().min(held), &mut Writing, text)
 }
 
 /// Both say the same of themselves.
@@ -180,7 +180,7 @@ fn scans_to_the_last_place(rt: HostRuntime) {
     );
     let mut text = String::new(alloc);
     for want in [64, 36, 0] {
-        let taken = analyser.scan(&[0; 8], &[0xaa; 8], 64, &mut Writing, &mut text);
+        let taken = analyser.scan(&[0; 8], &[0xaa; 8], 0, 64, &mut Writing, &mut text);
         same(&rt, taken, want, "places are left");
     }
 }

@@ -1,4 +1,4 @@
-use Rattle.std.proofs.Common.{◌≡◌, ◌+◌, ◌-◌, ◌^◌, ◌++◌, ℕ, min, List, subst, sym, ap, ◌∙◌, arith, MatchResult}
+use Rattle.std.proofs.Common.{◌≡◌, ◌+◌, ◌-◌, ◌^◌, ◌++◌, min, List, subst, sym, ap, ◌∙◌, arith, MatchResult}
 use Rattle.bus_tap.specs.Arrival.{Arrival, arrivals_from}
 use Rattle.bus_tap.proofs.ArrivalLemmas.{arrivals-more, arrivals-none, length-arrivals}
 use Rattle.bus_clocks.specs.Clocks.{bits_taken}
@@ -17,30 +17,29 @@ returns-clause-taken g c = λ start b followed.
     let n = c.scan-taken.result in
     let bits = c.args.bits.now in
     let lines = c.args.lines.now in
-    let count = c.args.count in
+    let from = c.args.from in
+    let count = c.args.end - from in
     let old = c.args.run.now.analyser in
     let taken : n ≡ min count (2 ^ 60 - bits_taken old.analyser) = c.scan-taken.ensures.taken in
     let now = g.W.Write.contents c.scan-taken.new.out in
     let new : CaptureRun (ClockAnalyser g.row.C.Denot) =
     record { analyser = record old { analyser = c.scan-taken.new.self }; reporter = c.scan-taken.new.observer } in
-    let told = told-behind view old new.analyser (arrivals_from bits lines 0 n) _ c.scan-taken.ensures.told in
-    let here : 0 + n ≡ n = omega arith in
+    let told = told-behind view old new.analyser (arrivals_from bits lines from n) _ c.scan-taken.ensures.told in
     let all : n + (count - n) ≡ count = omega (arith, taken) in
-    let whole : arrivals_from bits lines 0 n ++ arrivals_from bits lines n (count - n)
-    ≡ arrivals_from bits lines 0 count =
-    ap (λ (i : ℕ). arrivals_from bits lines 0 n ++ arrivals_from bits lines i (count - n)) (sym here)
-    ∙ (sym (arrivals-more bits lines 0 n (count - n)) ∙ ap (arrivals_from bits lines 0) all) in
+    let whole : arrivals_from bits lines from n ++ arrivals_from bits lines (from + n) (count - n)
+    ≡ arrivals_from bits lines from count =
+    sym (arrivals-more bits lines from n (count - n)) ∙ ap (arrivals_from bits lines from) all in
     subst (λ (ys : List Arrival). MatchResult c.scanned.result (λ _. WatchAfter kind start now new (b ++ ys))
     (λ f. WatchStopsWith kind start now new (b ++ ys) f)) whole
-    (told-scanned kind {v = new} {after = now} told c.laws.ensures (arrivals_from bits lines n (count - n)) n count
+    (told-scanned kind {v = new} {after = now} told c.laws.ensures (arrivals_from bits lines (from + n) (count - n)) n count
     c.scanned.result c.scanned.ensures.cut c.scanned.ensures.placed
     (λ full. let none : count - n ≡ 0 = omega (arith, full) in
-    ap (arrivals_from bits lines n) none ∙ arrivals-none bits lines n)
+    ap (arrivals_from bits lines (from + n)) none ∙ arrivals-none bits lines (from + n))
     (λ fewer. (
-      omega (arith, fewer, length-arrivals bits lines n (count - n)),
-      omega (arith, fewer, told.sees.place, length-arrivals bits lines 0 n, taken),
+      omega (arith, fewer, length-arrivals bits lines (from + n) (count - n)),
+      omega (arith, fewer, told.sees.place, length-arrivals bits lines from n, taken),
     ))
-    (omega (arith, length-arrivals bits lines 0 n, taken, c.requires.sound.places)) c.requires.sound start b followed)
+    (omega (arith, length-arrivals bits lines from n, taken, c.requires.sound.places)) c.requires.sound start b followed)
 
 pub returns-clause-sound : goal.returns-clause-sound
 returns-clause-sound g c =
@@ -49,8 +48,9 @@ returns-clause-sound g c =
     let bits = c.args.bits.now in
     let lines = c.args.lines.now in
     let old = c.args.run.now.analyser in
-    let taken : n ≡ min c.args.count (2 ^ 60 - bits_taken old.analyser) = c.scan-taken.ensures.taken in
+    let from = c.args.from in
+    let taken : n ≡ min (c.args.end - from) (2 ^ 60 - bits_taken old.analyser) = c.scan-taken.ensures.taken in
     told-sound (arrivals_kind view)
-    (told-behind view old (record old { analyser = c.scan-taken.new.self }) (arrivals_from bits lines 0 n) _
+    (told-behind view old (record old { analyser = c.scan-taken.new.self }) (arrivals_from bits lines from n) _
     c.scan-taken.ensures.told)
-    (omega (arith, length-arrivals bits lines 0 n, taken, c.requires.sound.places)) c.requires.sound
+    (omega (arith, length-arrivals bits lines from n, taken, c.requires.sound.places)) c.requires.sound

@@ -7,10 +7,10 @@ use Rattle.bus_tap.proofs.rest.past_second.Goals as goal
 
 pub loop-past-init : goal.loop-past-init
 loop-past-init c = record {
-  within = omega arith;
+  within = omega (arith, c.requires.some);
   none = λ bits.
-      let none : c.args.count - c.args.count ≡ 0 = omega arith in
-      rw none (ap (own Second) (arrivals-none bits c.args.lines.now c.args.count));
+      let none : c.args.end - c.args.end ≡ 0 = omega arith in
+      rw none (ap (own Second) (arrivals-none bits c.args.lines.now c.args.end));
 }
 
 pub loop-past-preserved-then-lines-past-eq0 : goal.loop-past-preserved-then-lines-past-eq0
@@ -18,11 +18,11 @@ loop-past-preserved-then-lines-past-eq0 c =
     let past = c.loop-past.past in
     let before = c.loop-past.invariant in
     record {
-      within = omega (arith, before.within);
+      within = omega (arith, before.within, c.if-past-eq0.true);
       none = λ bits.
-          let count : c.args.count - (past - 8) ≡ 8 + (c.args.count - past) =
+          let count : c.args.end - (past - 8) ≡ 8 + (c.args.end - past) =
           omega (arith, before.within, c.loop-past-test.true, c.if-past-eq0.true) in
-          rw count (octet-none bits c.args.lines.now past (c.args.count - past) (omega (arith, c.loop-past-test.true))
+          rw count (octet-none bits c.args.lines.now past (c.args.end - past) (omega (arith, c.loop-past-test.true))
           c.if-past-eq0.true c.if-lines-past-eq0.true (before.none bits));
     }
 
@@ -31,16 +31,16 @@ loop-past-preserved c =
     let past = c.loop-past.past in
     let before = c.loop-past.invariant in
     record {
-      within = omega (arith, before.within);
+      within = omega (arith, before.within, c.loop-past-test.true);
       none = λ bits.
-          let count : c.args.count - (past - 1) ≡ suc (c.args.count - past) =
+          let count : c.args.end - (past - 1) ≡ suc (c.args.end - past) =
           omega (arith, before.within, c.loop-past-test.true) in
           let here : past - 1 + 1 ≡ past = omega (arith, c.loop-past-test.true) in
-          rw count (none-more bits c.args.lines.now (past - 1) (c.args.count - past)
+          rw count (none-more bits c.args.lines.now (past - 1) (c.args.end - past)
           (sym c.bit_at.ensures ∙ c.if-bit_at.false) (rw here (before.none bits)));
     }
 
 pub returns-clause-behind : goal.returns-clause-behind
 returns-clause-behind c = λ bits.
-    let here : c.loop-past.past ≡ 0 = omega (arith, c.loop-past-test.false) in
+    let here : c.loop-past.past ≡ c.args.from = omega (arith, c.loop-past.invariant.within, c.loop-past-test.false) in
     rw here at (c.loop-past.invariant.none bits)

@@ -6,8 +6,8 @@ use Rattle.bus_tap.proofs.rest.past_second.Given as goal
 -- none of the arrivals behind is one of the second line
 abbrev pub invariant-loop-past : goal.invariant-loop-past
 invariant-loop-past l = record {
-  within : l.past ≤ l.fn.count;
-  none : (bits : List ℕ) → own Second (arrivals_from bits l.fn.lines l.past (l.fn.count - l.past)) ≡ [];
+  within : (l.fn.from ≤ l.past) × (l.past ≤ l.fn.end);
+  none : (bits : List ℕ) → own Second (arrivals_from bits l.fn.lines l.past (l.fn.end - l.past)) ≡ [];
 }
 
 abbrev pub decreases-loop-past : goal.decreases-loop-past

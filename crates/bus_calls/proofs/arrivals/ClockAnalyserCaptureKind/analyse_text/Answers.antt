@@ -1,36 +1,22 @@
-use Rattle.std.proofs.Common.{◌++◌, ◌/◌, ◌∙◌, Err, Ok, arith, take}
-use Rattle.std.proofs.lemmas.Grind.{common_steps}
+use Rattle.std.proofs.Common.{◌++◌, Err, Ok, take}
 use Rattle.std.proofs.lemmas.Result.{err_from_is_err_and}
-use Rattle.bus_bits.proofs.OctetLemmas.{least}
 use Rattle.bus_calls.proofs.SessionsTextLemmas.{mark-taken}
 use Rattle.bus_calls.proofs.arrivals.ClockAnalyserCaptureKind.analyse_text.Goals as goal
 
-pub analyse_quiet-requires-clause-quiet : goal.analyse_quiet-requires-clause-quiet
-analyse_quiet-requires-clause-quiet g c = λ xs ys after few.
-    c.quiet.ensures.rested xs ys after
-    (grind (
-      arith,
-      common_steps,
-      few,
-      c.part-block.ensures.within,
-      c.part-block.ensures.len.0,
-      c.min-room.ensures ∙ least (c.quiet.result / 8) 128,
-    ))
-
-pub returns-in_err-analyse_quiet-clause-taken : goal.returns-in_err-analyse_quiet-clause-taken
-returns-in_err-analyse_quiet-clause-taken g c =
+pub returns-in_err-analyse_block-clause-taken : goal.returns-in_err-analyse_block-clause-taken
+returns-in_err-analyse_block-clause-taken g c =
     let failed = err_from_is_err_and c.from_residual.result c.from_residual.ensures.1 in
     let next = c.part-block in
     rw (failed.1, failed.2) (λ start xs followed. (
       next.result.taken,
       next.ensures.enough,
       mark-taken c.laws.ensures _ (xs ++ take next.result.taken c.args.octets.now)
-          (Err c.in_err-analyse_quiet.field-0.0) c.requires.places c.analyse_quiet.ensures.same followed.bits.bits
-          (next.ensures.given xs followed.clean) (c.in_err-analyse_quiet.ensures.taken start _ followed.bits),
+          (Err c.in_err-analyse_block.field-0.0) c.requires.places c.analyse_block.ensures.same followed.bits.bits
+          (next.ensures.given xs followed.clean) (c.in_err-analyse_block.ensures.taken start _ followed.bits),
     ))
 
 pub returns-clause-taken : goal.returns-clause-taken
 returns-clause-taken g c = λ start xs followed.
     mark-taken c.laws.ensures _ (xs ++ take c.part-block.result.taken c.args.octets.now) (Ok tt) c.requires.places
-    c.analyse_quiet.ensures.same followed.bits.bits (c.part-block.ensures.given xs followed.clean)
-    (c.in_ok-analyse_quiet.ensures.taken start _ followed.bits)
+    c.analyse_block.ensures.same followed.bits.bits (c.part-block.ensures.given xs followed.clean)
+    (c.in_ok-analyse_block.ensures.taken start _ followed.bits)
