@@ -34,44 +34,12 @@ impl Spent {
         }
     }
 
-    /// One bit was taken.
-    pub fn tick_shifted(&mut self)
-        requires { self.old.shifted < 2 ^ 64 - 1 }
-        ensures { self.new ≡ record self.old { shifted = self.old.shifted + 1 } }
-    {
-        self.shifted += 1;
-    }
-
-    /// One bit of a piece was assembled.
-    pub fn tick_assembled(&mut self)
-        requires { self.old.assembled < 2 ^ 64 - 1 }
-        ensures { self.new ≡ record self.old { assembled = self.old.assembled + 1 } }
-    {
-        self.assembled += 1;
-    }
-
     /// One unit of work of a frame check.
     pub fn tick_folded(&mut self)
         requires { self.old.folded < 2 ^ 64 - 1 }
         ensures { self.new ≡ record self.old { folded = self.old.folded + 1 } }
     {
         self.folded += 1;
-    }
-
-    /// One octet was put into the frame buffer.
-    pub fn tick_stored(&mut self)
-        requires { self.old.stored < 2 ^ 64 - 1 }
-        ensures { self.new ≡ record self.old { stored = self.old.stored + 1 } }
-    {
-        self.stored += 1;
-    }
-
-    /// One octet was copied into the history.
-    pub fn tick_copied(&mut self)
-        requires { self.old.copied < 2 ^ 64 - 1 }
-        ensures { self.new ≡ record self.old { copied = self.old.copied + 1 } }
-    {
-        self.copied += 1;
     }
 
     /// One step of the handling of a report.

@@ -154,7 +154,7 @@ fn all_that_is_seen(rt: HostRuntime) {
     same(&rt, log.reports().len(), 3, "how many reports are logged");
     let reply = log.reports().get(1).expect(&rt, "a report");
     holds(&rt, reply.verdict.is_some(), "the reply has a verdict");
-    let is_frame = matches!(reply.piece, LoggedPiece::Frame(_));
+    let is_frame = matches!(reply.piece, LoggedPiece::Frame { .. });
     holds(&rt, is_frame, "the reply is a frame");
     let fault = watch(rt.alloc(), calls(&rt, rt.alloc()), &three, 2).err();
     let want = WatchFault::Feed(FeedFault::Sink { consumed: 156 });

@@ -9,7 +9,7 @@ use Rattle.std.proofs.lemmas.Bool.{and_from, and_parts, eqb-true}
 use Rattle.std.proofs.Math.Bool.{and_assoc}
 use Rattle.bus_line.specs.Run.{ones_at_end, data_so_far}
 use Rattle.bus_line.proofs.RunLemmas.{data_after-more}
-use Rattle.bus_line.specs.Due.{Mark, NoMark, FlagAt, AbortAt, last_mark, places, current, begun_by}
+use Rattle.bus_line.specs.Due.{Mark, NoMark, FlagAt, AbortAt, last_mark, places, current, begun_by, first_of}
 use Rattle.bus_line.specs.Ledger.{is_settled, belongs, is_inserted, rank_under, is_stored, stored, assembled}
 use Rattle.bus_line.specs.Ledger.{stored_from, stored_behind, stored_open}
 use Rattle.bus_line.proofs.MarkLemmas.{last_mark-append, last_mark-flag, last_mark-is}
@@ -23,7 +23,7 @@ use Rattle.std.proofs.lemmas.Bool.Decides.{nat_tests}
 use Rattle.bus_bits.specs.Octet.{octets}
 use Rattle.bus_fcs.specs.Check.{CheckView}
 use Rattle.bus_line.specs.LineState.{LineState}
-use Rattle.bus_line.specs.Internal.Tracks.{first_of, settled_data, HoldsFor}
+use Rattle.bus_line.specs.Internal.Tracks.{settled_data, HoldsFor}
 use Rattle.bus_line.specs.After.{After}
 use Rattle.bus_line.proofs.WholeLemmas.{length-octets}
 

@@ -12,11 +12,11 @@ use Rattle.std.proofs.lemmas.Bool.Decides.{nat_tests}
 use Rattle.bus_bits.specs.Octet.{bits_of}
 use Rattle.bus_bits.specs.declared.spent.Spent.{Spent}
 use Rattle.bus_fcs.specs.Check.{CheckView}
-use Rattle.bus_line.specs.Due.{FlagAt, current}
+use Rattle.bus_line.specs.Due.{FlagAt, current, first_of}
 use Rattle.bus_line.specs.Ledger.{is_settled, is_inserted, assembled, stored}
 use Rattle.bus_line.specs.LineState.{LineState}
 use Rattle.bus_line.specs.Internal.LineView.{settles_from}
-use Rattle.bus_line.specs.Internal.Tracks.{first_of, settled_data, HoldsFor, Counts, Tracks}
+use Rattle.bus_line.specs.Internal.Tracks.{settled_data, HoldsFor, Counts, Tracks}
 use Rattle.bus_line.specs.After.{After}
 use Rattle.bus_line.specs.Internal.Settled.{AppendsBits, HasNoStop, IsWord, LagsBy, data_in_word, octets_more}
 use Rattle.bus_line.proofs.LedgerSettledLemmas.{assembled-more, stored-more}

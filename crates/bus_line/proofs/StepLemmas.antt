@@ -12,12 +12,12 @@ use Rattle.bus_line.proofs.WordLemmas.{none_number}
 use Rattle.bus_bits.specs.declared.spent.Spent.{Spent}
 use Rattle.bus_fcs.specs.Check.{CheckView}
 use Rattle.bus_line.specs.Run.{ones_at_end, data_so_far, ones_after}
-use Rattle.bus_line.specs.Due.{Mark, NoMark, FlagAt, AbortAt, current, piece_report}
+use Rattle.bus_line.specs.Due.{Mark, NoMark, FlagAt, AbortAt, current, piece_report, first_of}
 use Rattle.bus_line.specs.Ledger.{is_settled, belongs, is_inserted, assembled, stored}
 use Rattle.bus_line.specs.LineState.{LineState}
 use Rattle.bus_line.specs.Internal.AdvancesTo.{closed_piece}
 use Rattle.bus_line.specs.Internal.LineView.{settles_from}
-use Rattle.bus_line.specs.Internal.Tracks.{first_of, settled_data, padded, Holds, HoldsFor, Counts, HasTaken, Tracks}
+use Rattle.bus_line.specs.Internal.Tracks.{settled_data, padded, Holds, HoldsFor, Counts, HasTaken, Tracks}
 use Rattle.bus_line.proofs.RunLemmas.{data_after-more}
 use Rattle.bus_line.proofs.MarkLemmas.{last_mark-flag}
 use Rattle.bus_line.proofs.DueStreamLemmas.{flag-fits, Decides, at-flag, at-abort, at-idle, at-other}

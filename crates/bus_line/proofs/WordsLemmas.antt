@@ -7,8 +7,7 @@ use Rattle.bus_bits.proofs.CaseLemmas.{lt_true}
 use Rattle.bus_fcs.specs.Check.{CheckView}
 use Rattle.std.specs.Option.{option_map}
 use Rattle.bus_line.specs.Report.{Abort, moved}
-use Rattle.bus_line.specs.Due.{Mark, NoMark, FlagAt, AbortAt, piece_report}
-use Rattle.bus_line.specs.Internal.Tracks.{first_of}
+use Rattle.bus_line.specs.Due.{Mark, NoMark, FlagAt, AbortAt, piece_report, first_of}
 use Rattle.bus_line.specs.Words.{first_in, state}
 use Rattle.bus_line.specs.declared.decoder_words.DecoderWords.{DecoderWords}
 use Rattle.bus_line.specs.After.{After}

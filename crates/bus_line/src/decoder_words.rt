@@ -3,8 +3,7 @@
 ghost use Rattle.std.specs.Prelude.{◌≡◌, ◌+◌, ◌-◌, ◌≤◌, ◌<◌, ◌↔◌, ◌⊎◌, List, Bool, IfOk, IsTrue, length};
 ghost use Rattle.std.specs.Option.{option_map};
 ghost use Rattle.bus_bits.specs.Limits.{most_places};
-ghost use Rattle.bus_line.specs.Due.{begun, current};
-ghost use Rattle.bus_line.specs.Internal.Tracks.{first_of};
+ghost use Rattle.bus_line.specs.Due.{begun, current, first_of};
 ghost use Rattle.bus_line.specs.Words.{first_in, fresh_words, AreDecoderWords};
 
 use crate::fault::LineFault;

@@ -64,7 +64,7 @@ tally d hs station = record {
 
 -- a frame that is kept
 abbrev pub kept_on : Line → Kept → KeptFrame
-kept_on line k = record { line = line; span = k.span; octets = k.octets.items }
+kept_on line k = record { line = line; span = k.span; octets = k.octets }
 
 -- of the only line
 abbrev pub kept_frame : Kept → KeptFrame

@@ -8,8 +8,8 @@ use Rattle.bus_pairing.specs.declared.logged_report.LoggedReport.{LoggedReport}
 use Rattle.bus_pairing.specs.declared.pair_log.PairLogged.{PairLogged}
 
 abbrev pub logged_piece : LoggedPiece → Report
-logged_piece (Frame kept) =
-    record { kind = Kind.Frame kept.octets.items; first = kept.span.first; past = kept.span.past }
+logged_piece (Frame span octets) =
+    record { kind = Kind.Frame octets.items; first = span.first; past = span.past }
 logged_piece (Damaged span cause) = record { kind = Kind.Damaged cause; first = span.first; past = span.past }
 logged_piece (Overlong span) = record { kind = Kind.Overlong; first = span.first; past = span.past }
 logged_piece (Abort span) = record { kind = Kind.Abort; first = span.first; past = span.past }

@@ -15,7 +15,7 @@ use crate::pairing::Pairing;
 use crate::pending::Pending;
 use bus_bits::{Span, Spent};
 use bus_dictionary::Dictionary;
-use bus_line::{Event, EventKind};
+use bus_line::{CopyCount, Event, EventKind};
 use circular_buffer::HeapCircularBuffer;
 use std::alloc::{AllocError, Global};
 use std::marker::Model;
@@ -34,7 +34,9 @@ pub struct Conversation {
     history: HeapCircularBuffer<PairKept>,
     /// What the last report was found to be; before the first it says nothing.
     last: Finding,
-    /// The steps `copied` and `handled`; the others are counted elsewhere.
+    /// The steps `copied`.
+    copied: CopyCount,
+    /// The steps `handled`; the others are counted elsewhere.
     spent: Spent,
 }
 
@@ -82,6 +84,7 @@ impl Conversation {
             tally: no_counts(),
             history,
             last: Finding::nothing(),
+            copied: CopyCount::new(alloc),
             spent: Spent::zero(),
         })
     }
@@ -114,7 +117,7 @@ impl Conversation {
     pub fn has_room(&self) -> bool
         ensures { IsTrue result ↔ HasRoom self.now }
     {
-        self.spent.copied <= u64::MAX - 258 && self.spent.handled <= u64::MAX - 6
+        self.copied.octets() <= u64::MAX - 258 && self.spent.handled <= u64::MAX - 6
     }
 
     /// What the last report was found to be; before the first it says nothing.
@@ -174,7 +177,7 @@ impl Conversation {
             } }
     {
         Spent {
-            copied: self.spent.copied,
+            copied: self.copied.octets(),
             handled: self.spent.handled,
             ..Spent::zero()
         }

@@ -6,10 +6,10 @@ ghost use Rattle.bus_line.specs.Limits.{most_octets};
 ghost use Rattle.bus_pairing.specs.Shown.{shown};
 ghost use Rattle.bus_pairing.specs.LoggedReport.{logged_report};
 
-use crate::kept::Kept;
 use crate::seen::Seen;
 use crate::verdict::Verdict;
-use bus_bits::{Span, Spent};
+use arrayvec::ArrayVec;
+use bus_bits::Span;
 use bus_dictionary::Standing;
 use bus_line::{Cause, Piece};
 
@@ -17,15 +17,27 @@ use bus_line::{Cause, Piece};
 #[derive(Debug, Drop)]
 pub enum LoggedPiece {
     /// A frame with a good check.
-    Frame(Kept),
+    Frame {
+        span: Span,
+        octets: ArrayVec<u8, 258>,
+    },
     /// A piece between two flags that is no frame, and why.
-    Damaged { span: Span, cause: Cause },
+    Damaged {
+        span: Span,
+        cause: Cause,
+    },
     /// A piece with more data than the longest frame and its check.
-    Overlong { span: Span },
+    Overlong {
+        span: Span,
+    },
     /// A piece that seven 1 bits ended.
-    Abort { span: Span },
+    Abort {
+        span: Span,
+    },
     /// The first fifteen 1 bits of an idle line.
-    Idle { span: Span },
+    Idle {
+        span: Span,
+    },
 }
 
 /// A report of a log: a [`Seen`] with a copy of a frame's octets.
@@ -41,15 +53,16 @@ pub struct LoggedReport {
     pub stray: bool,
 }
 
-/// A copy of a frame. Its octets are no steps of an analyser.
-fn copied(span: Span, octets: &[u8]) -> Kept
+/// A copy of a frame's octets.
+fn copied(octets: &[u8]) -> ArrayVec<u8, 258>
     requires { length octets.now ≤ most_octets }
-    ensures span { result.span ≡ span }
-    ensures octets { result.octets.items ≡ octets.now }
+    ensures { result.items ≡ octets.now }
 {
-    let mut kept = Kept::blank();
-    kept.copy_frame(span, octets, &mut Spent::zero());
-    kept
+    let mut copy = ArrayVec::new();
+    if copy.try_extend_from_slice(octets).is_err() {
+        unreachable!();
+    }
+    copy
 }
 
 impl LoggedReport {
@@ -59,7 +72,10 @@ impl LoggedReport {
         ensures { logged_report result ≡ shown seen.now }
     {
         let piece = match seen.piece {
-            Piece::Frame { span, octets } => LoggedPiece::Frame(copied(span, octets)),
+            Piece::Frame { span, octets } => LoggedPiece::Frame {
+                span,
+                octets: copied(octets),
+            },
             Piece::Damaged { span, cause } => LoggedPiece::Damaged { span, cause },
             Piece::Overlong { span } => LoggedPiece::Overlong { span },
             Piece::Abort { span } => LoggedPiece::Abort { span },

@@ -1,13 +1,13 @@
 -- A recording, with octets more.
-use Rattle.std.proofs.Common.{◌≡◌, ℕ, ◌+◌, ◌-◌, ◌<◌, ◌≤◌, List, [], ◌∷◌, ◌++◌, length, take, drop, refl, sym}
-use Rattle.std.proofs.Common.{ap, ◌∙◌, arith, subst, append_assoc, length-append, Option, Result, Ok, Err, get_or}
-use Rattle.std.specs.Prelude.{MatchResult}
+use Rattle.std.proofs.Common.{◌≡◌, ℕ, ◌+◌, ◌-◌, ◌<◌, ◌≤◌, List, [], ◌∷◌, ◌++◌, length, replicate, take, drop, refl, sym}
+use Rattle.std.proofs.Common.{ap, ◌∙◌, arith, subst, append_assoc, length-append, Option, Result, Ok, Err, get_or, inl, inr}
+use Rattle.std.specs.Prelude.{◌⊎◌, IfErr, MatchResult}
 use Rattle.bus_text.proofs.KnownBytesLemmas.{take_both}
 use Rattle.std.proofs.lemmas.Grind.{common_steps}
 use Rattle.std.specs.Io.KnownBytes.{IsAtEnd}
 use Rattle.arrayvec.specs.ArrayVec.{array_vec_len}
 use Rattle.bus_sample.specs.Recording.{recorded, cut_record, size_of}
-use Rattle.bus_sample.specs.Samples.{IsFrontOf}
+use Rattle.bus_sample.specs.Samples.{FailsAt, FailsBy, IsFrontOf}
 use Rattle.bus_sample.specs.Internal.Runs.{RunAfter, HasRead, StopsWith, RecordingStopsWith}
 use Rattle.bus_sample.specs.declared.options.Form.{Form}
 use Rattle.bus_sample.specs.declared.reader.SampleRun.{SampleRun}
@@ -45,10 +45,14 @@ halts-further start now run samples more (Write sent) further halts = (
   halts.2,
 )
 halts-further start now run samples more TooMany further halts = (
-  omega (arith, halts.0, ap length further.1, length-append samples further.0),
-  halts.1,
-  front-further halts.1 samples more further halts.2,
-  halts.3,
+  halts.0,
+  record {
+    sample = halts.1.sample;
+    count = halts.1.count;
+    stands = front-further (halts.0 ++ replicate halts.1.count halts.1.sample) samples more further halts.1.stands;
+    more = halts.1.more;
+  },
+  halts.2,
 )
 halts-further start now run samples more Octets further halts = absurd halts
 halts-further start now run samples more (CutOff octet) further halts = absurd halts
@@ -136,3 +140,43 @@ pub halts-behind : (start now : Option (List ℕ)) (run : SampleRun) (form : For
 halts-behind start now run form xs ys at fault inside halts =
     let whole : (xs ++ take at ys) ++ take (length ys - at) (drop at ys) ≡ xs ++ ys = grind (arith, common_steps) in
     rw whole at halts
+
+-- no read failed at a fault of samples
+pub fails-within : (start now : Option (List ℕ)) (run : SampleRun) (samples : List ℕ) (fault : SampleFault) (n m : ℕ) →
+    m ≡ n → StopsWith start now run samples fault → FailsAt n m fault
+fails-within start now run samples (Write sent) n m same halts = inl same
+fails-within start now run samples TooMany n m same halts = same
+fails-within start now run samples Octets n m same halts = absurd halts
+fails-within start now run samples (CutOff octet) n m same halts = absurd halts
+fails-within start now run samples Read n m same halts = absurd halts
+fails-within start now run samples ReadsLimit n m same halts = absurd halts
+fails-within start now run samples Facts n m same halts = absurd halts
+
+-- nor at the end of the input
+pub fails-at-end : (run : SampleRun) (r : Result (Unit {0}) SampleFault) (n m : ℕ) → m ≡ n →
+    MatchResult r (λ _. array_vec_len run.part ≡ 0)
+    (λ fault. (0 < array_vec_len run.part) × (fault ≡ CutOff (run.octets - array_vec_len run.part))) →
+    FailsBy n m r
+fails-at-end run (Ok _) n m same none = same
+fails-at-end run (Err fault) n m same cut = rw (cut.1) same
+
+-- nor where the end was written, or was not
+pub fails-ended : {A : Type 0} (r : Result A SampleFault) (n m : ℕ) → m ≡ n →
+    IfErr r (λ fault. (sent : ℕ) × (fault ≡ Write sent)) → FailsBy n m r
+fails-ended (Ok x) n m same cut = same
+fails-ended (Err fault) n m same cut = rw (cut.1) (inl same)
+
+-- a write that fails then is told in place of the fault
+fails-behind : (fault : SampleFault) (sent n m : ℕ) → FailsAt n m fault → FailsAt n m (Write sent)
+fails-behind Read sent n m fails = inr fails
+fails-behind (Write cut) sent n m fails = fails
+fails-behind TooMany sent n m fails = inl fails
+fails-behind Octets sent n m fails = inl fails
+fails-behind (CutOff octet) sent n m fails = inl fails
+fails-behind ReadsLimit sent n m fails = inl fails
+fails-behind Facts sent n m fails = inl fails
+
+pub fails-closed : (fault result : SampleFault) (n m : ℕ) →
+    (result ≡ fault) ⊎ ((sent : ℕ) × (result ≡ Write sent)) → FailsAt n m fault → FailsAt n m result
+fails-closed fault result n m (inl same) fails = rw same fails
+fails-closed fault result n m (inr cut) fails = rw (cut.1) (fails-behind fault cut.0 n m fails)

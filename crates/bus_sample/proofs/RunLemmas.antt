@@ -51,17 +51,6 @@ module _ (o : SampleOptions) (old new : TapState) (n s l : ℕ) (xs : List Arriv
   advances-run =
       subst (λ ls. AdvancesTap old ls xs new) (ap (replicate n) is ∙ sym (levels-run o n s)) advances
 
-pub count-of : (o : SampleOptions) (t : TapState) (ss : List ℕ) (n s : ℕ) → IsTapAfter t (levels o ss) →
-    length (ss ++ replicate n s) ≡ t.samples + n
-count-of o t ss n s after =
-    omega (
-      arith,
-      after.samples,
-      length-map ss (channels o.wires),
-      length-append ss (replicate n s),
-      length-replicate n s,
-    )
-
 -- the first of a run
 pub run-front : (ss : List ℕ) (m n s : ℕ) → n ≤ m → IsFrontOf (ss ++ replicate m s) (ss ++ replicate n s)
 run-front ss m n s within =

@@ -4,7 +4,7 @@ use Rattle.std.specs.Io.KnownBytes.{Appends, Consumes}
 use Rattle.bus_tap.specs.declared.facts.TapFacts.{TapFacts}
 use Rattle.bus_sample.specs.Facts.{facts_text}
 use Rattle.bus_sample.specs.Looks.{LooksBy}
-use Rattle.bus_sample.specs.Samples.{SamplesBy}
+use Rattle.bus_sample.specs.Samples.{FailsBy, SamplesBy}
 use Rattle.bus_sample.specs.declared.request.Request.{Request}
 use Rattle.bus_sample.specs.declared.fault.SampleFault.{SampleFault}
 
@@ -18,10 +18,11 @@ Tells true (Ok facts) start now status =
     ⊎ ((status ≡ 2) × (sent : ℕ) × (sent < length (facts_text facts))
     × Appends start now (take sent (facts_text facts)))
 
--- a recording was sampled, as was asked: what the reader gave before and after, and what both writers had and have
-abbrev pub ExecutesSampling : Request → Option (List ℕ) → Option (List ℕ) → Option (List ℕ) → Option (List ℕ)
+-- a recording was sampled, as was asked: what the reader had left before and after, how many of its reads had failed,
+-- and what both writers had and have
+abbrev pub ExecutesSampling : Request → Option (List ℕ) → Option (List ℕ) → ℕ → ℕ → Option (List ℕ) → Option (List ℕ)
     → Option (List ℕ) → Option (List ℕ) → ℕ → Type 0
-ExecutesSampling request before after start now told telling status =
+ExecutesSampling request before after failed failures start now told telling status =
     (xs : List ℕ) × (answer : Result TapFacts SampleFault) × (looked : Option (List ℕ)) × Consumes before after xs
     × SamplesBy request.options after start now xs answer × LooksBy request.options told looked xs answer
-    × Tells request.tells_facts answer looked telling status
+    × FailsBy failed failures answer × Tells request.tells_facts answer looked telling status

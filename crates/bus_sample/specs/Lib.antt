@@ -2,6 +2,7 @@
 pub mod Recording
 pub mod Marks
 pub mod Facts
+pub mod Counted
 pub mod Samples
 pub mod Looks
 pub mod Executes

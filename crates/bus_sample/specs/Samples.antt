@@ -1,5 +1,5 @@
 -- What a call that samples a recording did to its reader and its writer.
-use Rattle.std.specs.Prelude.{◌≡◌, ℕ, ◌-◌, ◌<◌, ◌≤◌, ◌⊎◌, List, [], ◌++◌, length, Option, Result, Ok, Err}
+use Rattle.std.specs.Prelude.{◌≡◌, ℕ, ◌+◌, ◌-◌, ◌<◌, ◌≤◌, ◌⊎◌, List, [], ◌++◌, length, replicate, Option, Result, Ok, Err}
 use Rattle.std.specs.Io.KnownBytes.{Appends, IsAtEnd}
 use Rattle.bus_bits.specs.Limits.{most_places}
 use Rattle.bus_tap.specs.Facts.{AreTapFacts}
@@ -15,6 +15,13 @@ use Rattle.bus_sample.specs.declared.fault.SampleFault.TheVariants.{Facts, Write
 -- the first of these samples
 abbrev pub IsFrontOf : List ℕ → List ℕ → Type 0
 IsFrontOf samples front = (rest : List ℕ) × (samples ≡ front ++ rest)
+
+-- these samples, and some behind them that are the same, are more than a recording has
+pub record AreTooMany (samples front : List ℕ) : Type 0 where
+  pub sample : ℕ
+  pub count : ℕ
+  pub stands : IsFrontOf samples (front ++ replicate count sample)
+  pub more : most_places < length front + count
 
 -- a sample has one to eight octets
 abbrev pub HasSize : SampleOptions → Type 0
@@ -39,8 +46,8 @@ SamplesBy o after start now xs (Err (CutOff octet)) =
     × (octet ≡ length xs - length (cut_record o.form xs))
     × Appends start now (marks_text (arrivals o (recorded o.form xs)))
 SamplesBy o after start now xs (Err TooMany) =
-    HasSize o × (most_places < length (recorded o.form xs))
-    × (front : List ℕ) × IsFrontOf (recorded o.form xs) front × Appends start now (marks_text (arrivals o front))
+    HasSize o × (front : List ℕ) × AreTooMany (recorded o.form xs) front
+    × Appends start now (marks_text (arrivals o front))
 SamplesBy o after start now xs (Err Read) =
     HasSize o × Appends start now (marks_text (arrivals o (recorded o.form xs)))
 SamplesBy o after start now xs (Err Facts) =
@@ -50,3 +57,14 @@ SamplesBy o after start now xs (Err ReadsLimit) =
 SamplesBy o after start now xs (Err (Write sent)) =
     (front text : List ℕ) × IsFrontOf (recorded o.form xs) front × IsTextOf o front text
     × TextStopsAt start now text sent
+
+-- A read that failed is told exactly where one did, once. So many failed before, and so many by then. A write that
+-- failed is told in its place.
+abbrev pub FailsAt : ℕ → ℕ → SampleFault → Type 0
+FailsAt before now Read = now ≡ before + 1
+FailsAt before now (Write sent) = (now ≡ before) ⊎ (now ≡ before + 1)
+FailsAt before now fault = now ≡ before
+
+abbrev pub FailsBy : {A : Type 0} → ℕ → ℕ → Result A SampleFault → Type 0
+FailsBy before now (Ok _) = now ≡ before
+FailsBy before now (Err fault) = FailsAt before now fault

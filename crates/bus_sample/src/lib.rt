@@ -10,6 +10,7 @@ mod octets;
 mod options;
 mod program;
 mod reader;
+mod recording_reader;
 mod request;
 mod sample;
 
@@ -17,5 +18,6 @@ pub use facts::put_facts;
 pub use fault::SampleFault;
 pub use options::{Form, SampleOptions};
 pub use program::execute;
+pub use recording_reader::{CountedReader, ReadFailed, RecordingReader};
 pub use request::Request;
 pub use sample::sample_recording;

@@ -7,9 +7,9 @@ ghost use Rattle.std.specs.Io.KnownBytes.{Consumes};
 ghost use Rattle.bus_tap.specs.Blocks.{TakesBlocks};
 ghost use Rattle.bus_tap.specs.Tapped.{IsTapAfter, channels};
 ghost use Rattle.bus_sample.specs.Facts.{facts_text};
-ghost use Rattle.bus_sample.specs.Looks.{HasTold, LooksBy, IsToldInPart};
+ghost use Rattle.bus_sample.specs.Looks.{HasTold, LooksBy, IsToldInPart, most_read};
 ghost use Rattle.bus_sample.specs.Recording.{levels, recorded, run_of, size_of};
-ghost use Rattle.bus_sample.specs.Samples.{HasSize, SamplesBy};
+ghost use Rattle.bus_sample.specs.Samples.{FailsBy, HasSize, SamplesBy};
 ghost use Rattle.bus_sample.specs.Internal.Runs.{RunAfter, HasRead, StopsWith, RecordingStopsWith};
 ghost use Rattle.bus_sample.specs.Internal.Runs.{IsSameRecord, IsSoundRun};
 ghost use Rattle.bus_sample.specs.declared.options.Form.TheVariants.{Samples};
@@ -21,9 +21,10 @@ use crate::fault::SampleFault;
 use crate::marks::Marks;
 use crate::octets::alike;
 use crate::options::{Form, SampleOptions};
+use crate::recording_reader::RecordingReader;
 use arrayvec::ArrayVec;
 use bus_tap::{Tap, TapFacts, Wires, number_of};
-use std::io::{Read, Write};
+use std::io::Write;
 
 /// How many octets are asked for at once.
 const ROOM: usize = 65536;
@@ -348,7 +349,7 @@ impl SampleRun {
     /// Tells the facts after a read, where they are asked for.
     fn look<E: Write>(&self, e: &mut E) -> Result<(), SampleFault>
         requires { IsSoundRun self.now }
-        ensures { (start : Option (List ℕ)) (xs ys : List ℕ) → 1 ≤ length ys →
+        ensures { (start : Option (List ℕ)) (xs ys : List ℕ) → 1 ≤ length ys → length ys ≤ most_read →
             IsTapAfter self.now.tap (levels self.now.options (recorded self.now.options.form (xs ++ ys))) →
             HasTold self.now.options start (E.contents e.old) xs →
             MatchResult result (λ _. HasTold self.now.options start (E.contents e.new) (xs ++ ys))
@@ -377,7 +378,7 @@ impl SampleRun {
     }
 
     /// Reads to the end or the first fault.
-    pub(crate) fn read_to_end<R: Read, W: Write, E: Write>(
+    pub(crate) fn read_to_end<R: RecordingReader, W: Write, E: Write>(
         &mut self,
         r: &mut R,
         w: &mut W,
@@ -386,9 +387,11 @@ impl SampleRun {
         requires sound { IsSoundRun self.old }
         requires fresh { (start : Option (List ℕ)) → HasRead start start self.old [] }
         requires none { self.old.octets ≡ 0 }
+        requires room { R.failures r.old < 2 ^ 64 - 1 }
         ensures read { (xs : List ℕ) × Consumes (R.remaining r.old) (R.remaining r.new) xs
             × RecordingStopsWith (R.remaining r.new) (W.contents w.old) (W.contents w.new) self.new xs result
             × LooksBy self.old.options (E.contents e.old) (E.contents e.new) xs result }
+        ensures failures { FailsBy (R.failures r.old) (R.failures r.new) result }
         ensures options { self.new.options ≡ self.old.options }
         ensures sound { IsSoundRun self.new }
     {

@@ -2,7 +2,7 @@
 
 use crate::expect::same;
 use bus_rows::fakes::{Narrow, Pieces};
-use bus_sample_tool::run;
+use bus_sample_tool::{CountedReader, run};
 use std::alloc::Global;
 use std::process::Abort;
 
@@ -154,12 +154,12 @@ const REFUSED: [Run<'static>; 3] = [
 
 /// Runs the program, whose reads give so many octets each, and fail at call number `fails_at`, from 1.
 fn see(rt: &impl Abort, alloc: Global, row: &Run, piece: usize, fails_at: u64) {
-    let mut reader = Pieces {
+    let mut reader = CountedReader::new(Pieces {
         rest: row.input,
         piece,
         calls: 0,
         fails_at,
-    };
+    });
     let mut out = Vec::new(alloc);
     let mut err = Vec::new(alloc);
     let status = run(alloc, row.words, &mut reader, &mut out, &mut err);
@@ -210,12 +210,12 @@ fn failing_reads_of_samples(rt: HostRuntime) {
 /// Facts are told after each read, and at the end.
 #[test]
 fn looks_at_samples(rt: HostRuntime) {
-    let mut reader = Pieces {
+    let mut reader = CountedReader::new(Pieces {
         rest: BITS,
         piece: 32,
         calls: 0,
         fails_at: 0,
-    };
+    });
     let mut out = Vec::new(rt.alloc());
     let mut err = Narrow::new(rt.alloc(), 4096, false);
     let status = run(rt.alloc(), &LIVE, &mut reader, &mut out, &mut err);
@@ -234,12 +234,12 @@ fn looks_at_samples(rt: HostRuntime) {
 #[test]
 fn looks_without_room(rt: HostRuntime) {
     for (room, text) in [(0, "10"), (HALF.len() - 1, "10"), (HALF.len(), "1011")] {
-        let mut reader = Pieces {
+        let mut reader = CountedReader::new(Pieces {
             rest: BITS,
             piece: 32,
             calls: 0,
             fails_at: 0,
-        };
+        });
         let mut out = Vec::new(rt.alloc());
         let mut err = Narrow::new(rt.alloc(), room, false);
         let status = run(rt.alloc(), &LIVE, &mut reader, &mut out, &mut err);
@@ -276,7 +276,7 @@ fn too_many_samples(rt: HostRuntime) {
 #[test]
 fn narrow_writers_of_samples(rt: HostRuntime) {
     for room in 0..8 {
-        let mut reader = SAMPLES;
+        let mut reader = CountedReader::new(SAMPLES);
         let mut writer = Narrow::new(rt.alloc(), room, false);
         let mut err = Vec::new(rt.alloc());
         let words = ["0", "1", "2", "3", "--hold", "0"];

@@ -4,4 +4,5 @@
 mod arguments;
 mod program;
 
+pub use bus_sample::CountedReader;
 pub use program::run;

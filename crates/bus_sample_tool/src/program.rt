@@ -1,15 +1,15 @@
 //! The program.
 
-ghost use Rattle.std.specs.Prelude.{◌≡◌, ◌^◌, ◌⊎◌};
+ghost use Rattle.std.specs.Prelude.{◌≡◌, ◌-◌, ◌<◌, ◌^◌, ◌⊎◌};
 ghost use Rattle.bus_sample.specs.Executes.{ExecutesSampling};
 ghost use Rattle.bus_sample.specs.declared.request.Request.{Request};
 
 use crate::arguments::{Refusal, read_arguments};
-use bus_sample::execute;
+use bus_sample::{RecordingReader, execute};
 use bus_text::put_text;
 use clap::Error;
 use std::alloc::{AllocError, Global};
-use std::io::{Read, Write};
+use std::io::Write;
 
 /// The status of a help text.
 const FINE: u8 = 0;
@@ -21,18 +21,19 @@ const FAULT: u8 = 2;
 ///
 /// `words` are its arguments without its name. A recording is read from `r`. Its arrivals and help go to `w`, facts and
 /// faults to `e`; that `e` fails at a fault is ignored.
-pub fn run<R: Read, W: Write, E: Write>(
+pub fn run<R: RecordingReader, W: Write, E: Write>(
     alloc: Global,
     words: &[&str],
     r: &mut R,
     w: &mut W,
     e: &mut E,
 ) -> u8
+    requires { R.failures r.old < 2 ^ 64 - 1 }
     ensures status { (result ≡ 0) ⊎ (result ≡ 2) }
     ensures executes { ((request : Request) × (request.options.reads ≡ 2 ^ 40)
-        × ExecutesSampling request (R.remaining r.old) (R.remaining r.new) (W.contents w.old) (W.contents w.new)
-        (E.contents e.old) (E.contents e.new) result)
-        ⊎ (R.remaining r.new ≡ R.remaining r.old) }
+        × ExecutesSampling request (R.remaining r.old) (R.remaining r.new) (R.failures r.old) (R.failures r.new)
+        (W.contents w.old) (W.contents w.new) (E.contents e.old) (E.contents e.new) result)
+        ⊎ ((R.remaining r.new ≡ R.remaining r.old) × (R.failures r.new ≡ R.failures r.old)) }
 {
     match read_arguments(alloc, words) {
         Ok(request) => execute(&request, r, w, e),

@@ -12,7 +12,7 @@ use Rattle.std.proofs.lemmas.Nat.Bits.{bit_at-zero}
 use Rattle.bus_line.specs.Due.{places}
 use Rattle.bus_pairing.specs.declared.line.Line.{Line}
 use Rattle.bus_pairing.specs.declared.line.Line.TheVariants.{First, Second}
-use Rattle.bus_tap.specs.Blocks.{has_bit, ones_in, bit_in, edges_in, block_arrivals}
+use Rattle.bus_tap.specs.Blocks.{ArriveEach, has_bit, ones_in, bit_in, edges_in, block_arrivals}
 use Rattle.bus_tap.specs.Facts.{AreFacts, AreFactsOf, IsTallied, bit_samples, changes, changes_high, places_where}
 use Rattle.bus_tap.specs.Internal.Counts.{AreBitFacts, CountsLine, AreCounted, bit_between, clock_changed, clock_rose}
 use Rattle.bus_tap.specs.Internal.Counts.{data_changed, data_changed_high, marked}
@@ -254,6 +254,16 @@ module _ (hold : ℕ) (ss more : List ℕ) (long : length more ≡ 64) where
     edge-block i inside =
         sym (bit-if line (clock_rose c i) (has_bit c.before.bits i)
         ∙ rw (counts.clock_before i inside, counts.clock_after i inside, counts.bits_before i inside) refl)
+
+  pub each-block : (c : CountedBlock) (e : EdgeBlock) → AreCounted hold ss more c →
+      ((i : ℕ) → i < 64 → bit_in e.first i ≡ bit_between c.first i) →
+      ((i : ℕ) → i < 64 → bit_in e.second i ≡ bit_between c.second i) → ArriveEach hold ss more e
+  each-block c e counts first second i inside = rw (
+    edge-block First c.first counts.0 i inside,
+    edge-block Second c.second counts.1 i inside,
+    first i inside,
+    second i inside,
+  ) refl
 
   pub sampled-block : (c : CountedBlock) (e : EdgeBlock) → AreCounted hold ss more c →
       ((i : ℕ) → i < 64 → bit_in e.first i ≡ bit_between c.first i) →

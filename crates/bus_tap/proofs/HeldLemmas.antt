@@ -9,7 +9,7 @@ use Rattle.bus_pairing.specs.declared.line.Line.TheVariants.{First, Second}
 use Rattle.bus_tap.specs.Facts.{AreLevels}
 use Rattle.bus_tap.specs.Sampled.{Channel, clock_of, data_of, bit_on, bits_of_edges, edge, sampled}
 use Rattle.bus_tap.specs.Sampled.{SamplerState, HeldState, IsHeldAfter, IsAfterSamples}
-use Rattle.bus_tap.specs.Tapped.{TapState, AdvancesTap}
+use Rattle.bus_tap.specs.Tapped.{TapState, AdvancesTap, BringNone}
 use Rattle.bus_tap.specs.Internal.Held.{IsHeldAt, AreHeldAt, next_state, levels_in, bit_after, held_clock, held_data}
 use Rattle.bus_tap.specs.Internal.Tallies.{AdvancesFacts}
 use Rattle.bus_tap.specs.Internal.Taps.{HasHold, IsStill}
@@ -17,7 +17,8 @@ use Rattle.bus_tap.specs.declared.facts.LineFacts.{LineFacts}
 use Rattle.bus_tap.specs.declared.sampler.Edges.{Edges}
 use Rattle.bus_tap.proofs.EachLemmas.{length-more}
 use Rattle.bus_tap.proofs.SampledLemmas.{held-more, edge-is, sampled-more}
-use Rattle.bus_tap.proofs.TapLemmas.{KeepsLevels, advances-nothing, advances-further, passes-one, facts-more}
+use Rattle.bus_tap.proofs.TapLemmas.{KeepsLevels, advances-nothing, advances-further, brings-none, passes-one}
+use Rattle.bus_tap.proofs.TapLemmas.{facts-more}
 use Rattle.bus_tap.proofs.TapLemmas.{replicate-last, replicate-more, levels-now, levels-before}
 
 -- a sampler that has had one sample alone is settled
@@ -172,6 +173,15 @@ module _ (hold b s : ℕ) where
         wait-none (clock_of Second) old.second_clock settled.second_clock,
         wait-none (data_of Second) old.second_bits settled.second_bits,
       ) refl
+
+-- until they count they bring none
+pub waits-quietly : (t : TapState) (o : Option SamplerState) (b s : ℕ) → t.sampler ≡ o → IsStill o b → HasHold t.hold o →
+    BringNone t (replicate t.hold s)
+waits-quietly t None b s is was of = absurd was
+waits-quietly t (Some old) b s is was of =
+    let start : t.sampler ≡ Some (waiting t.hold b s 0) = is ∙ ap Some (settled-waits t.hold b s old of was) in
+    brings-none t (record t { sampler = Some (waiting t.hold b s t.hold); samples = t.samples + t.hold })
+    (replicate t.hold s) (waits t.hold b s t start t.hold (omega arith))
 
 pub consumes-held : (t : TapState) (o : Option SamplerState) (new : SamplerState) (b s : ℕ) (first second : LineFacts)
     (e : Edges) → t.sampler ≡ o → IsStill o b → HasHold t.hold o → new.hold ≡ t.hold → AreHeldAt new s →

@@ -20,7 +20,7 @@ use Rattle.bus_tap.specs.declared.places.BitPlaces.{BitPlaces}
 use Rattle.bus_tap.proofs.ArrivalLemmas.{own-append, before-append, before-within}
 use Rattle.bus_tap.proofs.ArrivedLemmas.{decides-first}
 use Rattle.bus_tap.proofs.LocatedLemmas.{LastBit, decides-located, same-number, some-is}
-use Rattle.bus_tap.proofs.PlacesLemmas.{places-first, places-second, WasOpen, begun-within}
+use Rattle.bus_tap.proofs.PlacesLemmas.{places-first, places-second, opened-place, WasOpen, begun-within}
 
 -- a bit of the first line
 pub lines-first : {C : Type 0} (view : CheckView C) (old new : LinesState C) (bit : Bool) (e : Option Event) →
@@ -74,23 +74,14 @@ module _ {C : Type 0} {view : CheckView C} {old : LinesState C} {bit : Bool} {e 
   places-kept = places-second old.first.origin old.places places xs bit opens reached.places notes-at opening-at
 
   -- that of the first bit of the piece that it decides
-  opened-place : (r : Report) → WasOpen (own Second xs) bit r →
+  opened-at : (r : Report) → WasOpen (own Second xs) bit r →
       places.opened ≡ old.first.origin + place_of (xs ++ (Second, bit) ∷ []) r.first
-  opened-place r was =
-      elim opening-at [
-        | inl opened_now ↦ absurd (was.none opened_now.1)
-        | inr other ↦
-            notes-at.opened
-            ∙ (ap (λ b. if b then old.places.reached else old.places.opened) other.0
-            ∙ (reached.places.opened r.first was.opened
-            ∙ ap (λ m. old.first.origin + (m - 1)) (sym (before-append r.first xs ((Second, bit) ∷ [])
-            (begun-within (own Second xs) r.first was.opened)))))
-      ]
+  opened-at r was = opened-place old.first.origin old.places places xs bit opens reached.places notes-at opening-at r was
 
   last-bit : LastBit old.first.origin old.second.longest xs bit second.octets e places
   last-bit = record {
     kept = places-kept;
-    opened = λ r due was. opened-place r was;
+    opened = λ r due was. opened-at r was;
     answer = rw (reached.origin) at (pushed.decodes.answer (own Second xs) reached.second);
   }
 

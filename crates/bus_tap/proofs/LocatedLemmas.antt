@@ -13,7 +13,7 @@ use Rattle.bus_line.proofs.ReportLemmas.{due-it}
 use Rattle.bus_pairing.specs.LineReport.{LineReport, line_report}
 use Rattle.bus_pairing.specs.declared.line.Line.TheVariants.{First, Second}
 use Rattle.bus_tap.specs.Arrival.{Arrival, own, place_of, at_places, decides}
-use Rattle.bus_tap.specs.Places.{KeepsPlaces, IsLocated, AreLocated}
+use Rattle.bus_tap.specs.Places.{KeepsPlaces, LocatesLast, IsLocated, AreLocated}
 use Rattle.bus_tap.specs.declared.places.BitPlaces.{BitPlaces}
 use Rattle.bus_tap.proofs.ArrivalLemmas.{own-append, before-within}
 use Rattle.bus_tap.proofs.ArrivedLemmas.{IsNear, report-near, decides-second}
@@ -157,3 +157,25 @@ decides-located {origin = origin} {longest = longest} {xs = xs} {bit = bit} {os 
     (due-now last).due
     ∙ (ap (λ s. reports_on (Some s)) (sym (located-is last bound located.0 located.2))
     ∙ ap (λ o. reports_on (option_map (reported os) o)) (sym located.1))
+
+moved-nowhere : (o : Option Report) → o ≡ option_map (moved 0) o
+moved-nowhere None = refl
+moved-nowhere (Some r) =
+    let first : 0 + r.first ≡ r.first = omega arith in
+    let past : 0 + r.past ≡ r.past = omega arith in
+    rw (first, past) refl
+
+-- an event in places is what the last bit decides
+pub located-last : (p : BitPlaces) (e l : Option Event) → AreLocated p e l → LocatesLast p e l
+located-last p None l located origin longest xs bit os kept decided bound answer =
+    ap (option_map (reported os)) located
+    ∙ ap (option_map (λ r. moved origin (at_places (xs ++ (Second, bit) ∷ []) r))) answer
+located-last p (Some e) l located origin longest xs bit os kept decided bound answer =
+    let last : LastBit origin longest xs bit os (Some e) p = record {
+      kept = kept;
+      opened = λ r due was. decided longest r due was.kind;
+      answer = answer ∙ moved-nowhere (due_at longest (own Second xs ++ bit ∷ []) (length (own Second xs)));
+    } in
+    ap (option_map (reported os)) located.1
+    ∙ (ap Some (located-is last bound located.0 located.2)
+    ∙ ap (option_map (λ r. moved origin (at_places (xs ++ (Second, bit) ∷ []) r))) (sym (due-now last).due))

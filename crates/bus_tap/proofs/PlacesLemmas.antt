@@ -1,6 +1,7 @@
 -- What is kept of the places of the second line, with an arrival more.
 use Rattle.std.proofs.Common.{◌≡◌, ℕ, ◌+◌, ◌-◌, ◌%◌, ◌<◌, ◌≤◌, Bool, true, false, if◌then◌else◌, List, [], ◌∷◌, ◌++◌}
 use Rattle.std.proofs.Common.{length, Some, refl, sym, ap, ◌∙◌, subst, arith, append-nil, length-append, ◌⊎◌, inl, inr}
+use Rattle.std.specs.Prelude.{Option, None, IfSome, option_map, slice_get}
 use Rattle.std.proofs.lemmas.Bool.{cases_lt}
 use Rattle.bus_bits.specs.Octet.{octets}
 use Rattle.bus_line.specs.Mark.{IsFlag, IsAbort, IsMark, IsPiece}
@@ -11,13 +12,14 @@ use Rattle.bus_line.specs.declared.cause.Cause.TheVariants.{Short, Unaligned, Fc
 use Rattle.bus_line.proofs.MarkLemmas.{flag-true, flag-is, abort-true, abort-is, is_flag-append, is_abort-append}
 use Rattle.bus_line.proofs.DueLemmas.{class-due}
 use Rattle.bus_line.proofs.DueStreamLemmas.{flag-fits, abort-fits, mark-fits, flag-not_abort}
-use Rattle.bus_line.proofs.ReportLemmas.{begun-it}
+use Rattle.bus_line.proofs.ReportLemmas.{begun-it, due-it}
+use Rattle.bus_bits.specs.declared.span.Span.{Span}
 use Rattle.bus_pairing.specs.declared.line.Line.TheVariants.{First, Second}
 use Rattle.bus_tap.specs.Arrival.{Arrival, own, place_of}
-use Rattle.bus_tap.specs.Places.{KeepsPlaces, Notes}
+use Rattle.bus_tap.specs.Places.{IsOpenSpan, IsPast, KeepsDecided, KeepsPlaces, Notes}
 use Rattle.bus_tap.specs.Lines.{BeginsAt}
 use Rattle.bus_tap.specs.declared.places.BitPlaces.{BitPlaces}
-use Rattle.bus_tap.proofs.ArrivalLemmas.{own-append, before-append, before-now}
+use Rattle.bus_tap.proofs.ArrivalLemmas.{own-append, before-append, before-now, before-within}
 
 -- marks stay when bits are added, and flags that fit were there
 mark-more : (b c : List Bool) (q : ℕ) → IsMark b q → IsMark (b ++ c) q
@@ -182,3 +184,61 @@ places-second origin p q xs bit opens kept notes opening =
   where
     same-Some : (x y : ℕ) → Some x ≡ Some y → x ≡ y
     same-Some x y is = cc
+
+-- the place of the first bit of a piece stays up to the bit that decides its report
+pub opened-place : (origin : ℕ) (p q : BitPlaces) (xs : List Arrival) (bit opens : Bool) → KeepsPlaces origin p xs →
+    Notes p q (length (own Second xs)) opens → BeginsAt opens (own Second xs) bit → (r : Report) →
+    WasOpen (own Second xs) bit r → q.opened ≡ origin + place_of (xs ++ (Second, bit) ∷ []) r.first
+opened-place origin p q xs bit opens kept notes opening r was =
+    elim opening [
+      | inl opened_now ↦ absurd (was.none opened_now.1)
+      | inr other ↦
+          notes.opened
+          ∙ (ap (λ b. if b then p.reached else p.opened) other.0
+          ∙ (kept.opened r.first was.opened
+          ∙ ap (λ m. origin + (m - 1)) (sym (before-append r.first xs ((Second, bit) ∷ [])
+          (begun-within (own Second xs) r.first was.opened)))))
+    ]
+
+keeps-decided : (origin : ℕ) (p q : BitPlaces) (xs : List Arrival) (bit opens : Bool) → KeepsPlaces origin p xs →
+    Notes p q (length (own Second xs)) opens → BeginsAt opens (own Second xs) bit → KeepsDecided origin q xs bit
+keeps-decided origin p q xs bit opens kept notes opening longest r decided other =
+    let report = (due-it longest (own Second xs ++ bit ∷ []) (length (own Second xs)) r).1 decided in
+    elim (was-open longest (own Second xs) bit r report.0 report.1) [
+      | inl idle_line ↦ absurd (other idle_line.0)
+      | inr was ↦ opened-place origin p q xs bit opens kept notes opening r was
+    ]
+
+-- both, of a bit that was noted
+pub keeps-noted : {p q : BitPlaces} {k : ℕ} {opens : Bool} → Notes p q k opens → (origin : ℕ) (xs : List Arrival)
+    (bit : Bool) → KeepsPlaces origin p xs → k ≡ length (own Second xs) → BeginsAt opens (own Second xs) bit →
+    KeepsPlaces origin q (xs ++ (Second, bit) ∷ [])
+keeps-noted {p = p} {q = q} {opens = opens} notes origin xs bit kept at opening =
+    places-second origin p q xs bit opens kept (subst (λ n. Notes p q n opens) at notes) opening
+
+pub decided-noted : {p q : BitPlaces} {k : ℕ} {opens : Bool} → Notes p q k opens → (origin : ℕ) (xs : List Arrival)
+    (bit : Bool) → KeepsPlaces origin p xs → k ≡ length (own Second xs) → BeginsAt opens (own Second xs) bit →
+    KeepsDecided origin q xs bit
+decided-noted {p = p} {q = q} {opens = opens} notes origin xs bit kept at opening =
+    keeps-decided origin p q xs bit opens kept (subst (λ n. Notes p q n opens) at notes) opening
+
+-- the open piece in places
+pub open-span : (p : BitPlaces) (count : ℕ) (span : Span) → span.first ≡ p.opened → IsPast p (count - 1) span.past →
+    IsOpenSpan p count span
+open-span p count span first past origin xs kept at bound = cases (begun (own Second xs)) refl
+  where
+    k : ℕ
+    k = length (own Second xs) - 1
+
+    cases : (o : Option ℕ) → begun (own Second xs) ≡ o → IfSome
+        (option_map (λ f. record { first = origin + place_of xs f; past = origin + (place_of xs k + 1) }) o)
+        (λ s. span ≡ s)
+    cases None is = tt
+    cases (Some f) is =
+        let some = begun-within (own Second xs) f is in
+        let begins : span.first ≡ origin + place_of xs f = first ∙ kept.opened f is in
+        let last : slice_get p.recent ((count - 1) % 16) ≡ Some (origin + place_of xs k) =
+        ap (λ n. slice_get p.recent ((n - 1) % 16)) at ∙ kept.recent k (omega (arith, some)) (omega arith) in
+        let ends : span.past ≡ origin + (place_of xs k + 1) =
+        past _ last (omega (arith, before-within k xs, bound)) ∙ omega arith in
+        rw (← begins, ← ends) refl

@@ -2,6 +2,7 @@
 use Rattle.std.proofs.Common.{◌≡◌, ℕ, zero, suc, ◌+◌, ◌-◌, ◌<◌, ◌&&◌, not, Bool, true, false, if◌then◌else◌, List, []}
 use Rattle.std.proofs.Common.{◌∷◌, ◌++◌, length, replicate, refl, sym, ap, ◌∙◌, arith, append-nil, append_assoc}
 use Rattle.std.proofs.Common.{length-append, subst, Some, None}
+use Rattle.std.proofs.lemmas.List.{append_cancel_left}
 use Rattle.std.specs.Bool.{beq}
 use Rattle.bus_pairing.specs.declared.line.Line.{Line}
 use Rattle.bus_pairing.specs.declared.line.Line.TheVariants.{First, Second}
@@ -12,7 +13,7 @@ use Rattle.bus_tap.specs.Internal.Tallies.{where_is}
 use Rattle.bus_tap.specs.Internal.Held.{IsHeldAt, AreHeldAt, next_state, held_clock, held_data}
 use Rattle.std.specs.Prelude.{Option, MatchOption}
 use Rattle.bus_tap.specs.Arrival.{Arrival}
-use Rattle.bus_tap.specs.Tapped.{TapState, AdvancesTap}
+use Rattle.bus_tap.specs.Tapped.{TapState, AdvancesTap, BringNone}
 use Rattle.bus_tap.specs.declared.facts.Levels.{Levels}
 use Rattle.bus_tap.specs.declared.facts.LineFacts.{LineFacts}
 use Rattle.bus_tap.proofs.EachLemmas.{each-more, length-more}
@@ -282,3 +283,50 @@ levels-before sampler line ss s l after clock bits =
       clock = now.clock ∙ sym (counted-front (clock_of line) ss (s ∷ []) sampler.hold (length ss - 1) inside);
       bits = now.bits ∙ sym (counted-front (data_of line) ss (s ∷ []) sampler.hold (length ss - 1) inside);
     }
+
+-- samples with which none arrives bring none
+pub brings-none : (t new : TapState) (more : List ℕ) → AdvancesTap t more [] new → BringNone t more
+brings-none t new more advances ss after = advances.sampled ss after ∙ append-nil (sampled t.hold ss)
+
+-- what the last of some samples brings
+abbrev last-edges : ℕ → ℕ → List ℕ → ℕ → List Arrival
+last-edges hold s ss n =
+    edge hold ((ss ++ replicate n s) ++ s ∷ []) First (length (ss ++ replicate n s))
+    ++ edge hold ((ss ++ replicate n s) ++ s ∷ []) Second (length (ss ++ replicate n s))
+
+sampled-last : (hold s : ℕ) (ss : List ℕ) (n : ℕ) → sampled hold (ss ++ replicate (suc n) s)
+    ≡ sampled hold (ss ++ replicate n s) ++ last-edges hold s ss n
+sampled-last hold s ss n =
+    ap (sampled hold) (ap (λ xs. ss ++ xs) (replicate-last n s) ∙ sym (append_assoc ss (replicate n s) (s ∷ [])))
+    ∙ sampled-more hold (ss ++ replicate n s) s
+
+-- with more samples only more bits arrive
+sampled-grows : (hold s : ℕ) (ss : List ℕ) (n : ℕ) → (rest : List Arrival)
+    × (sampled hold (ss ++ replicate n s) ≡ sampled hold ss ++ rest)
+sampled-grows hold s ss zero = ([], ap (sampled hold) (append-nil ss) ∙ sym (append-nil (sampled hold ss)))
+sampled-grows hold s ss (suc n) =
+    let before = sampled-grows hold s ss n in (
+      before.0 ++ last-edges hold s ss n,
+      sampled-last hold s ss n
+          ∙ (ap (λ xs. xs ++ last-edges hold s ss n) before.1
+          ∙ append_assoc (sampled hold ss) before.0 (last-edges hold s ss n)),
+    )
+
+none-of-both : (xs ys : List Arrival) → xs ++ ys ≡ [] → xs ≡ []
+none-of-both [] ys none = refl
+none-of-both (x ∷ xs) ys none = absurd (cc)
+
+-- so without the last they bring none either
+pub brings-fewer : (t : TapState) (s n : ℕ) → BringNone t (replicate n s) → BringNone t (replicate (n - 1) s)
+brings-fewer t s zero none ss after = none ss after
+brings-fewer t s (suc n) none ss after =
+    let grown = sampled-grows t.hold s ss n in
+    let before = sampled t.hold ss in
+    let both : before ++ (grown.0 ++ last-edges t.hold s ss n) ≡ before ++ [] =
+    sym (append_assoc before grown.0 (last-edges t.hold s ss n))
+    ∙ (ap (λ xs. xs ++ last-edges t.hold s ss n) (sym grown.1)
+    ∙ (sym (sampled-last t.hold s ss n) ∙ (none ss after ∙ sym (append-nil before)))) in
+    let empty = none-of-both grown.0 (last-edges t.hold s ss n)
+    (append_cancel_left before (grown.0 ++ last-edges t.hold s ss n) [] both) in
+    let fewer : suc n - 1 ≡ n = omega arith in
+    rw fewer (grown.1 ∙ (ap (λ xs. before ++ xs) empty ∙ append-nil before))

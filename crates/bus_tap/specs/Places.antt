@@ -1,13 +1,16 @@
 -- What is kept of the places of the second line's bits, and a report of that line in places.
-use Rattle.std.specs.Prelude.{◌≡◌, ℕ, ◌+◌, ◌-◌, ◌%◌, ◌<◌, ◌≤◌, Bool, List, length, if◌then◌else◌, Option, Some, None}
-use Rattle.std.specs.Prelude.{slice_get}
+use Rattle.std.specs.Prelude.{◌≡◌, ℕ, ◌+◌, ◌-◌, ◌%◌, ◌<◌, ◌≤◌, Bool, List, [], ◌∷◌, ◌++◌, length, if◌then◌else◌, Option}
+use Rattle.std.specs.Prelude.{Some, None, IfSome, option_map, slice_get}
 use Rattle.bus_bits.specs.Limits.{most_places}
-use Rattle.bus_line.specs.Due.{begun}
+use Rattle.bus_line.specs.Due.{begun, due_at}
+use Rattle.bus_line.specs.Report.{Report, Kind, moved}
+use Rattle.bus_line.specs.Shown.{reported}
 use Rattle.bus_line.specs.declared.event.Event.{Event}
 use Rattle.bus_line.specs.declared.event.EventKind.TheVariants as event
 use Rattle.bus_pairing.specs.declared.line.Line.TheVariants.{First, Second}
-use Rattle.bus_tap.specs.Arrival.{Arrival, own, place_of}
+use Rattle.bus_tap.specs.Arrival.{Arrival, own, place_of, at_places, begun_places}
 use Rattle.bus_tap.specs.declared.places.BitPlaces.{BitPlaces}
+use Rattle.bus_bits.specs.declared.span.Span.{Span}
 
 -- the places of these arrivals are kept
 pub record KeepsPlaces (origin : ℕ) (p : BitPlaces) (xs : List Arrival) : Type 0 where
@@ -15,6 +18,29 @@ pub record KeepsPlaces (origin : ℕ) (p : BitPlaces) (xs : List Arrival) : Type
   pub recent : (k : ℕ) → k < length (own Second xs) → length (own Second xs) ≤ k + 16
       → slice_get p.recent (k % 16) ≡ Some (origin + place_of xs k)
   pub opened : (k : ℕ) → begun (own Second xs) ≡ Some k → p.opened ≡ origin + place_of xs k
+
+-- what a bit of the second line behind these arrivals decides, counted in bits of that line
+abbrev pub decided_by : ℕ → List Arrival → Bool → Option Report
+decided_by longest xs bit = due_at longest (own Second xs ++ bit ∷ []) (length (own Second xs))
+
+-- and that of the first bit of the piece which the next bit of the second line, behind these arrivals, decides
+abbrev pub KeepsDecided : ℕ → BitPlaces → List Arrival → Bool → Type 0
+KeepsDecided origin p xs bit = (longest : ℕ) (r : Report) → decided_by longest xs bit ≡ Some r
+    → (r.kind ≡ Kind.Idle → ⊥) → p.opened ≡ origin + place_of (xs ++ (Second, bit) ∷ []) r.first
+
+-- an event of that bit becomes the report in places
+abbrev pub LocatesLast : BitPlaces → Option Event → Option Event → Type 0
+LocatesLast p e l = (origin longest : ℕ) (xs : List Arrival) (bit : Bool) (os : List ℕ)
+    → KeepsPlaces origin p (xs ++ (Second, bit) ∷ []) → KeepsDecided origin p xs bit
+    → origin + length (own First xs) ≤ most_places
+    → option_map (reported os) e ≡ decided_by longest xs bit
+    → option_map (reported os) l
+    ≡ option_map (λ r. moved origin (at_places (xs ++ (Second, bit) ∷ []) r)) (decided_by longest xs bit)
+
+-- the open piece of the second line, which had so many bits, in places
+abbrev pub IsOpenSpan : BitPlaces → ℕ → Span → Type 0
+IsOpenSpan p count span = (origin : ℕ) (xs : List Arrival) → KeepsPlaces origin p xs → count ≡ length (own Second xs)
+    → origin + length (own First xs) ≤ most_places → IfSome (begun_places origin xs) (λ s. span ≡ s)
 
 -- what becomes of the places with bit number n of the second line
 pub record Notes (p q : BitPlaces) (n : ℕ) (opens : Bool) : Type 0 where

@@ -72,6 +72,10 @@ bit_on line (Some bit) = (line, bit) ∷ []
 abbrev pub bits_of_edges : Edges → List Arrival
 bits_of_edges e = bit_on First e.first ++ bit_on Second e.second
 
+-- no bit arrives
+abbrev pub no_edges : Edges
+no_edges = record { first = None; second = None }
+
 -- a channel as it is kept: the level that counts, and for how many samples the other level has stood
 pub record HeldState : Type 0 where
   pub level : Bool

@@ -42,6 +42,10 @@ pub record IsTapAfter (t : TapState) (ss : List ℕ) : Type 0 where
   pub first : AreFacts t.hold t.jump First t.first ss
   pub second : AreFacts t.hold t.jump Second t.second ss
 
+-- these samples bring no bit
+abbrev pub BringNone : TapState → List ℕ → Type 0
+BringNone old more = (ss : List ℕ) → IsTapAfter old ss → sampled old.hold (ss ++ more) ≡ sampled old.hold ss
+
 -- with more samples these bits arrive
 pub record AdvancesTap (old : TapState) (more : List ℕ) (xs : List Arrival) (new : TapState) : Type 0 where
   pub hold : new.hold ≡ old.hold

@@ -1,7 +1,11 @@
 //! The places of the second line's bits.
 
-ghost use Rattle.std.specs.Prelude.{◌≡◌, ◌-◌, replicate};
-ghost use Rattle.bus_tap.specs.Places.{AreLocated, IsLocated, IsPast, Notes};
+ghost use Rattle.std.specs.Prelude.{◌≡◌, ◌+◌, ◌-◌, ◌++◌, ◌∷◌, [], ℕ, List, Bool, Some, length, replicate};
+ghost use Rattle.bus_pairing.specs.declared.line.Line.TheVariants.{First, Second};
+ghost use Rattle.bus_tap.specs.Arrival.{Arrival, own};
+ghost use Rattle.bus_tap.specs.Lines.{BeginsAt};
+ghost use Rattle.bus_tap.specs.Places.{AreLocated, IsLocated, IsOpenSpan, IsPast, KeepsDecided, KeepsPlaces, LocatesLast};
+ghost use Rattle.bus_tap.specs.Places.{Notes};
 
 use bus_bits::Span;
 use bus_line::{Event, EventKind};
@@ -22,7 +26,8 @@ pub struct BitPlaces {
 impl BitPlaces {
     /// Of no bits.
     pub fn new(origin: u64) -> Self
-        ensures { result ≡ record { reached = origin; recent = replicate 16 origin; opened = origin } }
+        ensures keeps { KeepsPlaces origin result [] }
+        ensures value { result ≡ record { reached = origin; recent = replicate 16 origin; opened = origin } }
     {
         BitPlaces {
             reached: origin,
@@ -33,13 +38,28 @@ impl BitPlaces {
 
     /// The bit of the first line that has this place arrived.
     pub fn reach(&mut self, place: u64)
-        ensures { self.new ≡ record self.old { reached = place } }
+        ensures keeps { (origin : ℕ) (xs : List Arrival) (bit : Bool) → KeepsPlaces origin self.old xs →
+            place ≡ origin + length (own First xs) → KeepsPlaces origin self.new (xs ++ (First, bit) ∷ []) }
+        ensures value { self.new ≡ record self.old { reached = place } }
     {
         self.reached = place;
     }
 
     /// Bit `k` of the second line arrived, with which a piece begins if `opens`.
     pub fn note(&mut self, k: u64, opens: bool)
+        ensures keeps { (origin : ℕ) (xs : List Arrival) (bit : Bool) → KeepsPlaces origin self.old xs →
+            k ≡ length (own Second xs) → BeginsAt opens (own Second xs) bit →
+            KeepsPlaces origin self.new (xs ++ (Second, bit) ∷ []) }
+        ensures decided { (origin : ℕ) (xs : List Arrival) (bit : Bool) → KeepsPlaces origin self.old xs →
+            k ≡ length (own Second xs) → BeginsAt opens (own Second xs) bit → KeepsDecided origin self.new xs bit }
+        ensures notes { Notes self.old self.new k opens }
+    {
+        self.write(k, opens);
+    }
+
+    /// Writes the place of bit `k`, and that of the open piece if it `opens`.
+    #[inline(always)]
+    fn write(&mut self, k: u64, opens: bool)
         ensures { Notes self.old self.new k opens }
     {
         self.recent[(k % 16) as usize] = self.reached;
@@ -57,6 +77,7 @@ impl BitPlaces {
 
     /// The open piece of a line that had so many bits.
     pub fn open_span(&self, count: u64) -> Span
+        ensures open { IsOpenSpan self.now count result }
         ensures first { result.first ≡ self.now.opened }
         ensures past { IsPast self.now (count - 1) result.past }
     {
@@ -68,6 +89,15 @@ impl BitPlaces {
 
     /// What the last bit decided, its span in places.
     pub fn located(&self, event: Event) -> Event
+        ensures last { LocatesLast self.now (Some event) (Some result) }
+        ensures located { IsLocated self.now event result }
+    {
+        self.moved(event)
+    }
+
+    /// An event whose bits are among the last ones, or of the open piece, with its span in places.
+    #[inline(always)]
+    fn moved(&self, event: Event) -> Event
         ensures { IsLocated self.now event result }
     {
         let first = match event.kind {
@@ -85,7 +115,8 @@ impl BitPlaces {
 
     /// The same, if it decided anything.
     pub fn located_option(&self, event: Option<Event>) -> Option<Event>
-        ensures { AreLocated self.now event result }
+        ensures last { LocatesLast self.now event result }
+        ensures located { AreLocated self.now event result }
     {
         match event {
             None => None,

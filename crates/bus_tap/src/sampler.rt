@@ -6,8 +6,8 @@ ghost use Rattle.bus_pairing.specs.declared.line.Line.TheVariants.{First};
 ghost use Rattle.std.specs.Prelude.{IsTrue, ◌↔◌};
 ghost use Rattle.bus_tap.specs.Blocks.{HasLevels, IsBlockOf};
 ghost use Rattle.bus_tap.specs.Internal.Counts.{AreCounted, CountsLine, HadCounted, HasCounted};
-ghost use Rattle.bus_tap.specs.Internal.Held.{held_state, next_state, held_clock, held_data, no_edges, AreHeldAt};
-ghost use Rattle.bus_tap.specs.Sampled.{Channel, IsAfterSamples, IsHeldAfter, sampled, bits_of_edges};
+ghost use Rattle.bus_tap.specs.Internal.Held.{held_state, next_state, held_clock, held_data, AreHeldAt};
+ghost use Rattle.bus_tap.specs.Sampled.{Channel, IsAfterSamples, IsHeldAfter, sampled, bits_of_edges, no_edges};
 ghost use Rattle.bus_tap.specs.Sampled.{clock_of, data_of};
 
 use crate::block::{CountedBlock, CountedLine, LevelBlock, LineBlock};

@@ -5,8 +5,8 @@ ghost use Rattle.std.specs.Prelude.{IfSome, MatchOption};
 ghost use Rattle.std.specs.Prelude.{replicate, length, Some, None};
 ghost use Rattle.bus_bits.specs.Limits.{most_places};
 ghost use Rattle.bus_tap.specs.Sampled.{sampled, bits_of_edges};
-ghost use Rattle.bus_tap.specs.Tapped.{AdvancesTap, HasSampled, IsTapAfter};
-ghost use Rattle.bus_tap.specs.Blocks.{IsBlockOf, TakesBlocks, block_arrivals};
+ghost use Rattle.bus_tap.specs.Tapped.{AdvancesTap, BringNone, HasSampled, IsTapAfter};
+ghost use Rattle.bus_tap.specs.Blocks.{ArriveEach, IsBlockOf, TakesBlocks, block_arrivals};
 ghost use Rattle.bus_tap.specs.Facts.{AreLevels, AreTapFacts};
 ghost use Rattle.bus_tap.specs.Internal.Counts.{AreCounted};
 ghost use Rattle.bus_tap.specs.Internal.Taps.{HasHold, IsSettledTap};
@@ -167,6 +167,7 @@ impl Tap {
         ensures fits { self.new.samples ≤ most_places }
         ensures taken { IfOk result (λ t. (t.samples ≤ count) × (1 ≤ count → 1 ≤ t.samples)
             × AdvancesTap self.old (replicate t.samples sample) (bits_of_edges t.edges) self.new) }
+        ensures last { IfOk result (λ t. BringNone self.old (replicate (t.samples - 1) sample)) }
         ensures all { IfOk result (λ t. bits_of_edges t.edges ≡ [] → t.samples ≡ count) }
     {
         if count > MOST || self.samples > MOST - count {
@@ -204,6 +205,7 @@ impl Tap {
         requires { self.old.samples + count ≤ most_places }
         ensures some { (result.samples ≤ count) × (1 ≤ count → 1 ≤ result.samples) }
         ensures taken { AdvancesTap self.old (replicate result.samples sample) (bits_of_edges result.edges) self.new }
+        ensures last { BringNone self.old (replicate (result.samples - 1) sample) }
         ensures all { bits_of_edges result.edges ≡ [] → result.samples ≡ count }
     {
         for taken in 0..count {
@@ -243,6 +245,8 @@ impl Tap {
         requires { TakesBlocks self.old }
         ensures taken { (ss : List ℕ) → IsBlockOf block.now ss
             → AdvancesTap self.old ss (block_arrivals result) self.new }
+        ensures each { (ss more : List ℕ) → IsBlockOf block.now more → IsTapAfter self.old ss
+            → ArriveEach self.old.hold ss more result }
         ensures samples { self.new.samples ≡ self.old.samples + 64 }
     {
         let counted = take_block(&mut self.sampler, block);
@@ -295,6 +299,7 @@ impl Tap {
         requires room { self.old.samples + self.old.hold < most_places }
         ensures settled { IsSettledTap self.new sample }
         ensures taken { AdvancesTap self.old (replicate (self.old.hold + 1) sample) (bits_of_edges result) self.new }
+        ensures last { BringNone self.old (replicate self.old.hold sample) }
     {
         let place = self.samples + u64::from(self.hold);
         self.sampler = Some(Sampler::new(self.hold, sample));

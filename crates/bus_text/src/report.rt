@@ -75,7 +75,7 @@ fn push_tally<const N: usize>(text: &mut ArrayVec<u8, N>, station: u8, counts: C
 /// Appends the line of a frame of the history.
 fn push_kept(page: &mut Page, line: Option<Line>, kept: &Kept)
     requires { HasRoomFor 572 page.old }
-    ensures { AdvancesPage page.old (last_text line kept.now.span kept.now.octets.items) 572 page.new }
+    ensures { AdvancesPage page.old (last_text line kept.now.span kept.now.octets) 572 page.new }
 {
     push_octets(&mut page.text, b"last ");
     push_line_number(&mut page.text, line);
@@ -144,9 +144,9 @@ pub fn put_kept<W: Write>(
     ensures put { (start : Option (List ℕ)) (text : List ℕ) →
         Pages start (W.contents w.old) page.old.text page.old.written text → MatchResult result
         (λ _. Pages start (W.contents w.new) page.new.text page.new.written
-        (text ++ last_text line kept.now.span kept.now.octets.items))
+        (text ++ last_text line kept.now.span kept.now.octets))
         (λ cut. TextStopsAt start (W.contents w.new)
-        (text ++ last_text line kept.now.span kept.now.octets.items) cut.sent) }
+        (text ++ last_text line kept.now.span kept.now.octets) cut.sent) }
     ensures few { OnOk result
         (page.new.written + array_vec_len page.new.text ≤ page.old.written + array_vec_len page.old.text + 572) }
 {

@@ -4,7 +4,7 @@ use Rattle.std.specs.Prelude.{slice_range}
 use Rattle.std.specs.Option.{option_map}
 use Rattle.bus_fcs.specs.Check.{CheckView}
 use Rattle.bus_line.specs.After.{After, DecideNothing, Decides, due_of}
-use Rattle.bus_line.specs.Due.{Mark, FlagAt, class_of, current, piece_report}
+use Rattle.bus_line.specs.Due.{Mark, FlagAt, class_of, current, piece_report, first_of}
 use Rattle.bus_line.specs.Report.{Abort, Report, moved}
 use Rattle.bus_line.specs.Shown.{kind_with, reported}
 use Rattle.bus_line.specs.Words.{first_in}
@@ -13,7 +13,7 @@ use Rattle.bus_line.specs.declared.event.Event.{Event}
 use Rattle.bus_line.specs.declared.event.EventKind.{EventKind}
 use Rattle.bus_line.specs.LineState.{LineState}
 use Rattle.bus_line.specs.Internal.Settled.{HasNoStop}
-use Rattle.bus_line.specs.Internal.Tracks.{Tracks, first_of}
+use Rattle.bus_line.specs.Internal.Tracks.{Tracks}
 
 -- these bits were taken and settled; what the last decides is still to be found, and the others are to decide nothing
 pub record ConsumesBits {C : Type 0} (view : CheckView C) (old : LineState C) (bits : List Bool)

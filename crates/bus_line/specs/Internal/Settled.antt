@@ -4,10 +4,10 @@ use Rattle.std.specs.Prelude.{◌∷◌, ◌++◌, length, take, drop, min, if�
 use Rattle.bus_bits.specs.Octet.{number}
 use Rattle.bus_fcs.specs.Check.{CheckView}
 use Rattle.bus_line.specs.Run.{ones_at_end}
-use Rattle.bus_line.specs.Due.{current}
+use Rattle.bus_line.specs.Due.{current, first_of}
 use Rattle.bus_line.specs.LineState.{LineState}
 use Rattle.bus_line.specs.Internal.LineView.{settles_from}
-use Rattle.bus_line.specs.Internal.Tracks.{HasTaken, Holds, HoldsFor, Counts, first_of, padded}
+use Rattle.bus_line.specs.Internal.Tracks.{HasTaken, Holds, HoldsFor, Counts, padded}
 
 -- none of the first `n` bits stands after exactly six ones or exactly fourteen
 abbrev pub HasNoStop : List Bool → List Bool → ℕ → Type 0

@@ -1,18 +1,12 @@
 -- What a decoder holds of the bits that it took.
 use Rattle.std.specs.Prelude.{◌≡◌, ℕ, ◌+◌, ◌-◌, ◌*◌, ◌/◌, ◌≤◌, Bool, false, List, ◌++◌, length, take, drop, replicate}
-use Rattle.std.specs.Prelude.{slice_range, Option, Some, None}
+use Rattle.std.specs.Prelude.{slice_range}
 use Rattle.bus_bits.specs.Octet.{number, octets}
 use Rattle.bus_fcs.specs.Check.{CheckView}
 use Rattle.bus_line.specs.Run.{data_so_far}
-use Rattle.bus_line.specs.Due.{Mark, NoMark, FlagAt, AbortAt}
+use Rattle.bus_line.specs.Due.{Mark, NoMark, FlagAt, AbortAt, first_of}
 use Rattle.bus_line.specs.Ledger.{assembled, stored}
 use Rattle.bus_line.specs.LineState.{LineState}
-
--- where the piece of the last mark begins, if that is a flag
-abbrev pub first_of : ℕ → Mark → Option ℕ
-first_of origin NoMark = None
-first_of origin (FlagAt p) = Some (origin + (p + 8))
-first_of origin (AbortAt a) = None
 
 -- the data of the raw bits after the flag at p, up to eight bits before the end
 abbrev pub settled_data : List Bool → ℕ → List Bool

@@ -13,7 +13,7 @@ conversation_state j = record {
   waiting = j.pairing.waiting;
   tally = j.tally;
   last = j.last;
-  copied = j.spent.copied;
+  copied = j.copied;
   handled = j.spent.handled;
 }
 

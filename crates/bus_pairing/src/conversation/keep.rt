@@ -10,7 +10,8 @@ use crate::conversation::Conversation;
 use crate::kept::Kept;
 use crate::line::{Line, kept_line};
 use crate::pair_kept::PairKept;
-use bus_bits::{Span, Spent};
+use bus_bits::Span;
+use bus_line::CopyCount;
 use circular_buffer::HeapCircularBuffer;
 
 /// Where one frame more is to lie: behind the others, where a full ring gives up its oldest, or in place of the only
@@ -33,29 +34,29 @@ fn next_place(ring: &mut HeapCircularBuffer<PairKept>) -> usize
     ring.len() - 1
 }
 
-/// Copies a frame behind the others, in place of the oldest where the ring is full, and counts its octets.
+/// Copies a frame behind the others, in place of the oldest where the ring is full.
 #[inline(always)]
 fn append(
     ring: &mut HeapCircularBuffer<PairKept>,
     line: Line,
     span: Span,
     octets: &[u8],
-    spent: &mut Spent,
+    copied: &mut CopyCount,
 )
     requires depth { 1 ≤ ring.old.capacity }
     requires fits { length octets.now ≤ most_octets }
-    requires room { spent.old.copied + length octets.now < 2 ^ 64 }
+    requires room { copied.old + length octets.now < 2 ^ 64 }
     ensures items { map kept_pair ring.new.items
         ≡ keep_last ring.old.capacity
         (map kept_pair ring.old.items ++ record { line = line; span = span; octets = octets.now } ∷ []) }
     ensures capacity { ring.new.capacity ≡ ring.old.capacity }
-    ensures copied { spent.new ≡ record spent.old { copied = spent.old.copied + length octets.now } }
+    ensures copied { copied.new ≡ copied.old + length octets.now }
 {
     let place = next_place(ring);
     match ring.get_mut(place) {
         Some(frame) => {
             frame.line = line;
-            frame.kept.copy_frame(span, octets, spent);
+            frame.kept.copy_frame(span, octets, copied);
         }
         None => unreachable!(),
     }
@@ -85,7 +86,7 @@ impl Conversation {
             kept_line(line),
             span,
             octets,
-            &mut self.spent,
+            &mut self.copied,
         );
         self.spent.tick_handled();
     }

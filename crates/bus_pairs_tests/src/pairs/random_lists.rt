@@ -93,7 +93,7 @@ fn history_of(rt: &impl Abort, alloc: Global, analyser: &PairAnalyser<OctetCheck
         let frame = analyser.history(i).expect(rt, "a frame");
         let span = frame.kept.span;
         write!(text, "{:?} {} {}", frame.line, span.first, span.past).expect(rt, "text");
-        for octet in &frame.kept.octets {
+        for octet in frame.kept.octets.as_slice() {
             write!(text, " {octet:02x}").expect(rt, "text");
         }
     }

@@ -33,7 +33,7 @@ fn run(
 /// The span of a logged frame, and how many octets it has.
 fn frame_of(piece: &LoggedPiece) -> Option<(Span, usize)> {
     match piece {
-        LoggedPiece::Frame(kept) => Some((kept.span, kept.octets.len())),
+        LoggedPiece::Frame { span, octets } => Some((*span, octets.len())),
         _ => None,
     }
 }

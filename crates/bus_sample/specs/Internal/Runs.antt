@@ -10,7 +10,7 @@ use Rattle.bus_text.specs.Pages.{Pages}
 use Rattle.bus_text.specs.Put.{TextStopsAt}
 use Rattle.bus_sample.specs.Recording.{recorded, cut_record, levels, arrivals, size_of}
 use Rattle.bus_sample.specs.Marks.{marks_text}
-use Rattle.bus_sample.specs.Samples.{IsFrontOf, HasSize}
+use Rattle.bus_sample.specs.Samples.{IsFrontOf, AreTooMany, HasSize}
 use Rattle.bus_sample.specs.declared.marks.Marks.{Marks}
 use Rattle.bus_sample.specs.declared.reader.SampleRun.{SampleRun}
 use Rattle.bus_sample.specs.declared.fault.SampleFault.{SampleFault}
@@ -51,8 +51,7 @@ abbrev pub StopsWith : Option (List ℕ) → Option (List ℕ) → SampleRun →
 StopsWith start now run samples (Write sent) =
     (front : List ℕ) × IsFrontOf samples front × TextStopsAt start now (marks_text (arrivals run.options front)) sent
 StopsWith start now run samples TooMany =
-    (most_places < length samples)
-    × (front : List ℕ) × IsFrontOf samples front × HasMarked start now run.marks (arrivals run.options front)
+    (front : List ℕ) × AreTooMany samples front × HasMarked start now run.marks (arrivals run.options front)
 StopsWith start now run samples _ = ⊥
 
 -- the open record stays

@@ -5,7 +5,6 @@ use Rattle.bus_tap.specs.Sampled.{Channel, HeldState, SamplerState, clock_of, da
 use Rattle.bus_pairing.specs.declared.line.Line.{Line}
 use Rattle.bus_pairing.specs.declared.line.Line.TheVariants.{First, Second}
 use Rattle.bus_tap.specs.declared.facts.Levels.{Levels}
-use Rattle.bus_tap.specs.declared.sampler.Edges.{Edges}
 use Rattle.bus_tap.specs.declared.sampler.HeldLevel.{HeldLevel}
 use Rattle.bus_tap.specs.declared.sampler.Sampler.TheInside.{Inside}
 
@@ -43,10 +42,6 @@ held_clock s Second = s.second_clock
 abbrev pub held_data : SamplerState → Line → HeldState
 held_data s First = s.first_bits
 held_data s Second = s.second_bits
-
--- no bit arrives
-abbrev pub no_edges : Edges
-no_edges = record { first = None; second = None }
 
 -- a channel has the level that it has in this sample, and no other is waited for
 abbrev pub IsHeldAt : Channel → HeldState → ℕ → Type 0

@@ -17,12 +17,16 @@ const THREE: &str = "flag call flag reply flag notice flag";
 
 fn check_frame(rt: &impl Abort, log: &ReportLog, index: usize, span: Span, octets: &[u8]) {
     let report = log.reports().get(index).expect(rt, "no report");
-    let LoggedPiece::Frame(frame) = &report.piece else {
+    let LoggedPiece::Frame {
+        span: found,
+        octets: copy,
+    } = &report.piece
+    else {
         panic!(rt; "no frame");
     };
     let case = format_args!("report {index}");
-    same(rt, frame.span, span, &case);
-    same(rt, frame.octets.as_slice(), octets, &case);
+    same(rt, *found, span, &case);
+    same(rt, copy.as_slice(), octets, &case);
     holds(rt, !report.stray, &case);
     same(rt, report.verdict.is_some(), index == 1, &case);
 }

@@ -12,8 +12,8 @@ loop-at-preserved c =
     let s = c.args.standing.now in
     let xs = c.args.before.now in
     let before = c.loop-at.invariant in
-    let notes = c.note-in-loop-at.ensures in
-    let reach = c.reach-in-loop-at.ensures in
+    let notes = c.note-in-loop-at.ensures.notes in
+    let reach = c.reach-in-loop-at.ensures.value in
     let now : c.reach-in-loop-at.new.self.reached ≡ place_after s (slice_index xs at) =
     ap (λ (p : BitPlaces). p.reached) reach ∙ c.after-in-loop-at.ensures in
     record {

@@ -4,10 +4,11 @@ use Rattle.bus_text.proofs.KnownBytesLemmas.{appends_nothing, consumes_nothing}
 use Rattle.bus_sample.specs.Samples.{SamplesBy}
 use Rattle.bus_sample.specs.Looks.{before, HasTold, LooksBefore}
 use Rattle.bus_sample.proofs.LookLemmas.{looks-ended, looks-closed}
+use Rattle.bus_sample.proofs.ReadLemmas.{fails-ended, fails-closed}
 use Rattle.bus_sample.proofs.sample.sample_recording.Goals as goal
 
-pub returns-in-Ok : goal.returns-in-Ok
-returns-in-Ok g c =
+pub returns-in-Ok-clause-samples : goal.returns-in-Ok-clause-samples
+returns-in-Ok-clause-samples g c =
     let read = c.in-Ok.ensures.read in
     let given = c.in_ok-run.ensures.given.0 in
     let options = c.in-Ok.ensures.options ∙ given in
@@ -20,12 +21,12 @@ returns-in-Ok g c =
           (subst (λ o. HasTold o start now read.0) given read.3),
     )
 
-pub returns-in-Err : goal.returns-in-Err
-returns-in-Err g c =
+pub returns-in-Err-clause-samples : goal.returns-in-Err-clause-samples
+returns-in-Err-clause-samples g c =
     let read = c.in-Err.ensures.read in
     let given = c.in_ok-run.ensures.given.0 in
     let options = c.in-Err.ensures.options ∙ given in
-    let after = g.R.Read.remaining c.read_to_end.new.r in
+    let after = g.R.RecordingReader.remaining c.read_to_end.new.r in
     let start = g.E.Write.contents c.args.e.now in
     let now = g.E.Write.contents c.read_to_end.new.e in (
       read.0,
@@ -37,8 +38,8 @@ returns-in-Err g c =
           (subst (λ o. LooksBefore o start now read.0 c.in-Err.fault) given read.3),
     )
 
-pub returns-in_err-run : goal.returns-in_err-run
-returns-in_err-run g c =
+pub returns-in_err-run-clause-samples : goal.returns-in_err-run-clause-samples
+returns-in_err-run-clause-samples g c =
     let raised = err_from_is_err_and c.from_residual.result c.from_residual.ensures.1 in
     let size = c.in_err-run.ensures.size in
     rw (raised.1, raised.2, size.0) (
@@ -47,3 +48,15 @@ returns-in_err-run g c =
       (size.1, refl, appends_nothing _),
       ([], before, appends_nothing _),
     )
+
+pub returns-in-Ok-clause-failures : goal.returns-in-Ok-clause-failures
+returns-in-Ok-clause-failures g c = fails-ended c.end.result _ _ c.in-Ok.ensures.failures c.end.ensures.cut
+
+pub returns-in-Err-clause-failures : goal.returns-in-Err-clause-failures
+returns-in-Err-clause-failures g c =
+    fails-closed c.in-Err.fault c.close_behind.result _ _ c.close_behind.ensures.fault c.in-Err.ensures.failures
+
+pub returns-in_err-run-clause-failures : goal.returns-in_err-run-clause-failures
+returns-in_err-run-clause-failures g c =
+    let raised = err_from_is_err_and c.from_residual.result c.from_residual.ensures.1 in
+    rw (raised.1, raised.2, c.in_err-run.ensures.size.0) refl

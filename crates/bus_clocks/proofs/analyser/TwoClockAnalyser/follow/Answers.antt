@@ -111,7 +111,7 @@ leads-on g c ys parts =
     leads-followed g.C.Check.check (clock_state c.self.inside) (next-state g c) zs _ c.arrivals_are.ensures.grow
     c.arrivals_are.ensures.apart c.reports_grow.ensures.grow c.reports_are.ensures.are c.reports_are.ensures.within
     rest.alone some (rw bits at (c.observe_bits.ensures.observes)) refl
-    (c.reach.ensures ∙ ap (λ k. record c.self.inside.places { reached = k }) at)
+    (c.reach.ensures.value ∙ ap (λ k. record c.self.inside.places { reached = k }) at)
 
 pub invariant_of-self : goal.invariant_of-self
 invariant_of-self g c =

@@ -38,7 +38,7 @@ sees g c =
     (push-first g.C.Check.check (clock_state c.self.inside) _ c.args.bit c.in_ok-event.event
     (told_on (Some First) c.decode.new.decoder.octets c.enter.result c.enter.new.conversation.last)
     c.in_ok-event.ensures.decodes (rw (c.octets-octets.ensures.value) at c.enter.ensures) refl
-    (c.reach.ensures ∙ ap (λ k. record c.self.inside.places { reached = k }) c.place-place.ensures.value))
+    (c.reach.ensures.value ∙ ap (λ k. record c.self.inside.places { reached = k }) c.place-place.ensures.value))
 
 pub invariant_of-self-2 : goal.invariant_of-self-2
 invariant_of-self-2 g c = record {

@@ -13,7 +13,7 @@ use Rattle.bus_clocks.proofs.analyser.TwoClockAnalyser.push_second.Goals as goal
 pub enter-requires-clause-whole : goal.enter-requires-clause-whole
 enter-requires-clause-whole g c =
     whole-located _ c.in_ok-event.event c.located_option-event.result c.octets-octets.result.now
-    c.located_option-event.ensures
+    c.located_option-event.ensures.located
     (whole-decoded c.reports_are.ensures.due c.frame_is_spelled.ensures c.in_ok-event.ensures.decodes
     (own Second c.self.invariant.arrivals) c.self.invariant.reached.second _ c.octets-octets.ensures.value)
 
@@ -44,9 +44,9 @@ sees g c =
     (record {
       decodes = c.in_ok-event.ensures.decodes;
       at_place = c.place-number.ensures.value;
-      notes = c.note.ensures;
+      notes = c.note.ensures.notes;
       begins = c.begins-opens.ensures;
-    }) c.located_option-event.ensures (rw (c.octets-octets.ensures.value) at c.enter.ensures) refl)
+    }) c.located_option-event.ensures.located (rw (c.octets-octets.ensures.value) at c.enter.ensures) refl)
 
 pub invariant_of-self-2 : goal.invariant_of-self-2
 invariant_of-self-2 g c = record {

@@ -107,7 +107,7 @@ enter-is_decided-requires-clause-whole g c =
     (c.standing_behind-standing.ensures.taken (own First xs) reached.first) c.standing_behind-standing.ensures.origin
     c.standing_behind-standing.ensures.ahead in
     whole-located _ c.scan_noted-scanned.result.event c.located_option-event.result c.octets-octets.result.now
-    c.located_option-event.ensures
+    c.located_option-event.ensures.located
     (whole-scanned c.reports_are.ensures.due c.frame_is_spelled.ensures scanned (own Second xs) reached.second _
     c.octets-octets.ensures.value)
 
@@ -197,7 +197,7 @@ leads-on g c ys parts =
       asked.fits,
       c.requires.parts.2,
       ap (λ (a : ClockState g.row.C.Denot). a.first.place + a.second.place) c.self.view_is,
-    )) scanned first c.located_option-event.ensures
+    )) scanned first c.located_option-event.ensures.located
     (rw (c.octets-octets.ensures.value) at (c.enter-is_decided.ensures)) _
     (g.met.L.ReportObserver.observes_more c.self.inside.conversation.dictionary c.args.observer.now
     c.observe_bits.new.observer c.show.new.observer c.args.out.now c.observe_bits.new.out c.show.new.out

@@ -11,7 +11,7 @@ returns-clause-keeps c = record {
   history = rw (c.in_ok-history.ensures) (sym (drop-nil (0 - c.args.depth)));
   waiting = c.new.ensures;
   tally = λ station within. rw (c.no_counts.ensures) (slice_get-replicate 256 _ station within);
-  copied = rw (c.zero.ensures) refl;
+  copied = c.new-2.ensures;
   handled = rw (c.zero.ensures) refl;
 }
 

@@ -2,19 +2,26 @@ use Rattle.std.proofs.Common.{◌≡◌, ◌++◌, ◌∙◌, [], replicate, ref
 use Rattle.bus_tap.specs.Sampled.{bits_of_edges}
 use Rattle.bus_sample.specs.Recording.{arrivals}
 use Rattle.bus_sample.specs.Internal.Runs.{HasMarked}
-use Rattle.std.proofs.lemmas.List.{length-replicate}
-use Rattle.bus_sample.proofs.RunLemmas.{advances-run, arrivals-with, taken-with, count-of, run-front}
+use Rattle.std.proofs.lemmas.List.{length-replicate, length-map}
+use Rattle.bus_tap.specs.Tapped.{channels}
+use Rattle.bus_sample.proofs.CloseLemmas.{whole-front}
+use Rattle.bus_sample.proofs.RunLemmas.{advances-run, arrivals-with, taken-with, run-front}
 use Rattle.bus_sample.proofs.reader.SampleRun.consume_some.Goals as goal
 
 pub returns-in-Err-clause-taken : goal.returns-in-Err-clause-taken
 returns-in-Err-clause-taken g c = λ sample is start ss taken. (
-  omega (
-    arith,
-    c.in-Err.ensures.limit.0 refl,
-    count-of c.args.self.now.options c.args.self.now.tap ss c.args.count sample taken.tap,
-  ),
   ss,
-  (replicate c.args.count sample, refl),
+  record {
+    sample = sample;
+    count = c.args.count;
+    stands = whole-front (ss ++ replicate c.args.count sample);
+    more = omega (
+      arith,
+      c.in-Err.ensures.limit.0 refl,
+      taken.tap.samples,
+      length-map ss (channels c.args.self.now.options.wires),
+    );
+  },
   taken.marks,
 )
 

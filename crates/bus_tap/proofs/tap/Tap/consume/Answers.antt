@@ -1,7 +1,7 @@
 use Rattle.std.proofs.Common.{◌≡◌, ◌+◌, ◌-◌, [], ◌++◌, replicate, refl, ap, ◌∙◌, subst, arith}
 use Rattle.bus_tap.specs.Sampled.{bits_of_edges}
 use Rattle.bus_tap.specs.Tapped.{TapState, AdvancesTap}
-use Rattle.bus_tap.proofs.TapLemmas.{advances-further, replicate-both}
+use Rattle.bus_tap.proofs.TapLemmas.{advances-further, brings-fewer, brings-none, replicate-both}
 use Rattle.bus_tap.proofs.tap.Tap.consume.Goals as goal
 
 pub returns-then-is_none-clause-taken : goal.returns-then-is_none-clause-taken
@@ -21,3 +21,20 @@ returns-then-is_none-clause-taken c =
           (subst (λ e. AdvancesTap c.args.self.now (replicate stood s) (bits_of_edges e) c.consume_held-edges.new.self)
           (c.if-is_none.ensures.0 refl) c.consume_held-edges.ensures.taken) c.pass-then-is_none.ensures),
     )
+
+pub returns-then-before-sample-clause-last : goal.returns-then-before-sample-clause-last
+returns-then-before-sample-clause-last c =
+    brings-fewer c.args.self.now c.args.sample c.args.count
+    (brings-none c.args.self.now c.pass.new.self (replicate c.args.count c.args.sample) c.pass.ensures)
+
+pub returns-then-is_none-clause-last : goal.returns-then-is_none-clause-last
+returns-then-is_none-clause-last c =
+    brings-fewer c.args.self.now c.args.sample c.args.count
+    (brings-none c.args.self.now c.pass-then-is_none.new.self (replicate c.args.count c.args.sample)
+    (returns-then-is_none-clause-taken c).2)
+
+pub returns-clause-last : goal.returns-clause-last
+returns-clause-last c =
+    let hold = ap (λ (t : TapState). t.hold) c.self.view_is in
+    let before : c.from-samples.result + 1 - 1 ≡ c.args.self.now.hold = omega (arith, hold, c.from-samples.ensures) in
+    rw before c.consume_held-edges.ensures.last

@@ -1,7 +1,7 @@
 use Rattle.std.proofs.Common.{◌≡◌, ◌+◌, ◌-◌, [], ◌∷◌, ◌++◌, replicate, refl, ap, ◌∙◌, subst, arith}
 use Rattle.bus_tap.specs.Sampled.{bits_of_edges}
 use Rattle.bus_tap.specs.Tapped.{AdvancesTap}
-use Rattle.bus_tap.proofs.TapLemmas.{advances-further, replicate-more, replicate-both}
+use Rattle.bus_tap.proofs.TapLemmas.{advances-further, brings-fewer, brings-none, replicate-more, replicate-both}
 use Rattle.bus_tap.proofs.tap.Tap.consume_steps.Goals as goal
 
 pub returns-then-is_settled-clause-taken : goal.returns-then-is_settled-clause-taken
@@ -37,3 +37,22 @@ pub returns-clause-taken : goal.returns-clause-taken
 returns-clause-taken c =
     let all : c.loop-taken.taken ≡ c.args.count = omega (arith, c.loop-taken-test.false) in
     rw (← all) c.loop-taken.invariant.advances
+
+pub returns-then-is_settled-clause-last : goal.returns-then-is_settled-clause-last
+returns-then-is_settled-clause-last c =
+    brings-fewer c.args.self.now c.args.sample c.args.count
+    (brings-none c.args.self.now c.pass.new.self (replicate c.args.count c.args.sample)
+    (returns-then-is_settled-clause-taken c))
+
+pub returns-then-not-is_none-clause-last : goal.returns-then-not-is_none-clause-last
+returns-then-not-is_none-clause-last c =
+    let before : c.loop-taken.taken + 1 - 1 ≡ c.loop-taken.taken = omega arith in
+    rw before (brings-none c.args.self.now c.loop-taken.self (replicate c.loop-taken.taken c.args.sample)
+    c.loop-taken.invariant.advances)
+
+pub returns-clause-last : goal.returns-clause-last
+returns-clause-last c =
+    let all : c.loop-taken.taken ≡ c.args.count = omega (arith, c.loop-taken-test.false) in
+    brings-fewer c.args.self.now c.args.sample c.args.count
+    (rw (← all) (brings-none c.args.self.now c.loop-taken.self (replicate c.loop-taken.taken c.args.sample)
+    c.loop-taken.invariant.advances))

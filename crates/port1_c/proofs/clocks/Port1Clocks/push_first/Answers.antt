@@ -11,4 +11,4 @@ returns-clause-pushes c =
       first = c.decode.new.line;
       second = c.args.self.now.second;
       places = c.reach.new.self;
-    })) c.args.bit c.in_ok-event.event c.in_ok-event.ensures.decides refl c.reach.ensures
+    })) c.args.bit c.in_ok-event.event c.in_ok-event.ensures.decides refl c.reach.ensures.value

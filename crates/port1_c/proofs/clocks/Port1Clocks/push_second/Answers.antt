@@ -16,6 +16,6 @@ returns-clause-pushes c =
     (record {
       decodes = c.in_ok-event.ensures.decides;
       at_place = refl;
-      notes = c.note.ensures;
+      notes = c.note.ensures.notes;
       begins = c.begins-opens.ensures;
-    }) c.located_option.ensures refl
+    }) c.located_option.ensures.located refl
