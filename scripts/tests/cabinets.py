@@ -154,12 +154,12 @@ def stop_of(samples: "np.ndarray", rate: int) -> Told:
     return Told("0 stops (for {} s from {} s on)", [(rises[at + 1] - rises[at]) / rate, rises[at] / rate])
 
 
-def jumps_of(samples: "np.ndarray", rate: int) -> Told:
-    """How often, and where first, a distance of two rises of the first clock is another than the one before."""
-    rises = rises_of(samples, 0)
-    jumps = np.flatnonzero(np.abs(np.diff(np.diff(rises))) > rate / cabinet.RATE / 3)
-    text = "the edges of 0 jump: its wire has glitches, or samples were lost"
-    return Told(f"{text} ({len(jumps)} times, first at {{}} s)", [rises[jumps[0] + 2] / rate])
+def loss_of(samples: "np.ndarray", rate: int) -> Told:
+    """The bit of the first clock whose distance from the one before is that of no clock."""
+    rises, bit = rises_of(samples, 0), rate / cabinet.RATE
+    place = int(np.flatnonzero(np.abs(np.diff(rises) - bit) > bit / 3)[0]) + 1
+    text = f"the analyser lost samples: 0 is out of step from place {place} on (at {{}} s)"
+    return Told(text, [rises[place] / rate])
 
 
 def at_rest_in_the_end(rate: int) -> "Recorded":
@@ -186,7 +186,7 @@ def doubtful(rate: int) -> Iterator[Doubtful]:
     told = Told("0 stops, and does not go on until the recording ends (at {} s)", [rises_of(ended, 0)[-1] / rate])
     yield Doubtful("a stop at the end", [told], ended)
     lost = np.delete(samples, np.arange(edges[3000], edges[3000] + 9 * rate // 1_000_000))
-    yield Doubtful("samples lost", [jumps_of(lost, rate)], lost)
+    yield Doubtful("samples lost", [loss_of(lost, rate)], lost)
     wrong_edge = "the data changes at the edge of {} that is taken: {}"
     for name, clocks, mends in [("both", [txc, rxc], ["--falling"]), ("first", [txc], ["--invert=0"])]:
         cure = "try it with --falling" if len(clocks) > 1 else "say --invert 0, or exchange the wires of its pair"

@@ -8,6 +8,7 @@ import { NO_HEAD } from "../../../scripts/modules/listing/listing.js";
 import { octetsOf } from "../../../scripts/modules/octets.js";
 import { channelsOf } from "../../../scripts/modules/recording/forms.js";
 import { warningOf } from "../../../scripts/modules/recording/doubts.js";
+import { unsureOf } from "../../../scripts/modules/recording/seams.js";
 import { sessionOf } from "../../../scripts/modules/recording/session.js";
 import { isWholeHead } from "../../../scripts/modules/recording/signals.js";
 import { Bus } from "../../../scripts/modules/statistics/bus.js";
@@ -136,9 +137,10 @@ export class Desk {
       this.tell({ progress: size === 0 ? 1 : done / size }),
     );
     Object.assign(this, { listing, bits, rows: null, rate: job.rate, end: bits ? bits.length : job.end ?? null });
-    this.bus = new Bus(job.rate, job.begin && new DayTime(job.begin.text, job.begin.late));
-    this.bus.takeAll(listing.rows());
     const told = (job.told ?? []).map(warningOf);
+    const dayTime = job.begin && new DayTime(job.begin.text, job.begin.late);
+    this.bus = new Bus(job.rate, dayTime, unsureOf([...warnings, ...told]));
+    this.bus.takeAll(listing.rows());
     const ofLevels = isRecording(job)
       ? warningsOfLevels(/** @type {RecordingSource} */ (job).channels, /** @type {Bits} */ (bits), listing)
       : [];

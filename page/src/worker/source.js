@@ -192,7 +192,8 @@ async function takeRecording(source, library, sink, { notes, warnings }, heard) 
   } finally {
     sink.flush();
     const when = new Moments(recording.ticks, recording.begin());
-    warnings.push(...doubtsOf(sampler.facts, recording.names, { rising, when, isSampled: !recording.hasRuns }));
+    const how = { rising, when, isSampled: !recording.hasRuns, seams: recording.seams() };
+    warnings.push(...doubtsOf(sampler.facts, recording.names, how));
     notes.push(edgesOf(sampler.facts, recording.names), ...warnings.map(({ text }) => `warning: ${text}`));
   }
 }

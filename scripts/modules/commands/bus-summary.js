@@ -1,6 +1,8 @@
 import { readFileSync } from "node:fs";
 import { readDictionary } from "../dictionary/dictionary.js";
 import { RATE } from "../port1.js";
+import { warningOf } from "../recording/doubts.js";
+import { unsureOf } from "../recording/seams.js";
 import { Bus } from "../statistics/bus.js";
 import { DayTime } from "../statistics/day-time.js";
 import { objectOf } from "../statistics/object.js";
@@ -31,7 +33,7 @@ run(async () => {
   const { rate = RATE, dictionary, bits: end = null, begin: dayTime = null, json, notes } = wordsOf(OPTIONS).values;
   const entries = dictionary === undefined ? null : readDictionary(readFileSync(dictionary, "utf8"));
   const warnings = notes === undefined ? [] : warningsIn(notes);
-  const bus = new Bus(rate, dayTime);
+  const bus = new Bus(rate, dayTime, unsureOf(warnings.map(warningOf)));
   for await (const rows of rowsOfInput()) bus.takeSome(rows);
   bus.end();
   const known = { end, entries };

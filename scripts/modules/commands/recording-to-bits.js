@@ -106,9 +106,10 @@ run(async () => {
   let next = await arrivals.next();
   for (; !next.done; next = await arrivals.next()) write(next.value);
   const { facts, fault } = next.value;
+  if (fault !== null && facts.samples === 0) throw fault;
   warn(edgesOf(facts, names));
   const when = new Moments(ticks, recording.begin());
-  const told = { rising: !values.falling, when, isSampled: !recording.hasRuns };
+  const told = { rising: !values.falling, when, isSampled: !recording.hasRuns, seams: recording.seams() };
   for (const { text } of doubtsOf(facts, names, told)) warn(`warning: ${text}`);
   if (fault !== null) throw fault;
 });

@@ -34,7 +34,7 @@ import { survey } from "./survey.js";
  * The sorts whose places are stretches of time.
  * @type {Set<Sort>}
  */
-const STRETCHES = new Set(["rest", "quiet", "gap"]);
+const STRETCHES = new Set(["rest", "quiet", "gap", "beside"]);
 
 /**
  * The kinds of lines that a sentence is about, by its sort.
@@ -101,6 +101,7 @@ const SHORT = {
   length: ({ count }) => `${count} ${count === 1 ? "frame has" : "frames have"} another length than in the dictionary`,
   unknown: ({ count }) => `${count} ${count === 1 ? "frame has" : "frames have"} a type that the dictionary lacks`,
   stray: ({ count }) => `${count} ${count === 1 ? "stray" : "strays"}`,
+  beside: () => "The recording lacks samples",
   more: () => "",
 };
 
@@ -140,7 +141,7 @@ export function findingsOf(bus, listing, known) {
     return places ? { places, count } : rows[at];
   };
   const findings = sentences.map((sentence, at) => findingOf(sentence, whereOf(sentence, at), bus.rate));
-  const ofCauses = sentences.filter(({ sort, places }) => places && STRETCHES.has(sort));
+  const ofCauses = sentences.filter(({ sort, places }) => places && STRETCHES.has(sort) && sort !== "beside");
   return {
     findings,
     gaps: gapsOfStations(holes, gaps, bus.rate),

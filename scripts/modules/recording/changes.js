@@ -16,6 +16,7 @@ export const MOST = 4;
  * @property {number|null} ticks in a second, where the recording says so
  * @property {AsyncGenerator<Changes>} changes
  * @property {number[]} positions of the channels, the same for channels that are one
+ * @property {() => import("./seams.js").Seam[]} [faults] of what was read, in ticks
  */
 
 /** Changes, one added after the other. */

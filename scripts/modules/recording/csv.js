@@ -4,10 +4,15 @@ import { positionOf } from "./channels.js";
 import { TableHead } from "./csv-head.js";
 import { DayTimes } from "./day.js";
 import { floatOf, plainDecimal } from "./numbers.js";
+import { WHOLE } from "./seams.js";
 import { decoded } from "./text.js";
 import { beginOfWord, endOfWord } from "./words.js";
 
 const [LINE_END, COMMA, ZERO, ONE] = [10, 44, 48, 49];
+
+/** So many rows of one time, and one of so many rows, are no chance: their times were rounded. */
+const FEWEST_MERGED = 2;
+const MOST_MERGED = 100;
 
 /** What a cell says of a channel. */
 const [LOW, HIGH, UNKNOWN] = [0, 1, 2];
@@ -30,6 +35,10 @@ export class RowReader {
     this.time = -1;
     this.number = 0;
     this.told = -1;
+    this.before = -1; // the time of the row before
+    this.merged = { count: 0, first: 0 }; // rows of one time that say something else
+    this.isKnown = false; // whether all channels have had a level
+    this.analog = ""; // the first number that stands in place of one
     this.known = 0; // where the last row stands, without its time,
     this.length = 0; // and its octets
   }
@@ -55,6 +64,7 @@ export class RowReader {
 
   /** What stands in the last row. */
   end() {
+    this.check();
     this.time += 1;
     return this.changes();
   }
@@ -80,10 +90,49 @@ export class RowReader {
     this.known = cells;
     this.length = Math.min(past + 1, octets.length) - cells;
     const level = this.levelOf(octets, begin, past);
-    if (level !== this.told) {
-      this.list.add(this.time, level);
-      this.told = level;
-    }
+    if (level < 1 << MOST) this.isKnown = true;
+    else if (!this.isKnown && this.analog === "") this.analog = this.numberIn(octets, begin, past);
+    if (level === this.told) return;
+    if (this.hasTimes && this.time === this.before && this.told >= 0) this.merge();
+    this.list.add(this.time, level);
+    this.told = level;
+    this.before = this.time;
+  }
+
+  /** Refuses a table that has numbers in place of levels. */
+  check() {
+    if (this.isKnown || this.analog === "") return;
+    throw new Fault(`${this.analog} is no level, 0 or 1: export digital channels, and no analog ones`);
+  }
+
+  /**
+   * The first number in the channels of a row that is no level, as a fault tells it.
+   * @param {Uint8Array} octets
+   * @param {number} begin
+   * @param {number} past
+   */
+  numberIn(octets, begin, past) {
+    const cells = decoded(octets.subarray(begin, past)).split(",").slice(0, this.width);
+    const isNumber = (/** @type {string} */ cell, /** @type {number} */ column) =>
+      this.put[3 * column + HIGH] !== 0 && ![NaN, LOW, HIGH].includes(floatOf(cell));
+    const found = cells.find(isNumber);
+    return found === undefined ? "" : `row ${this.number}: ${JSON.stringify(found.trim())}`;
+  }
+
+  /** Takes down that a row says something else of a time than the one before. */
+  merge() {
+    if (this.merged.count === 0) this.merged.first = this.time;
+    this.merged.count += 1;
+  }
+
+  /**
+   * What is wrong with the rows that were read: a few of one time say nothing.
+   * @returns {import("./seams.js").Seam[]}
+   */
+  faults() {
+    const { count, first } = this.merged;
+    if (count < FEWEST_MERGED || count * MOST_MERGED < this.number) return [];
+    return [{ sort: "rounded", name: "the table", from: first, count, stretches: [WHOLE] }];
   }
 
   /**
@@ -258,8 +307,8 @@ export async function tableOf(source, names) {
   // Times have a fraction, down to nanoseconds.
   const scale = table.unit === null ? 1 : Math.max(1, 1e9 / table.unit);
   const ticks = table.unit === null ? table.ticks : table.unit * scale;
-  const changes = changesOf(source, new RowReader(columns, hasTimes, scale, table.areOfDay), line);
-  return { ticks, changes, positions: columns };
+  const rows = new RowReader(columns, hasTimes, scale, table.areOfDay);
+  return { ticks, changes: changesOf(source, rows, line), positions: columns, faults: () => rows.faults() };
 }
 
 /**
@@ -269,6 +318,7 @@ export async function tableOf(source, names) {
  */
 async function* changesOf(source, rows, first) {
   yield* changesIn(rows, first);
+  rows.check();
   for (let lines = await source.wholeLines(); lines.length > 0; lines = await source.wholeLines()) {
     yield* changesIn(rows, lines);
   }

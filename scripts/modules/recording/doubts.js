@@ -1,8 +1,10 @@
 import { RATE } from "../port1.js";
 import { exchangedOf } from "./exchanged.js";
+import { placesOf, stretchesIn } from "./seams.js";
 import { counted } from "./text.js";
 
 /** @typedef {import("./moments.js").Moments} Moments */
+/** @typedef {import("./seams.js").Seam} Seam */
 
 /**
  * How often something was, and where first and last, in samples.
@@ -45,6 +47,10 @@ const TEXTS = {
   gap: (name) => `${name} stops`,
   end: (name) => `${name} stops, and does not go on until the recording ends`,
   lost: (name) => `the edges of ${name} jump: its wire has glitches, or samples were lost`,
+  samples: (name, places) => `the analyser lost samples: ${name} is out of step from ${places} on`,
+  piece: (name, places) => `the recording lacks ${name}: samples were lost at ${places}`,
+  checksum: (name, places) => `the checksum of ${name} is wrong: samples are damaged from ${places}`,
+  rounded: (name) => `rows of ${name} have the time of the row before them: export their times with all digits`,
 };
 
 /**
@@ -56,6 +62,7 @@ const TEXTS = {
  * @property {number|null} second when first, where that is known
  * @property {string} text as the script writes it
  * @property {number} [line] of the bus
+ * @property {import("./seams.js").Stretch[]} [stretches] where the recording is not what was on the wires
  */
 
 /** The sorts of data that changes at the edge that is taken. */
@@ -88,11 +95,14 @@ const FEWEST_SAMPLES = 4;
 
 const WHEN = /^(.*?)(?: \((?:for [^()]* from )?(?:(\d+) times, first )?(?:at )?(?:([\d.]+) s|sample \d+)(?: on)?\))?$/;
 
+/** The sorts that have places. */
+const PLACED = new Set(["samples", "piece", "checksum"]);
+
 /** @type {[string, RegExp][]} */
-const PATTERNS = Object.entries(TEXTS).map(([sort, textOf]) => [
-  sort,
-  new RegExp(`^${textOf("\0", "\0").replace(/[()?]/g, "\\$&").replace("\0", "(.+?)").replaceAll("\0", ".+?")}$`),
-]);
+const PATTERNS = Object.entries(TEXTS).map(([sort, textOf]) => {
+  const text = textOf("\0", "\x01").replace(/[()?]/g, "\\$&").replace("\0", "(?<name>.+?)").replace("\x01", "(?<other>.+?)");
+  return [sort, new RegExp(`^${text.replaceAll(/[\0\x01]/g, ".+?")}$`)];
+});
 
 /**
  * The warning that the script wrote as a text.
@@ -103,7 +113,10 @@ export function warningOf(text) {
   const [, what = "", count = "1", second] = WHEN.exec(text) ?? [];
   for (const [sort, pattern] of PATTERNS) {
     const found = pattern.exec(what);
-    if (found) return { sort, name: found[1], count: Number(count), second: second ? Number(second) : null, text };
+    if (!found) continue;
+    const { name = "", other = "" } = found.groups ?? {};
+    const stretches = PLACED.has(sort) ? { stretches: stretchesIn(other) } : {};
+    return { sort, name, count: Number(count), second: second ? Number(second) : null, text, ...stretches };
   }
   return { sort: "other", name: "", count: 1, second: null, text };
 }
@@ -133,11 +146,11 @@ export function samplesOfBit({ lines }, ticks) {
  * What makes the bits of a recording doubtful: each fact once, with its place.
  * @param {Facts} facts
  * @param {string[]} names of the wires of clock and data of each line
- * @param {{ rising: boolean, when: Moments, isSampled?: boolean }} how the bits were taken, how times are told, and
- *   whether levels are known only at samples
+ * @param {{ rising: boolean, when: Moments, isSampled?: boolean, seams?: Seam[] }} how the bits were taken, how times
+ *   are told, whether levels are known only at samples, and what is lacking or wrong in the recording
  * @returns {Warning[]}
  */
-export function doubtsOf(facts, names, { rising, when, isSampled = false }) {
+export function doubtsOf(facts, names, { rising, when, isSampled = false, seams = [] }) {
   const bit = samplesOfBit(facts, when.ticks);
   const isShared = names[0] === names[2];
   const exchanges = names.length === 4 && !isShared && bit > 0 ? exchangedOf(facts, bit) : [];
@@ -154,9 +167,25 @@ export function doubtsOf(facts, names, { rising, when, isSampled = false }) {
     // While the clock stands still, data may change at any level of it.
     return [...ofClock, ...ofData.filter(({ sort }) => ofClock.length === 0 || !EDGES.includes(sort))];
   });
-  const slow = isSampled ? slowness(facts, names[0], when) : [];
-  // Edges that are seen by chance jump.
-  return [...slow, ...exchanged, ...ofLines.filter(({ sort }) => slow.length === 0 || sort !== "lost")];
+  const isCoarse = seams.some(({ sort }) => sort === "coarse");
+  const slow = isSampled || isCoarse ? slowness(facts, names[0], when, isCoarse) : [];
+  const ofFile = seams.filter(({ sort }) => PLACED.has(sort) || sort === "rounded").map((seam) => seamTold(seam, when));
+  // Edges that are seen by chance jump, and those beside lost samples do.
+  // Of edges without their times nothing is known.
+  if (ofFile.some(({ sort }) => sort === "rounded")) return ofFile;
+  const seamCount = ofFile.reduce((sum, { count }) => sum + count, 0);
+  const isOfSeams = slow.length > 0 || (seamCount > 0 && facts.jumps.count <= MOST_JUMPS * seamCount);
+  return [...slow, ...ofFile, ...exchanged, ...ofLines.filter(({ sort }) => !isOfSeams || sort !== "lost")];
+}
+
+/** Jumps beside samples that were lost: to the rise after them, and from there. */
+const MOST_JUMPS = 2;
+
+/** @param {Seam} seam @param {Moments} when @returns {Warning} */
+function seamTold({ sort, name, from, count, stretches }, when) {
+  const told = count === 1 ? `at ${when.of(from)}` : `${count} times, first at ${when.of(from)}`;
+  const found = warning(sort, name, { other: placesOf(stretches), when, sample: from, told, count });
+  return PLACED.has(sort) ? { ...found, stretches } : found;
 }
 
 /**
@@ -164,8 +193,10 @@ export function doubtsOf(facts, names, { rising, when, isSampled = false }) {
  * @param {Facts} facts
  * @param {string} name
  * @param {Moments} when
+ * @param {boolean} isCoarse whether the edges themselves say so
  */
-function slowness(facts, name, { ticks }) {
+function slowness(facts, name, { ticks }, isCoarse) {
+  if (isCoarse) return [warning("slow", name)];
   if (!ticks || facts.lines[0].bits.count < LONG) return [];
   return Math.max(ticks / RATE, samplesOfBit(facts, null)) < FEWEST_SAMPLES ? [warning("slow", name)] : [];
 }

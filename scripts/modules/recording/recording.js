@@ -1,7 +1,10 @@
 import { Fault } from "../fault.js";
 import { positionOf } from "./channels.js";
 import { tableOf } from "./csv.js";
+import { Losses } from "./losses.js";
 import { Runs } from "./runs.js";
+import { samplingOf } from "./sampling.js";
+import { seamsOf } from "./seams.js";
 import { Source, joined } from "./source.js";
 import { dumpOf } from "./vcd.js";
 
@@ -18,8 +21,9 @@ export { channelsOf, formOf } from "./forms.js";
  */
 
 /**
- * Samples: the names of their channels, the octets of each, and how many there are a second, where that is known.
- * @typedef {{ names: string[], width: number, ticks: number|null }} Samples
+ * Samples: the names of their channels, the octets of each, how many there are a second, where that is known, and what
+ * the file lacks of them.
+ * @typedef {{ names: string[], width: number, ticks: number|null, faults?: import("./seams.js").Seam[] }} Samples
  */
 
 /**
@@ -32,6 +36,7 @@ export { channelsOf, formOf } from "./forms.js";
  * @property {string[]} names of these wires
  * @property {number|null} ticks samples a second
  * @property {() => number} begin the time of the first sample, in samples, once a piece was read
+ * @property {() => import("./seams.js").Seam[]} seams what is lacking or wrong in the pieces that were read
  * @property {AsyncGenerator<Uint8Array>} pieces
  */
 
@@ -71,21 +76,46 @@ export async function recordingOf(pieces, wanted) {
   const source = new Source(pieces);
   const names = wiresOf(channels);
   if (form === "vcd" || form === "csv") {
-    const { ticks, changes, positions } = await (form === "vcd" ? dumpOf : tableOf)(source, channels);
+    const { ticks, changes, positions, faults = () => [] } = await (form === "vcd" ? dumpOf : tableOf)(source, channels);
     checkOnce(positions, channels);
     const known = wanted.ticks ?? ticks;
     const unit = known === null ? 1 : Math.max(1, Math.floor(known / FINEST));
     const runs = new Runs(channels, known, unit);
     const wires = wiresOf([...channels.keys()]);
     const whole = { hasRuns: true, width: 8, wires, names, ticks: known === null ? null : known / unit };
-    return { ...whole, begin: () => runs.begin, pieces: closing(source, runs.of(changes)) };
+    const all = { ...whole, begin: () => runs.begin };
+    return watched(all, closing(source, runs.of(changes)), () => faults().map((seam) => ({ ...seam, from: seam.from / unit })));
   }
   if (samples === undefined) throw new Fault("what the samples are is not known");
   const positions = channels.map((name) => positionOf(name, samples.names));
   checkOnce(positions, channels);
   const whole = { hasRuns: false, width: samples.width, wires: wiresOf(positions), names };
-  const ticks = wanted.ticks ?? samples.ticks;
-  return { ...whole, ticks, begin: () => 0, pieces: closing(source, wholeSamples(source, samples.width)) };
+  const all = { ...whole, ticks: wanted.ticks ?? samples.ticks, begin: () => 0 };
+  return watched(all, closing(source, wholeSamples(source, samples.width)), () => samples.faults ?? []);
+}
+
+/**
+ * A recording whose first clock is followed while its pieces are read.
+ * @param {Omit<Recording, "pieces"|"seams">} recording
+ * @param {AsyncGenerator<Uint8Array>} pieces
+ * @param {() => import("./seams.js").Seam[]} faults of the file, in samples
+ * @returns {Recording}
+ */
+function watched(recording, pieces, faults) {
+  const { hasRuns, width, wires: [clock], names: [name] } = recording;
+  const losses = new Losses(samplingOf(recording).hold, !hasRuns);
+  const watch = async function* () {
+    try {
+      for await (const piece of pieces) {
+        if (hasRuns) losses.takeRuns(piece, clock);
+        else losses.takeSamples(piece, width, clock);
+        yield piece;
+      }
+    } finally {
+      losses.end();
+    }
+  };
+  return { ...recording, pieces: watch(), seams: () => seamsOf(faults(), losses, name) };
 }
 
 /**

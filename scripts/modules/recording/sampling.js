@@ -3,23 +3,27 @@ import { RATE } from "../port1.js";
 /** A level that stands for less than this part of a bit is a glitch. */
 const GLITCH = 16;
 
-/** Distances of edges may differ by so many samples, or by this part of a bit. */
-const JITTER = 3;
-const PART = 13;
+/** Each edge may come so many seconds too soon or too late. Distances of edges may differ by so many samples anyway. */
+const JITTER = 250e-9;
+const LEAST = 3;
+
+/** Rounding to samples makes two distances in a row differ by so many more. */
+const ROUNDING = 2;
 
 /** The most samples of a hold. */
 const MOST_HOLD = 65535;
 
 /**
  * How a recording is sampled.
- * @param {import("./recording.js").Recording} recording
+ * @param {{ hasRuns: boolean, ticks: number|null }} recording
  * @returns {{ hold: number, jump: number }} a level counts once it stood in `hold` + 1 samples; a distance of edges that
  *   differs from the one before by more than `jump` samples is a jump. Runs have ticks in place of samples, which may be
  *   many for each sample of the analyser: there half a bit is a jump.
  */
 export function samplingOf({ hasRuns, ticks }) {
-  if (ticks === null) return { hold: 0, jump: JITTER };
+  if (ticks === null) return { hold: 0, jump: LEAST };
   const bit = ticks / RATE;
   const hold = Math.min(MOST_HOLD, Math.floor(bit / GLITCH));
-  return { hold, jump: Math.max(JITTER, Math.floor(hasRuns ? bit / 2 : bit / PART)) };
+  const jump = hasRuns ? bit / 2 : 4 * JITTER * ticks + ROUNDING;
+  return { hold, jump: Math.max(LEAST, Math.floor(jump)) };
 }

@@ -18,8 +18,25 @@ const TOO_LARGE = 0xffffffff;
 
 /**
  * A file in an archive.
- * @typedef {{ name: string, method: number, begin: number, packed: number, size: number }} Member
+ * @typedef {{ name: string, method: number, begin: number, packed: number, size: number, checksum: number }} Member
  */
+
+/** The remainders of each octet by the polynomial of its checksum (CRC-32, ISO/IEC 13239, its bits in reverse). */
+const REMAINDERS = Uint32Array.from({ length: 256 }, (_, octet) => {
+  let rest = octet;
+  for (let bit = 0; bit < 8; bit++) rest = rest & 1 ? (rest >>> 1) ^ 0xedb88320 : rest >>> 1;
+  return rest;
+});
+
+/**
+ * A checksum without its final inversion, so that octets can be added.
+ * @param {Uint8Array} octets
+ * @param {number} sum of those before
+ */
+function summed(octets, sum) {
+  for (let at = 0; at < octets.length; at++) sum = (sum >>> 8) ^ REMAINDERS[(sum ^ octets[at]) & 255];
+  return sum;
+}
 
 /** @param {Part} blob */
 const viewOf = async (blob) => new DataView((await octetsOf(blob)).buffer);
@@ -52,6 +69,7 @@ function membersIn(table, count) {
     members.push({
       name: new TextDecoder().decode(new Uint8Array(table.buffer, at + SIZES.central, name)),
       method: table.getUint16(at + 10, true),
+      checksum: table.getUint32(at + 16, true),
       packed: table.getUint32(at + 20, true),
       size: table.getUint32(at + 24, true),
       begin: table.getUint32(at + 42, true),
@@ -69,25 +87,30 @@ function membersIn(table, count) {
 export const inflated = (stream) => stream.pipeThrough(new DecompressionStream("deflate-raw"));
 
 /**
- * The octets of a member, in pieces of a size, the last one shorter.
+ * The octets of a member, in pieces of a size, the last one shorter; in the end, whether they have its checksum.
  * @param {Part} blob
  * @param {Member} member
  * @param {number} size
  * @param {typeof inflated} inflate
- * @returns {AsyncGenerator<Uint8Array>}
+ * @returns {AsyncGenerator<Uint8Array, boolean>}
  */
-export async function* piecesOfMember(blob, { name, method, begin, packed }, size, inflate) {
+export async function* piecesOfMember(blob, { name, method, begin, packed, checksum }, size, inflate) {
   const head = await viewOf(blob.slice(begin, begin + SIZES.local));
   const isWhole = head.byteLength === SIZES.local && head.getUint32(0, true) === LOCAL;
   const isKnown = method === STORED || method === DEFLATED;
   if (!isWhole || !isKnown) throw new Fault(`${name} in the archive cannot be unpacked`);
   const from = begin + SIZES.local + head.getUint16(26, true) + head.getUint16(28, true);
   const stream = blob.slice(from, from + packed).stream();
+  let sum = 0xffffffff;
   try {
-    yield* gathered(method === STORED ? stream : inflate(stream), size);
+    for await (const piece of gathered(method === STORED ? stream : inflate(stream), size)) {
+      sum = summed(piece, sum);
+      yield piece;
+    }
   } catch (error) {
     throw faultOf(error, `${name} in the archive is damaged`);
   }
+  return ~sum >>> 0 === checksum;
 }
 
 /**

@@ -2,6 +2,7 @@ import { isUnfit } from "../listing/kinds.js";
 import { ANSWER } from "../port1.js";
 import { Alone } from "./alone.js";
 import { Answers } from "./answers.js";
+import { Beside } from "./beside.js";
 import { Commands } from "./commands.js";
 import { Counts, Kinds } from "./kinds.js";
 import { Tally } from "./pieces.js";
@@ -18,8 +19,9 @@ export class Bus {
   /**
    * @param {number} rate bits a second, a whole number above 0
    * @param {import("./day-time.js").DayTime|null} [dayTime] when place 0 was, so that times of day are told
+   * @param {import("./beside.js").Stretch[]} [unsure] what of the recording is not to be blamed on the bus
    */
-  constructor(rate, dayTime = null) {
+  constructor(rate, dayTime = null, unsure = []) {
     this.rate = rate;
     this.dayTime = dayTime;
     this.rows = 0;
@@ -41,6 +43,7 @@ export class Bus {
     this.rests = new Rests(rate);
     this.answers = new Answers();
     this.alone = new Alone();
+    this.beside = new Beside(unsure);
     this.misfits = { length: new Counts(), unknown: new Counts() }; // frames without an entry that fits
     /** @type {Row|null} */
     this.before = null; // the line that settles a verdict: the last one that is no stray
@@ -88,7 +91,7 @@ export class Bus {
       if (row.line === 2) {
         this.backward += 1;
       } else {
-        this.commandsOf(row).send(row.name, this.moment(row.first, 1));
+        this.commandsOf(row).send(row.name, this.moment(row.first, 1), this.beside);
       }
     }
     this.frames += 1;
@@ -143,10 +146,11 @@ export class Bus {
       this.past = Math.max(this.past, row.past);
       this.lines = row.line === null ? 1 : 2;
       this.rests.take(row, this.rows);
-      this.answers.take(row, this.rows, this.damaged);
-      this.alone.take(row, this.rows, this.damaged);
+      const isBeside = this.beside.takes(row, this.past);
+      if (!isBeside) this.answers.take(row, this.rows, this.damaged);
+      if (!isBeside) this.alone.take(row, this.rows, this.damaged);
       this.rows += 1;
-      this.take(row, this.before);
+      if (!isBeside) this.take(row, this.before);
       if (row.kind !== "stray") {
         this.before = row;
       }

@@ -41,7 +41,7 @@ export function lengthOf(bits, rate) {
  * @returns {Cause[]}
  */
 export function deadEnd(bus, end) {
-  if (end === null) return [];
+  if (end === null || bus.beside.isAll) return [];
   const { reached, longest, last } = bus.rests;
   const rest = end - reached;
   const usual = bus.commands.sorted().map(([, commands]) => usualGap(commands)).filter((gap) => gap > 0);
@@ -64,7 +64,7 @@ export function deadEnd(bus, end) {
  * @returns {Cause[]}
  */
 export function quietBus(bus, sentences) {
-  const { found } = bus.rests.ofCommands;
+  const found = bus.rests.ofCommands.found.filter(({ first, past }) => !bus.beside.isNear(first, past));
   const holes = sentences.flatMap(({ hole }) => (hole !== undefined && hole.where !== "end" ? [hole] : []));
   const [longest] = [...found].sort((one, other) => other.past - other.first - (one.past - one.first));
   if (longest === undefined) return [];
@@ -83,6 +83,29 @@ export function quietBus(bus, sentences) {
   const takes = ({ hole }) => hole !== undefined && own.includes(hole);
   return [{ sort: "quiet", text, count: places.length, places: sorted, takes }];
 }
+
+/**
+ * That some of what is wrong is the recording's fault.
+ * @param {import("./bus.js").Bus} bus
+ * @returns {Cause[]}
+ */
+export function besideSeams({ beside }) {
+  const { isAll, total, text: what } = beside;
+  if (total === 0 && !isAll) return [];
+  const [blame, stands] = ["no station is to blame for what is wrong there.", total === 1 ? "stands" : "stand"];
+  const text = isAll
+    ? `Nothing of this recording is sure: record again${total === 0 ? "." : `. It has ${what}; ${blame}`}`
+    : `The recording lacks samples, or has wrong ones, where ${what} ${stands}: ${blame}`;
+  const takes = (/** @type {Sentence} */ { sort }) => isAll && sort !== "lines";
+  return [{ sort: "beside", text, count: total, places: placesOf(beside), takes }];
+}
+
+/**
+ * Where the recording is unsure.
+ * @param {import("./beside.js").Beside} beside
+ */
+const placesOf = ({ stretches }) =>
+  stretches.filter(({ past }) => past < Infinity).map(({ first, past }) => ({ row: -1, first, past: Math.max(past, first + 1) }));
 
 /** What damage makes. */
 const OF_DAMAGE = new Set(["damage", "spoilt"]);
@@ -120,10 +143,10 @@ function misread(bus, lines) {
  * @returns {Cause[]}
  */
 export function wrongWires(bus, sentences) {
-  if (bus.lines === 1 || sentences.some(({ sort }) => sort === "lines")) return [];
+  if (bus.lines === 1 || bus.beside.isAll || sentences.some(({ sort }) => sort === "lines")) return [];
   const { frames } = bus.alone;
   const damaged = { 1: damagedOn(bus, 1), 2: damagedOn(bus, 2) };
-  const dead = /** @type {const} */ ([1, 2]).filter((line) => frames[line] === 0);
+  const dead = /** @type {const} */ ([1, 2]).filter((line) => frames[line] === 0 && bus.beside.lines[line] === 0);
   if (bus.damaged + frames[1] + frames[2] < FEWEST_UNANSWERED) return [];
   if (dead.length < 2) return dead[0] === 2 ? [neverAnswered(bus)] : unheard(bus);
   const text = misread(bus, dead.filter((line) => damaged[line] > 0));
@@ -140,6 +163,7 @@ function unheard(bus) {
   const { longest, run, frames } = bus.alone;
   if (longest.frames < FEWEST_UNHEARD) return [];
   const { begin, past, damaged, strays } = longest;
+  if (bus.beside.isNear(begin?.first ?? bus.first, past ?? bus.past)) return [];
   const isNever = frames[1] === 0;
   const { units } = bus;
   const from = units.moment(begin?.past ?? bus.first);
@@ -170,7 +194,7 @@ function unheard(bus) {
  */
 export function noAnswers(bus, sentences) {
   const { answers, missing } = bus.answers;
-  if (sentences.some(({ sort }) => sort === "lines") || (bus.lines === 2 && bus.alone.frames[2] === 0)) return [];
+  if (bus.beside.isAll || sentences.some(({ sort }) => sort === "lines") || (bus.lines === 2 && bus.alone.frames[2] === 0)) return [];
   const kinds = missing.kinds.sorted();
   if (missing.begin === null || missing.total < FEWEST_UNANSWERED || kinds.length < 2) return [];
   const when = answers === 0 ? "" : ` from ${bus.units.moment(missing.begin.first)} on`;

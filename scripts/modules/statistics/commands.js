@@ -80,14 +80,15 @@ export class Commands {
    * Takes a command down.
    * @param {string} name
    * @param {Moment} now
+   * @param {import("./beside.js").Beside} beside what a gap is not to be blamed on
    */
-  send(name, now) {
+  send(name, now, beside) {
     if (this.name === "" || isUnfit(this.name)) {
       this.name = name;
     }
     this.sent += 1;
     this.first ??= now;
-    if (this.last !== null) {
+    if (this.last !== null && !beside.isNear(this.last.place, now.place)) {
       const length = now.place - this.last.place;
       this.gaps.add(length);
       if (this.longest === null || length > this.longest.to.place - this.longest.from.place) {

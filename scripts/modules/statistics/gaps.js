@@ -74,7 +74,8 @@ function holesOf(kind, commands, bus) {
     { from: begin, to: first, where: "begin", others: 0 },
     { from: last, to: bus.moment(bus.past, 0), where: "end", others: 0 },
   ];
-  const far = candidates.filter(({ from, to }) => to.place - from.place > limit);
+  const isFar = (/** @type {number} */ from, /** @type {number} */ to) => to - from > limit && !bus.beside.isNear(from, to);
+  const far = candidates.filter(({ from, to }) => isFar(from.place, to.place));
   return far.map(({ from, to, where, others }) => {
     const gap = gapBetween(from, to, bus.damage);
     const times = gap.length / usual;

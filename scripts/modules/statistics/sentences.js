@@ -8,7 +8,7 @@ const MOST_NAMED = 6;
 /**
  * What a sentence is about, and what stands in place of several.
  * @typedef {"lines"|"gap"|"silent"|"missing"|"late"|"slow"|"spoilt"|"damage"|"length"|"unknown"|"stray"|"more"|"rest"|
- *   "quiet"|"mute"|"wires"} Sort
+ *   "quiet"|"mute"|"wires"|"beside"} Sort
  */
 
 /**

@@ -145,7 +145,7 @@ export function verdictOf(bus, known = NOTHING_KNOWN, sentences = wrong(bus, kno
   const waiting = waitingOf(bus);
   const isLong = isWaitingLong(bus, known.end);
   const areExchanged = sentences.some(({ sort }) => sort === "lines");
-  const areWrong = sentences.some(({ sort }) => sort === "wires");
+  const areWrong = bus.beside.isAll || sentences.some(({ sort }) => sort === "wires");
   const open = isJudged && lack.length === 0 ? windowsLacking(bus, known) : [];
   // Without the frames of a line, neither the bus nor the dictionary is to blame for what is not judged.
   const own = areWrong ? lack.filter(({ sort }) => sort === "dictionary") : lack;

@@ -1,4 +1,4 @@
-import { deadEnd, noAnswers, quietBus, wrongWires } from "./causes.js";
+import { besideSeams, deadEnd, noAnswers, quietBus, wrongWires } from "./causes.js";
 import { holes } from "./gaps.js";
 import { sentencesBySort } from "./sentences.js";
 import { slowOf } from "./slow.js";
@@ -68,7 +68,7 @@ export function judgedBus(bus, { end, entries }) {
   const all = sorts.flat();
   const wires = wrongWires(bus, all);
   const others = all.filter((sentence) => !wires.some(({ takes }) => takes(sentence)));
-  const causes = [...wires, ...deadEnd(bus, end), ...noAnswers(bus, others), ...quietBus(bus, others)];
+  const causes = [...besideSeams(bus), ...wires, ...deadEnd(bus, end), ...noAnswers(bus, others), ...quietBus(bus, others)];
   const areExchanged = all.some(({ sort }) => sort === "lines");
   /** @param {Sentence} sentence */
   const isOwn = (sentence) =>

@@ -124,7 +124,7 @@ function longName() {
 /** @type {[string, Uint8Array, RegExp][]} */
 const FAULTS = [
   ["cut off", whole.subarray(0, whole.length >> 1), /^the archive is cut off/],
-  ["with damaged samples", spoilt(), /in the archive is damaged$/],
+  ["with damaged samples", spoilt(), /in the archive is damaged \(at \d+\.\d{6} s\)$/],
   ["with a name of any length", longName(), /^the table of the archive's files is damaged$/],
   ["without metadata", readFileSync(join(folder, "other.sr")), /no session of PulseView: it has no metadata$/],
   ["with samples of half an octet more", readFileSync(join(folder, "half.sr")), /^the session has no logic channels/],

@@ -1,0 +1,249 @@
+"""Recordings with faults of the analyser or of their file, one table: what is said of each, and that no station is blamed.
+
+Nothing is wrong on the bus. Each recording is read as bus-report does it, and all that it says is in the table.
+"""
+
+import io
+import re
+import zipfile
+from functools import lru_cache
+from pathlib import Path
+from typing import Callable, List, NamedTuple, Sequence, Tuple
+
+from needs import needs_module
+from tests.case import Run, ran
+
+try:
+    import numpy as np
+    from tests.simulated import cabinet
+    from tests.simulated.cabinet import FLAG, Answer, Cabinet, body_of, recorded_from
+except ModuleNotFoundError:
+    pass  # Each test that needs numpy then says so.
+
+RUNS: List[Run] = []
+
+NAMES = ["TXC", "TXD", "RXC", "RXD"]
+
+POLLS = 24
+
+# A loss is told within so many bits of its place.
+NEAR = 200
+
+
+@lru_cache(maxsize=None)
+def healthy(samples: int, jitter: int = 0) -> "np.ndarray":
+    """So many samples a second of a bus on which all commands are answered."""
+    made = Cabinet(5, 80, True, samples, POLLS, jitter)
+
+    class Bus(cabinet.Bus):
+        def poll(self) -> None:
+            number, generator = len(self.fates), self.generator
+            station, kind = [1, 2, 16][number % 3], number % 2
+            self.fates.append(("answered", station, kind))
+            command, answer = ([generator.randrange(256) for _ in range(count)] for count in cabinet.LENGTHS[kind])
+            self.send(FLAG + body_of([station, 0x83, kind, *command]) + FLAG)
+            reply = FLAG + body_of([station, 0x83, kind + 128, *answer]) + FLAG
+            self.answers.append(Answer(self.count + generator.uniform(9, 150), reply))
+            self.send("1" * generator.randrange(900, 1100))
+
+    bus = Bus(made)
+    for _ in range(POLLS):
+        bus.poll()
+    bus.send("1" * 64)
+    return recorded_from(made, bus).samples
+
+
+def changes_of(samples: "np.ndarray") -> "np.ndarray":
+    return np.flatnonzero(np.concatenate(([True], np.diff(samples) != 0)))
+
+
+def dump(samples: "np.ndarray", rate: int) -> bytes:
+    """A value change dump, whose times are whole microseconds up to 1 MHz and nanoseconds above, as sigrok's are."""
+    scale, ticks = ("1 us", 1_000_000) if rate <= 1_000_000 else ("1 ns", 1_000_000_000)
+    words = [f"$timescale {scale} $end"]
+    words += [f"$var wire 1 {code} {name} $end" for code, name in zip("abcd", NAMES)] + ["$enddefinitions $end"]
+    for at in changes_of(samples):
+        levels = " ".join(f"{samples[at] >> wire & 1}{code}" for wire, code in enumerate("abcd"))
+        words.append(f"#{int(at) * ticks // rate} {levels}")
+    return "".join(f"{word}\n" for word in words).encode()
+
+
+def table(samples: "np.ndarray", rate: int, time: str = "{:.9f}") -> bytes:
+    """A table with a row for each change, as Logic exports it."""
+    rows = [",".join(["Time [s]", *NAMES])]
+    for at in changes_of(samples):
+        rows.append(",".join([time.format(at / rate), *(str(samples[at] >> wire & 1) for wire in range(4))]))
+    return "".join(f"{row}\n" for row in rows).encode()
+
+
+def analog_table(samples: "np.ndarray", rate: int) -> bytes:
+    """A table of the wires' volts."""
+    rows = [",".join(["Time [s]", *NAMES])]
+    for at in range(1000):
+        volts = [f"{3.29 * (samples[at] >> wire & 1) + 0.013:.3f}" for wire in range(4)]
+        rows.append(",".join([f"{at / rate:.9f}", *volts]))
+    return "".join(f"{row}\n" for row in rows).encode()
+
+
+def samples_in(octets: bytes) -> "np.ndarray":
+    return np.frombuffer(bytes(octets), dtype=np.uint8)
+
+
+def session(samples: "np.ndarray", rate: int, lacking: Sequence[int] = (), wrong: int = 0) -> bytes:
+    """A session of sigrok, its samples in three parts, some of which are lacking; one may have other samples."""
+    made = io.BytesIO()
+    probes = "".join(f"probe{at}={name}\n" for at, name in enumerate(NAMES, 1))
+    with zipfile.ZipFile(made, "w", zipfile.ZIP_STORED) as archive:
+        archive.writestr("version", "2")
+        device = f"capturefile=logic-1\ntotal probes=4\nsamplerate={rate}\n{probes}unitsize=1\n"
+        archive.writestr("metadata", f"[global]\nsigrok version=0.5.2\n\n[device 1]\n{device}")
+        parts = np.array_split(samples, 3)
+        for number, part in enumerate(parts, 1):
+            if number not in lacking:
+                archive.writestr(f"logic-1-{number}", part.tobytes())
+    octets = bytearray(made.getvalue())
+    if wrong:
+        part = parts[wrong - 1].tobytes()
+        begin, count = octets.index(part) + len(part) // 4, len(part) // 2
+        octets[begin : begin + count] = (samples_in(octets[begin : begin + count]) ^ 2).tobytes()
+    return bytes(octets)
+
+
+class Lossy(NamedTuple):
+    """Samples of which some are lacking, and the numbers of the bits that come there."""
+
+    samples: "np.ndarray"
+    places: List[int]
+
+
+def lossy(samples: "np.ndarray", rate: int, count: int) -> Lossy:
+    """Loses so many stretches, each a number of bits that is not whole, in a part of the recording each."""
+    generator, left, places, bit = np.random.default_rng(count), [], [], rate / cabinet.RATE
+    kept = np.array_split(samples, count + 1)
+    for number, part in enumerate(kept):
+        lost = round((generator.integers(100, 400) + generator.uniform(0.2, 0.8)) * bit) if number else 0
+        left.append(part[lost:])
+    rises = [np.count_nonzero(np.diff(part & 1) == 1) for part in left]
+    places = list(np.cumsum(rises)[:-1])
+    return Lossy(np.concatenate(left), [int(place) for place in places])
+
+
+class Row(NamedTuple):
+    """A recording, and what is said of it: the warnings, or the fault; and what is said to be wrong. N stands for each
+    number that is not known. Places of losses are compared apart."""
+
+    name: str
+    made: Callable[[], bytes]
+    warnings: Sequence[str] = ()
+    sentences: Sequence[str] = ()
+    fault: str = ""
+    places: Callable[[], Sequence[int]] = list
+
+
+OUT_OF_STEP = "the analyser lost samples: TXC is out of step from places N on (N times, first at N s)"
+BLAME = "no station is to blame for what is wrong there."
+LACKS = f"The recording lacks samples, or has wrong ones, where N stand: {BLAME}"
+UNSURE = "Nothing of this recording is sure: record again."
+SLOW = "TXC has fewer than four samples a bit: record 1 million samples a second or more"
+ROUNDED = "rows of the table have the time of the row before them: export their times with all digits (N times, first at N s)"
+ANALOG = 'row 1: "{}" is no level, 0 or 1: export digital channels, and no analog ones'
+
+# Where a loss is.
+Writer = Callable[["np.ndarray", int], bytes]
+
+
+def lost(name: str, write: Writer, rate: int, count: int) -> Row:
+    """Stretches of samples that are lacking."""
+
+    def made() -> bytes:
+        return write(lossy(healthy(rate), rate, count).samples, rate)
+
+    return Row(name, made, [OUT_OF_STEP], [LACKS], places=lambda: lossy(healthy(rate), rate, count).places)
+
+
+def coarse(name: str, write: Writer) -> Row:
+    """Two samples a bit."""
+    rate = 320_000
+    return Row(name, lambda: write(healthy(6 * rate)[::6], rate), [SLOW], [UNSURE])
+
+
+def right(name: str, write: Writer, rate: int, jitter: float = 0) -> Row:
+    """A right recording, whose edges may come so many seconds too late or too soon."""
+    return Row(name, lambda: write(healthy(rate, round(2 * jitter * rate)), rate))
+
+
+def rows() -> List[Row]:
+    megahertz = 1_000_000
+    checksum = "the checksum of logic-1-2 is wrong: samples are damaged from places N to N (at N s)"
+    return [
+        *(right(f"right: session, {rate} MHz, 250 ns", session, rate * megahertz, 250e-9) for rate in (1, 4, 8)),
+        right("right: dump, 4 MHz, 250 ns", dump, 4 * megahertz, 250e-9),
+        right("right: table, 1 MHz", table, megahertz),
+        lost("lost samples: session, 1 MHz", session, megahertz, 6),
+        lost("lost samples: session, 8 MHz", session, 8 * megahertz, 6),
+        lost("lost samples: dump, 1 MHz", dump, megahertz, 6),
+        lost("lost samples: dump, 4 MHz", dump, 4 * megahertz, 6),
+        lost("lost samples: table, 1 MHz", table, megahertz, 6),
+        coarse("two samples a bit: session", session),
+        coarse("two samples a bit: dump", dump),
+        coarse("two samples a bit: table", table),
+        Row("rounded times", lambda: table(healthy(megahertz), megahertz, "{:.2E}"), [ROUNDED], [UNSURE]),
+        Row("volts", lambda: analog_table(healthy(megahertz), megahertz), fault=ANALOG.format("0.013")),
+        Row("a part that is lacking", lambda: session(healthy(megahertz), megahertz, lacking=[2]),
+            ["the recording lacks logic-1-2: samples were lost at place N (at N s)"], [LACKS]),
+        Row("a wrong checksum", lambda: session(healthy(megahertz), megahertz, wrong=2), [checksum], [LACKS]),
+    ]
+
+
+class Said(NamedTuple):
+    warnings: List[str]
+    faults: List[str]
+    sentences: List[str]
+    places: List[int]
+
+
+def plain(text: str) -> str:
+    """A text with N for its numbers, as far as they depend on the bits."""
+    text = re.sub(r"\d+(, \d+)+(?= on \()", "N", text)
+    text = re.sub(r"(?<=places )\d+ to \d+|(?<=place )\d+", lambda found: re.sub(r"\d+", "N", found.group()), text)
+    text = re.sub(r"\b\d+(\.\d+)?(?= (s\b|times,))", "N", text)
+    return re.sub(r"(?<=record again\.) It has \d.*", "", re.sub(r"(?<=where )\d.* stands?(?=:)", "N stand", text))
+
+
+def said_of(row: Row, folder: Path) -> Said:
+    """What bus-report says of a recording."""
+    recording, dictionary = folder / "recording", folder / "cabinet.toml"
+    recording.write_bytes(row.made())
+    dictionary.write_text(cabinet.DICTIONARY, encoding="ascii")
+    got = ran(["bus-report", "--dictionary", dictionary, recording, folder / row.name, *NAMES])
+    told = [line.partition(": ")[2] for line in got.stderr.decode().splitlines()[1:]]
+    warnings = [line.partition(": ")[2] for line in told if line.startswith("warning: ")]
+    faults = [line for line in told if not line.startswith("warning: ") and " edges" not in line]
+    head = got.stdout.decode().split("\n\n")[1:]
+    wrong = next((text for text in head if text.startswith("What is wrong")), "")
+    text = " ".join(line.strip() for line in wrong.splitlines()[1:] if re.match(r"   \S|\d+\. ", line))
+    sentences = [each for each in re.split(r"(?:^| )\d+\. (?=[A-Z0-9])", text) if each]
+    places = [int(place) for each in warnings for place in re.findall(r"\d+", "".join(re.findall(r"places (.*) on ", each)))]
+    return Said([plain(each) for each in warnings], faults, [plain(each) for each in sentences], places)
+
+
+def problems_of(row: Row, folder: Path) -> List[str]:
+    said = said_of(row, folder)
+    pairs: List[Tuple[str, Sequence[str], Sequence[str]]] = [
+        ("warnings", row.warnings, said.warnings),
+        ("faults", [row.fault] * bool(row.fault), said.faults),
+        ("sentences", row.sentences, said.sentences),
+    ]
+    problems = [f"{what}: wanted {wanted}, got {got}" for what, wanted, got in pairs if list(wanted) != list(got)]
+    due = row.places()
+    are_near = len(due) == len(said.places) and all(abs(one - other) <= NEAR for one, other in zip(due, said.places))
+    return problems + ([] if are_near else [f"places: wanted {due}, got {said.places}"])
+
+
+def faults_of_the_analyser(folder: Path) -> List[str]:
+    """Each recording of the table: what is told of it, and that nothing else is."""
+    needs_module("numpy")
+    return [f"{row.name}: {problem}" for row in rows() for problem in problems_of(row, folder)]
+
+
+TESTS = [faults_of_the_analyser]
