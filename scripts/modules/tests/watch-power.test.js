@@ -13,6 +13,7 @@ import { read } from "../watch/memory.js";
 import { RecordedWall } from "../watch/wall.js";
 import { Watch } from "../watch/watch.js";
 import { Left, Quick, TakenDown, lay } from "./support/cut_disk.js";
+import { randomOf } from "./support/random.js";
 import { LINES, SECONDS, WANTED, rowsOf } from "./support/talk.js";
 
 const ROWS = rowsOf(LINES);
@@ -183,6 +184,49 @@ test("power fails at any octet of a segment: what the next run judges is what st
     const octets = whole.subarray(0, whole.length - (step.octets.length >> 1) - 1);
     const files = new Map([...before, [step.path, octets]]);
     assert.deepEqual(await problemsAfter(files, bitsIn(files)), []);
+  }
+});
+
+/** What stands in place of a part of a file. */
+const PARTS = [null, true, 0, -1, 1.5, 1e300, -1e300, 9e15, "", "x", "1-1", [], {}, [[]], [null], [{}], { a: 1 }];
+
+/** The ways to all parts of a value. */
+const waysIn = (value, way = []) =>
+  [way, ...Object.entries(Object(value)).flatMap(([name, part]) =>
+    (typeof value === "object" ? waysIn(part, [...way, name]) : []))];
+
+/** A value of which a part is another one, or is not there. */
+function spoilt(value, random) {
+  const copy = structuredClone(value);
+  const way = random.one(waysIn(copy).slice(1));
+  const owner = way.slice(0, -1).reduce((part, name) => part[name], copy);
+  if (random.once(4)) delete owner[way[way.length - 1]];
+  else owner[way[way.length - 1]] = random.one(PARTS);
+  return copy;
+}
+
+test("a state or a log of which a part is another one is read or set aside, and never ends the watch", async () => {
+  const [steps, left, random] = [await stepsOfRun(), new Left(), randomOf(17)];
+  for (const step of steps) {
+    left.step(step);
+    if (step.kind !== "rename" || step.to !== "state.json") continue;
+    for (let count = 0; count < 12; count++) {
+      const files = left.files(false);
+      const state = spoilt(JSON.parse(files.get("state.json").toString()), random);
+      const log = logOf(files).map((entry) => (random.once(4) ? spoilt(entry, random) : entry));
+      files.set("state.json", Buffer.from(JSON.stringify(state)));
+      files.set("incidents.jsonl", Buffer.from(log.map((entry) => `${JSON.stringify(entry)}\n`).join("")));
+      await inFolder(async (folder) => {
+        lay(files, folder);
+        /** @type {string[]} */
+        const said = [];
+        const watch = new Tried(folder, new Quick(), (text) => said.push(text));
+        await watch.begin();
+        await watch.end();
+        const [line = "the state: "] = said;
+        assert.ok(said.length <= 1 && line.startsWith("the state: ") && !line.includes("\n"), said.join("\n"));
+      });
+    }
   }
 });
 

@@ -1,6 +1,7 @@
 import { existsSync, readFileSync, statSync } from "node:fs";
 import { dirname } from "node:path";
 import { DISK } from "./disk.js";
+import { isRun } from "./memory.js";
 
 /** @typedef {{ event: string, wall: string, run: number, place: number } & Record<string, unknown>} Entry of the log */
 
@@ -74,7 +75,7 @@ export class Journal {
 
   /** The number of the last run that the log has, or 0. */
   get lastRun() {
-    return this.told().reduce((last, { run }) => (run > last ? run : last), 0);
+    return Math.max(0, ...this.told().map(({ run }) => run).filter(isRun));
   }
 
   /** @param {Entry} record */
