@@ -137,6 +137,19 @@ test("an incident within which the watch ends is cut, and may go on in the next 
   assert.equal(next.open?.continues, "1-1");
 });
 
+test("that bits are missing beside an incident is still known in the next run", () => {
+  const office = { zero: () => 0, keep() {}, save() {}, log() {} };
+  const incidents = new Incidents(1, { after: 1, longest: 600 }, { ...office, settled: () => 0 });
+  const second = 153600;
+  for (const at of [1, 5, 9]) incidents.trigger(`burst ${at}`, at * second, at * second + 1);
+  incidents.seam(5.5 * second);
+  incidents.tick(10.5 * second);
+  const { open, waiting } = JSON.parse(JSON.stringify(incidents.kept(() => 7, [8.5 * second])));
+  const next = new Incidents(2, { after: 1, longest: 600 }, office);
+  next.takeOver([...waiting, open]);
+  assert.deepEqual(next.waiting.map((one) => [next.recordOf(one).seam, one.zero]), [[undefined, 7], [true, 7], [true, 7]]);
+});
+
 /** How often missing answers are told where a run had some of them and the next one the others. */
 function toldOfRow(before, after, isNear, isAnswered = false) {
   /** @type {string[]} */

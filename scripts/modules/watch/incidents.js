@@ -21,6 +21,7 @@ const NEAR_SEAM = 1;
  * @property {Record<string, number>} causes
  * @property {number} zero
  * @property {boolean} cut whether the watch ended before it
+ * @property {boolean} [seam] whether bits were missing beside it in its run
  * @property {string} [continues] the incident of the run before that goes on in this one
  */
 
@@ -82,20 +83,26 @@ export class Incidents {
     this.office = office;
   }
 
-  /** What outlives the watch. */
-  kept() {
-    const { open, waiting, over, long, before, count } = this;
-    const timed = (/** @type {Incident} */ incident) => ({ ...incident, zero: this.office.zero(incident.first) });
-    const all = [...waiting, ...over.map(timed)];
-    return { open: open && timed(open), waiting: all, long: [...long], before, count, ahead: this.ahead };
+  /**
+   * What outlives the watch.
+   * @param {(place: number) => number} [zero] when place 0 was by the clock of a place, were nothing more to come
+   * @param {number[]} [seams] places before which bits are missing then
+   */
+  kept(zero = this.office.zero, seams = []) {
+    const { open, waiting, over, long, before, count, ahead } = this;
+    const all = [...this.seams, ...seams];
+    const marked = (/** @type {Incident} */ one) => (this.isAtSeam(one, all) ? { ...one, seam: true } : one);
+    const timed = (/** @type {Incident} */ one) => marked({ ...one, zero: zero(one.first) });
+    const untold = [...waiting.map(marked), ...over.map(timed)];
+    return { open: open && timed(open), waiting: untold, long: [...long], before, count, ahead, seams: all };
   }
 
   /**
    * Goes on where another one of the same run was.
    * @param {import("./memory.js").Kept["incidents"]} kept
    */
-  resume({ open, waiting, long, before, count, ahead = [] }) {
-    Object.assign(this, { open, waiting, long: new Map(long), before, count, ahead: [...ahead] });
+  resume({ open, waiting, long, before, count, ahead = [], seams = [] }) {
+    Object.assign(this, { open, waiting, long: new Map(long), before, count, ahead: [...ahead], seams: [...seams] });
   }
 
   /**
@@ -259,10 +266,11 @@ export class Incidents {
   /**
    * Whether an incident is near a place before which bits are missing.
    * @param {Incident} incident
+   * @param {number[]} [seams]
    */
-  isAtSeam({ run, first, past }) {
+  isAtSeam({ run, first, past, seam = false }, seams = this.seams) {
     const near = NEAR_SEAM * RATE;
-    return run === this.run && this.seams.some((place) => first - near < place && place < past + near);
+    return seam || (run === this.run && seams.some((place) => first - near < place && place < past + near));
   }
 
   /**

@@ -11,8 +11,8 @@ import { DISK } from "./disk.js";
  * @property {number} zero when place 0 was, by the last place
  * @property {{ place: number, zero: number }[]} [zeros] the same up to places before which input was lost
  * @property {ReturnType<import("./triggers.js").Triggers["kept"]>} triggers
- * @property {Omit<ReturnType<import("./incidents.js").Incidents["kept"]>, "ahead">
- *   & { ahead?: import("./incidents.js").Event[] }} incidents
+ * @property {Omit<ReturnType<import("./incidents.js").Incidents["kept"]>, "ahead"|"seams">
+ *   & { ahead?: import("./incidents.js").Event[], seams?: number[] }} incidents
  */
 
 const NOTHING = {
@@ -77,7 +77,8 @@ const isEvent = (value) =>
 const areIncidents = (value) =>
   isObject(value) && isPlace(value.count) && orNull(isIncident)(value.open) &&
   areAll(value.waiting, isIncident) && areAll(value.before, isIncident) && areAll(value.long, isLong) &&
-  (value.ahead === undefined || areAll(value.ahead, isEvent));
+  (value.ahead === undefined || areAll(value.ahead, isEvent)) &&
+  (value.seams === undefined || areAll(value.seams, isPlace));
 
 /** @param {any} value */
 const isStep = (value) => isObject(value) && isPlace(value.place) && isTime(value.zero);

@@ -139,8 +139,10 @@ export class Watch {
 
   /** Writes down what outlives the watch. */
   keep(isOver = false) {
-    const triggers = this.triggers.kept((place) => this.timeOf(place));
-    const [{ zero, zeros }, wall, incidents] = [this.wall, this.wall.now(), this.incidents.kept()];
+    const { zero, zeros } = this.wall.atEnd;
+    const zeroAt = (/** @type {number} */ place) => stepAt(zeros, place)?.zero ?? zero;
+    const triggers = this.triggers.kept((place) => zeroAt(place) + place / RATE);
+    const [wall, incidents] = [this.wall.now(), this.incidents.kept(zeroAt, this.unsettled())];
     /** @type {import("./memory.js").Kept} */
     const known = { run: this.number, isOver, wall, zero, zeros, triggers, incidents };
     this.tried("ring", () => this.ring.sync());
@@ -169,11 +171,28 @@ export class Watch {
   look(lost) {
     const set = this.wall.set();
     if (set !== 0) this.log("clock set", { seconds: Number(set.toFixed(3)) });
+    this.lose(lost);
+  }
+
+  /** @param {number} lost seconds of input */
+  lose(lost) {
     if (lost === 0) return;
     this.lost += lost;
     const place = this.wall.zeros.at(-1)?.place ?? 0;
     this.incidents.seam(place);
     this.log("input lost", { wall: iso(this.timeOf(place)), place, seconds: Number(lost.toFixed(3)) });
+  }
+
+  /** The place, if there is one, after which it is not known yet whether input was lost. */
+  unsettled() {
+    const { settled } = this.wall;
+    return settled < this.packer.places ? [settled] : [];
+  }
+
+  /** Nothing more comes by which it is known whether input was lost: what has come decides. */
+  settle() {
+    this.unsettled().forEach((place) => this.incidents.seam(place));
+    this.lose(this.wall.settle());
   }
 
   /**
@@ -225,6 +244,7 @@ export class Watch {
    * @param {Record<string, unknown>} [more]
    */
   seam(event, more = {}) {
+    this.settle();
     this.incidents.seam(this.packer.places);
     this.triggers.seam(this.packer.places);
     this.wall.restart();
@@ -276,7 +296,7 @@ export class Watch {
     this.incidents.finish(places);
     this.incidents.cutOff();
     this.incidents.close();
-    this.wall.settle();
+    this.settle();
     this.incidents.settle(Infinity);
     await this.saving;
     this.ring.goOn(this.ring.past);
