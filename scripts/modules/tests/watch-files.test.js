@@ -147,7 +147,8 @@ test("that bits are missing beside an incident is still known in the next run", 
   const { open, waiting } = JSON.parse(JSON.stringify(incidents.kept(() => 7, [8.5 * second])));
   const next = new Incidents(2, { after: 1, longest: 600 }, office);
   next.takeOver([...waiting, open]);
-  assert.deepEqual(next.waiting.map((one) => [next.recordOf(one).seam, one.zero]), [[undefined, 7], [true, 7], [true, 7]]);
+  const told = next.waiting.map((one) => [next.recordOf(one).seam, one.zero]);
+  assert.deepEqual(told, [[undefined, 7], [true, 7], [true, 7]]);
 });
 
 /** How often missing answers are told where a run had some of them and the next one the others. */

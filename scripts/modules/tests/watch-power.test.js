@@ -150,6 +150,40 @@ for (const isFlushed of [false, true]) {
   });
 }
 
+/** The steps of a next run on some files, which takes over what the run before left. */
+const stepsOfNext = (files) => inFolder(async (folder) => {
+  lay(files, folder);
+  const disk = new TakenDown(folder);
+  const watch = new Tried(folder, disk);
+  await watch.begin();
+  await watch.end();
+  return disk.steps;
+});
+
+/** Whether a step changes what a next run finds of the run before. */
+const isTold = ({ kind, path = "", to = "" }) => (kind === "write" && path === "incidents.jsonl") || to === "state.json";
+
+test("power fails after each step of a next run too, which takes over what the run before left", async () => {
+  const [steps, left] = [await stepsOfRun(), new Left()];
+  let tried = 0;
+  for (const [number, step] of steps.entries()) {
+    left.step(step);
+    if (!isTold(step)) continue;
+    for (const isFlushed of [false, true]) {
+      const files = left.files(isFlushed);
+      const next = new Left(files);
+      for (const [at, own] of (await stepsOfNext(files)).entries()) {
+        next.step(own);
+        const found = next.files(isFlushed);
+        const problems = await problemsAfter(found, bitsIn(files));
+        assert.deepEqual(problems, [], `after step ${number}, then ${at}, ${own.kind} ${own.path ?? own.to}`);
+        tried += 1;
+      }
+    }
+  }
+  assert.ok(tried > 500, `${tried}`);
+});
+
 test("power fails at each octet of what is written: the log has whole lines, the state is the one before", async () => {
   const [steps, left] = [await stepsOfRun(), new Left()];
   const states = steps.filter(({ kind, path }) => kind === "write" && path === "state.json.new");

@@ -73,6 +73,12 @@ export class Left {
   names = new Map(); // files by path: their octets, and those that were flushed
   flushed = new Map(); // of names that were
 
+  /** @param {Map<string, Buffer>} [files] that are there, flushed */
+  constructor(files = new Map()) {
+    this.names = new Map([...files].map(([path, octets]) => [path, { octets, flushed: octets }]));
+    this.flushed = new Map(this.names);
+  }
+
   open({ path, flags }) {
     const known = this.names.get(path);
     if (!known) this.names.set(path, { octets: Buffer.alloc(0), flushed: Buffer.alloc(0) });
