@@ -150,6 +150,18 @@ for (const isFlushed of [false, true]) {
   });
 }
 
+test("power fails after each step, and by chance some is left that was not flushed", async () => {
+  const [steps, left, random] = [await stepsOfRun(), new Left(), randomOf(29)];
+  for (const [number, step] of steps.entries()) {
+    left.step(step);
+    for (let count = 0; count < 2; count++) {
+      const files = left.mixed(random);
+      const problems = await problemsAfter(files, bitsIn(left.files(true)));
+      assert.deepEqual(problems, [], `after step ${number}, ${step.kind} ${step.path ?? step.to}: ${[...files.keys()]}`);
+    }
+  }
+});
+
 /** The steps of a next run on some files, which takes over what the run before left. */
 const stepsOfNext = (files) => inFolder(async (folder) => {
   lay(files, folder);

@@ -119,6 +119,15 @@ export class Left {
     this[step.kind](step);
   }
 
+  /** The files where by chance some stayed that was not flushed: names, and octets up to any. */
+  mixed(random) {
+    const names = new Set([...this.names.keys(), ...this.flushed.keys()]);
+    const files = [...names].map((name) => [name, (random.once(2) ? this.names : this.flushed).get(name)]);
+    const lengthOf = ({ octets, flushed }) =>
+      random.once(2) ? octets.length : random.between(Math.min(flushed.length, octets.length), octets.length);
+    return new Map(files.flatMap(([name, file]) => (file ? [[name, file.octets.subarray(0, lengthOf(file))]] : [])));
+  }
+
   /** The files, by name. @param {boolean} isFlushed whether only what was flushed stays */
   files(isFlushed) {
     const names = isFlushed ? this.flushed : this.names;
