@@ -6,6 +6,7 @@ import { tmpdir } from "node:os";
 import { join } from "node:path";
 import { test } from "node:test";
 
+import { DISK } from "../watch/disk.js";
 import { ARRIVALS, PAIRS, Packer, octetsBefore } from "../watch/forms.js";
 import { Incidents } from "../watch/incidents.js";
 import { Journal } from "../watch/journal.js";
@@ -20,6 +21,7 @@ async function within(body) {
   const folder = mkdtempSync(join(tmpdir(), "port1-"));
   try {
     await body(folder);
+    await DISK.idle;
   } finally {
     rmSync(folder, { recursive: true, force: true });
   }

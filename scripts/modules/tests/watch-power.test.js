@@ -12,7 +12,7 @@ import { Journal } from "../watch/journal.js";
 import { read } from "../watch/memory.js";
 import { RecordedWall } from "../watch/wall.js";
 import { Watch } from "../watch/watch.js";
-import { Left, Quick, TakenDown, lay } from "./support/cut_disk.js";
+import { Left, Quick, Slow, TakenDown, lay } from "./support/cut_disk.js";
 import { randomOf } from "./support/random.js";
 import { LINES, SECONDS, WANTED, rowsOf } from "./support/talk.js";
 
@@ -85,7 +85,23 @@ const stepsOfRun = () => inFolder(async (folder) => {
     await watch.take(Buffer.from("0".repeat(RATE)));
     await watch.ring.packing;
     await watch.saving;
+    await disk.idle;
   }
+  await watch.end();
+  return disk.steps;
+});
+
+/** The same on a disk that flushes so many things in each second of the talk, and the others in the end. */
+const stepsOfSlowRun = (flushes) => inFolder(async (folder) => {
+  const disk = new Slow(folder);
+  const watch = new Tried(folder, disk);
+  await watch.begin();
+  for (let second = 0; second < SECONDS; second++) {
+    await watch.take(Buffer.from("0".repeat(RATE)));
+    for (let count = 0; count < flushes; count++) await disk.let();
+  }
+  assert.ok(disk.waiting.length > 0);
+  disk.letAll();
   await watch.end();
   return disk.steps;
 });
@@ -127,10 +143,17 @@ const problemsAfter = (files, bits) => inFolder(async (folder) => {
   ];
 });
 
-/** How many places the ring has among some files. */
+/** How many places the ring has among some files, up to the first that is missing; one that is packed is whole. */
 function bitsIn(files) {
-  const open = [...files].filter(([name]) => /^ring\/[0-9-]+$/.test(name));
-  return Math.max(0, ...open.map(([name, octets]) => Number(name.slice(12)) + 4 * octets.length));
+  const segments = [...files].filter(([name]) => /^ring\/[0-9-]+(\.gz)?$/.test(name)).sort();
+  let past = 0;
+  for (const [at, [name, octets]] of segments.entries()) {
+    const place = Number(name.slice(12).split(".")[0]);
+    if (place > past) break;
+    const next = Number(segments[at + 1]?.[0].slice(12).split(".")[0] ?? place);
+    past = name.endsWith(".gz") ? next : place + 4 * octets.length;
+  }
+  return past;
 }
 
 for (const isFlushed of [false, true]) {
@@ -146,6 +169,20 @@ for (const isFlushed of [false, true]) {
       assert.ok(lost <= KEEP + 1, `${lost} s of bits are lost after step ${number}`);
       const problems = await problemsAfter(files, bitsIn(files));
       assert.deepEqual(problems, [], `after step ${number}, ${step.kind} ${step.path}`);
+    }
+  });
+}
+
+for (const flushes of [0, 1]) {
+  test(`bits come while a slow disk flushes ${flushes} things a second, and power fails after each step`, async () => {
+    const [steps, left] = [await stepsOfSlowRun(flushes), new Left()];
+    for (const [number, step] of steps.entries()) {
+      left.step(step);
+      for (const isFlushed of [false, true]) {
+        const files = left.files(isFlushed);
+        const problems = await problemsAfter(files, bitsIn(files));
+        assert.deepEqual(problems, [], `after step ${number}, ${step.kind} ${step.path ?? step.to}`);
+      }
     }
   });
 }

@@ -7,6 +7,7 @@ import { join } from "node:path";
 import { test } from "node:test";
 
 import { RATE } from "../port1.js";
+import { DISK } from "../watch/disk.js";
 import { PAIRS } from "../watch/forms.js";
 import { Incidents } from "../watch/incidents.js";
 import { Journal } from "../watch/journal.js";
@@ -52,6 +53,7 @@ async function incidentsOf(folder, count, each) {
   chmodSync(program, 0o755);
   const asked = /** @type {any} */ ({ program, form: PAIRS, dictionary: "", limits, gaps: new Map() });
   const { incidents } = await judgedRest(old, ring, asked, journal);
+  await DISK.idle;
   const told = journal.told().filter(({ event }) => event === "incident");
   const begun = journal.told().filter(({ event }) => event === "begun");
   const ended = journal.told().filter(({ event }) => event === "well again");

@@ -179,7 +179,7 @@ export class Saver {
       mkdirSync(fresh);
       await this.fill(fresh, incident, found, { ...record, ...(holes.length > 0 && { holes }) });
       this.prune(sizeOf(fresh), name);
-      this.disk.putFolder(fresh, join(this.folder, name));
+      await this.disk.putFolder(fresh, join(this.folder, name));
       return { saved: name, holes };
     } catch (fault) {
       rmSync(fresh, { recursive: true, force: true });

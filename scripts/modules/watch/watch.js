@@ -28,6 +28,7 @@ export class Watch {
   saving = Promise.resolve();
   kept = { time: 0, place: 0 }; // when what is known was written down, in seconds, and where
   keepBits = KEEP_BITS;
+  known = { number: 0, text: "" }; // what is to be written down, and how often that was so
 
   decoder = /** @type {Decoder} */ (/** @type {unknown} */ (null)); // until it begins
 
@@ -145,8 +146,19 @@ export class Watch {
     const [wall, incidents] = [this.wall.now(), this.incidents.kept(zeroAt, this.unsettled())];
     /** @type {import("./memory.js").Kept} */
     const known = { run: this.number, isOver, wall, zero, zeros, triggers, incidents };
-    this.tried("ring", () => this.ring.sync());
-    this.tried("state", () => this.disk.put(this.state, JSON.stringify(known)));
+    this.ring.sync();
+    this.known = { number: this.known.number + 1, text: JSON.stringify(known) };
+    const { number } = this.known;
+    const tell = (/** @type {Error} */ fault) => this.complain(`the state: ${fault.message}`);
+    this.disk.later(() => this.putKnown(number), tell);
+  }
+
+  /**
+   * Puts what is known on disk, unless that is out of date: what is newer comes later, and after what it goes with.
+   * @param {number} number
+   */
+  async putKnown(number) {
+    if (number === this.known.number) await this.disk.put(this.state, this.known.text);
   }
 
   /**
@@ -222,19 +234,10 @@ export class Watch {
     const { prometheus } = this.asked;
     const counts = { lost, unsaved, failed: ring.failed, places, last: this.timeOf(places) };
     if (!prometheus) return;
-    this.tried("metrics", () => this.disk.put(prometheus, metricsOf(this.triggers, this.incidents.tally, counts)));
-  }
-
-  /**
-   * Does what a full disk may keep from being done.
-   * @param {string} what
-   * @param {() => void} act
-   */
-  tried(what, act) {
     try {
-      act();
+      this.disk.replace(prometheus, metricsOf(this.triggers, this.incidents.tally, counts));
     } catch (fault) {
-      this.complain(`the ${what}: ${/** @type {Error} */ (fault).message}`);
+      this.complain(`the metrics: ${/** @type {Error} */ (fault).message}`);
     }
   }
 
@@ -305,5 +308,6 @@ export class Watch {
     this.keep(isWell);
     this.measure();
     this.log("end");
+    await this.disk.idle;
   }
 }
