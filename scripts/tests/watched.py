@@ -1,6 +1,7 @@
 """A simulated cabinet and the watch of it: its faults, its runs, and a judge of what was found."""
 
 import json
+import os
 import random
 import subprocess
 import time
@@ -144,7 +145,9 @@ class Cabinet(NamedTuple):
         words = ["node", SIMULATOR, "7", str(begin), str(past), plan, self.speed, self.form]
         return subprocess.Popen(words, stdout=subprocess.PIPE, stderr=subprocess.PIPE)
 
-    def watch(self, source: Any, begin: Optional[int]) -> "subprocess.Popen[bytes]":
+    def watch(
+        self, source: Any, begin: Optional[int], environment: Optional[Dict[str, str]] = None
+    ) -> "subprocess.Popen[bytes]":
         needs("node")
         zero = time.gmtime(BEGIN + (begin or 0) / RATE)
         date = [] if begin is None else ["--begin", time.strftime("%Y-%m-%dT%H:%M:%SZ", zero)]
@@ -152,7 +155,8 @@ class Cabinet(NamedTuple):
         words: List[Word] = [self.scripts / "bus-watch", self.folder / "watch", "--dictionary", DICTIONARY]
         pipes = {"stdin": source, "stdout": subprocess.PIPE, "stderr": subprocess.PIPE}
         words += [*date, *form, "--floor", "0", *self.words]
-        return subprocess.Popen(words, bufsize=0, start_new_session=True, **pipes)
+        own = {**os.environ, **(environment or {})}
+        return subprocess.Popen(words, bufsize=0, start_new_session=True, env=own, **pipes)
 
     def start(
         self, begin: int, past: int, date: Optional[int] = None

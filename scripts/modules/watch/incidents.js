@@ -35,6 +35,16 @@ const NEAR_SEAM = 1;
  */
 
 /**
+ * The places that are saved of an incident, however long it lasts.
+ * @param {{ first: number, past: number }} incident
+ * @param {{ before?: number, after: number, longest: number }} times in seconds
+ * @returns {[first: number, past: number]}
+ */
+export function savedOf({ first, past }, { before = 0, after, longest }) {
+  return [Math.max(0, first - before * RATE), Math.min(past, first + longest * RATE) + after * RATE];
+}
+
+/**
  * What came: a cause, or what is well again; and where it began and was decided.
  * @typedef {object} Event
  * @property {string} [cause]
@@ -201,7 +211,7 @@ export class Incidents {
   tick(mark) {
     this.take(mark - KNOWN);
     this.advance(mark - KNOWN);
-    this.settle(this.office.settled?.() ?? Infinity);
+    this.settle(this.office.settled?.() ?? Infinity, mark - KNOWN);
   }
 
   /**
@@ -250,11 +260,14 @@ export class Incidents {
   }
 
   /**
-   * Has those saved whose times are sure, and what lies beside them.
+   * Has those saved whose times are sure, and what lies beside them, and all of whose bits have come.
    * @param {number} settled the place up to which times are
+   * @param {number} [come] the place up to which bits have
    */
-  settle(settled) {
-    const sure = this.over.filter(({ past }) => past + NEAR_SEAM * RATE <= settled);
+  settle(settled, come = Infinity) {
+    const isSure = (/** @type {Incident} */ incident) =>
+      incident.past + NEAR_SEAM * RATE <= settled && savedOf(incident, this.times)[1] <= come;
+    const sure = this.over.filter(isSure);
     if (sure.length === 0) return;
     this.over = this.over.filter((incident) => !sure.includes(incident));
     for (const incident of sure) incident.zero = this.office.zero(incident.first);
