@@ -194,7 +194,7 @@ test("power fails after each step, and by chance some is left that was not flush
     for (let count = 0; count < 2; count++) {
       const files = left.mixed(random);
       const problems = await problemsAfter(files, bitsIn(left.files(true)));
-      assert.deepEqual(problems, [], `after step ${number}, ${step.kind} ${step.path ?? step.to}: ${[...files.keys()]}`);
+      assert.deepEqual(problems, [], `after step ${number}, ${step.kind} ${step.path ?? step.to}`);
     }
   }
 });

@@ -28,6 +28,7 @@ const NEAR_SEAM = 1;
 /**
  * @typedef {object} Office what incidents need of the watch
  * @property {(place: number) => number} zero when place 0 was by the clock of a place
+ * @property {(id: string, cause: string, first: number) => boolean} [isTaken] whether another incident has an id
  * @property {() => number} [settled] the place up to which that is sure
  * @property {() => void} keep writes down what is known, which outlives the watch
  * @property {(record: import("./journal.js").Entry) => void} log
@@ -182,7 +183,9 @@ export class Incidents {
 
   /** @param {string} cause @param {number} first @param {number} past @returns {Incident} */
   begun(cause, first, past) {
-    const id = `${this.run}-${++this.count}`;
+    const next = () => `${this.run}-${++this.count}`;
+    let id = next();
+    while (this.office.isTaken?.(id, cause, first)) id = next();
     const isEarly = first < GOES_ON * RATE;
     const earlier = isEarly ? this.before.find(({ cut, causes }) => cut && causes[cause] !== undefined) : undefined;
     const more = earlier ? { continues: earlier.id } : {};
