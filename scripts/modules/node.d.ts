@@ -61,7 +61,7 @@ declare module "node:fs" {
   function closeSync(file: number): void;
   function copyFileSync(from: string, to: string): void;
   function existsSync(path: string): boolean;
-  function fsyncSync(file: number): void;
+  function fsync(file: number, done: (fault: Error | null) => void): void;
   function fstatSync(file: number): Stats;
   function openSync(path: string, flags: string | number): number;
   function read(

@@ -27,6 +27,8 @@ def problems_of_kills(folder: Path, moments: Sequence[float], scripts: Path = SC
         if len(told) != 1 or told[0]["saved"] is None or runs[1].status != 0:
             problems.append(f"killed {moment:.3f} s after it began: {told}, {runs[1].stderr}")
         problems += judged(cabinet, runs) if len(told) == 1 else []
+        if number % 10 == 9:
+            print(f"{number + 1} of {len(moments)} kills, {len(problems)} problems", flush=True)
     return problems
 
 

@@ -7,6 +7,8 @@ import shutil
 import signal
 import subprocess
 import time
+from concurrent.futures import ThreadPoolExecutor
+from datetime import datetime
 from pathlib import Path
 from typing import List, NamedTuple, Sequence, Set
 
@@ -298,6 +300,35 @@ def lost_input(folder: Path) -> List[str]:
     is_told = len(lost) == 1 and abs(lost[0] - 1.5) < 0.02 and cabinet.incidents == []
     return [] if is_told else [f"{records}"]
 
+
+def loss_before_the_end(folder: Path) -> List[str]:
+    """In real time: a loss less than ten seconds before the end, or before a kill -9, is in the times after it."""
+    with ThreadPoolExecutor() as pool:
+        runs = [pool.submit(problems_of_loss, folder / name, name == "killed") for name in ("ended", "killed")]
+        return [problem for run in runs for problem in run.result()]
+
+
+def problems_of_loss(folder: Path, is_killed: bool) -> List[str]:
+    """What is wrong with the time between two incidents where a second and a half was lost between them."""
+    folder.mkdir()
+    faults = [Fault(RATE, 3 * RATE // 2, "silent", 2), Fault(3 * RATE, 9 * RATE // 2, "lose", 0)]
+    faults.append(Fault(13 * RATE // 2, 15 * RATE // 2, "silent", 1))
+    cabinet = Cabinet(folder, faults, ["--after", "1"], speed="1")
+    source, watch = cabinet.start(0, 9 * RATE)
+    if is_killed:
+        read_until(watch, "begun")
+        read_until(watch, "begun")
+        watch.kill()
+    watch.communicate(timeout=SECONDS)
+    source.communicate(timeout=SECONDS)
+    if is_killed:
+        cabinet.watch(subprocess.DEVNULL, None).communicate(timeout=SECONDS)
+    times = [datetime.fromisoformat(record["wall"].replace("Z", "+00:00")) for record in cabinet.incidents]
+    causes = [list(record["causes"]) for record in cabinet.incidents]
+    apart = (times[1] - times[0]).total_seconds() if causes == [["missing 2/1"], ["missing 1/1"]] else 0
+    return [] if abs(apart - 5.5) < 0.1 else [f"{is_killed}, {cabinet.log}"]
+
+
 TESTS = [
     an_hour,
     arrivals,
@@ -313,5 +344,6 @@ TESTS = [
     unit_and_metrics,
     wrong_forms,
     lost_input,
+    loss_before_the_end,
     a_day,
 ]

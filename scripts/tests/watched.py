@@ -1,12 +1,13 @@
 """A simulated cabinet and the watch of it: its faults, its runs, and a judge of what was found."""
 
 import json
+import os
 import random
 import subprocess
 import time
 from contextlib import contextmanager
 from pathlib import Path
-from typing import Any, Dict, Iterator, List, NamedTuple, Optional, Sequence, Tuple
+from typing import Any, Dict, Iterator, List, NamedTuple, Optional, Sequence, Set, Tuple
 
 from needs import Skipped, needs
 from tests.case import SCRIPTS, SECONDS, TOP, Word
@@ -27,6 +28,9 @@ Record = Dict[str, Any]
 
 # How long a run may take on a simulated day, in seconds.
 LONG = 3000
+
+# A time of so many seconds is so long that a test says how far it is.
+LONGER = 40000
 
 
 class Fault(NamedTuple):
@@ -107,6 +111,7 @@ class Watched(NamedTuple):
     records: List[Record]
     stderr: str
     status: int
+    unsure: int = IN_PIPES  # places of its end that a kill, or a power cut, may have lost
 
     @property
     def past(self) -> int:
@@ -125,7 +130,7 @@ class Watched(NamedTuple):
         return self.past
 
     def watches(self, fault: Fault) -> bool:
-        return any(begin < fault.past - RATE and fault.begin < past - IN_PIPES for begin, past in self.turns)
+        return any(begin < fault.past - RATE and fault.begin < past - self.unsure for begin, past in self.turns)
 
 
 class Cabinet(NamedTuple):
@@ -144,7 +149,9 @@ class Cabinet(NamedTuple):
         words = ["node", SIMULATOR, "7", str(begin), str(past), plan, self.speed, self.form]
         return subprocess.Popen(words, stdout=subprocess.PIPE, stderr=subprocess.PIPE)
 
-    def watch(self, source: Any, begin: Optional[int]) -> "subprocess.Popen[bytes]":
+    def watch(
+        self, source: Any, begin: Optional[int], environment: Optional[Dict[str, str]] = None
+    ) -> "subprocess.Popen[bytes]":
         needs("node")
         zero = time.gmtime(BEGIN + (begin or 0) / RATE)
         date = [] if begin is None else ["--begin", time.strftime("%Y-%m-%dT%H:%M:%SZ", zero)]
@@ -152,7 +159,8 @@ class Cabinet(NamedTuple):
         words: List[Word] = [self.scripts / "bus-watch", self.folder / "watch", "--dictionary", DICTIONARY]
         pipes = {"stdin": source, "stdout": subprocess.PIPE, "stderr": subprocess.PIPE}
         words += [*date, *form, "--floor", "0", *self.words]
-        return subprocess.Popen(words, bufsize=0, start_new_session=True, **pipes)
+        own = {**os.environ, **(environment or {})}
+        return subprocess.Popen(words, bufsize=0, start_new_session=True, env=own, **pipes)
 
     def start(
         self, begin: int, past: int, date: Optional[int] = None
@@ -193,16 +201,44 @@ def problems_of_folder(folder: Path, record: Record, rests: bool = False) -> Ite
         return
     files = {"bits.ts2", "cabinet.toml", "frames.pcapng", "incident.json", "listing.txt", "summary.txt"}
     found = {path.name for path in folder.iterdir()} - {"report.html"}
+    found -= {name for name in found if name.startswith("bits-") and "holes" in record}
     summary = (folder / "summary.txt").read_text() if "summary.txt" in found else ""
     if found != files:
         yield f"{folder.name} has {sorted(found)}"
     frames = [line for line in (folder / "listing.txt").read_text().splitlines() if " frame " in line]
     begins = [(line[0], line.split()[8:9]) for line in frames[:1]]
-    if begins not in ([("1", ["0"])], [("1", ["1"])]) and not (rests and not frames):
+    if begins not in ([("1", ["0"])], [("1", ["1"])]) and (frames or not rests and "holes" not in record):
         yield f"{folder.name} begins with {frames[:1]}"
     date = record["wall"][:10]
     if f"It begins on {date}" not in summary:
         yield f"{folder.name}: {summary[:120]}"
+
+
+def frames_in(listing: str, shift: int) -> Set[Tuple[str, int, int, str]]:
+    """The frames of a listing, their places shifted."""
+    lines = [line.split(" ", 3) for line in listing.splitlines() if " frame " in line]
+    return {(line, int(first) + shift, int(past) + shift, text) for line, first, past, text in lines}
+
+
+def problems_of_frames(cabinet: Cabinet, run: Watched, folder: Path) -> List[str]:
+    """What is wrong with the frames of a folder: they are those that were sent at these places, and all of them."""
+    listing = (folder / "listing.txt").read_text()
+    places = sorted(frames_in(listing, 0), key=lambda frame: frame[1])
+    if not places:
+        return []
+    first, past = places[0][1], max(frame[2] for frame in places)
+    begin, end = (run.in_cabinet(place, cabinet.faults) for place in (first, past))
+    if end - begin != past - first:
+        return []  # input was lost between them
+    from_place = max(0, begin - 2 * RATE)
+    bits, _ = cabinet.simulator(from_place, end + RATE).communicate(timeout=SECONDS)
+    form = "--two" if cabinet.form == "pairs" else "--arrivals"
+    words = [os.environ["PORT1"], "list", "--bits", form, "--dict", DICTIONARY.read_text()]
+    ran = subprocess.run(words, input=bits, capture_output=True, check=True, timeout=SECONDS)
+    sent = frames_in(ran.stdout.decode(), from_place)
+    sent = {frame for frame in sent if begin <= frame[1] and frame[2] <= end}
+    wrong = sorted(sent ^ frames_in(listing, begin - first), key=lambda frame: frame[1])
+    return [f"{folder.name}: {len(wrong)} of {len(sent)} frames are not as sent: {wrong[:2]}"] if wrong else []
 
 
 def judged(cabinet: Cabinet, runs: Sequence[Watched]) -> List[str]:
@@ -218,7 +254,8 @@ def judged(cabinet: Cabinet, runs: Sequence[Watched]) -> List[str]:
         fresh = [record for record in own if "continues" not in record]
         is_watched = any(run.watches(fault) for run in runs)
         wanted = 0 if fault.is_small or not is_watched else 1
-        problems += [] if len(fresh) == wanted or len(own) > wanted == 0 and not is_watched else [f"{fault}: {fresh}"]
+        is_told = len(fresh) == wanted or not is_watched and len(fresh) <= 1
+        problems += [] if is_told else [f"{fault}: {fresh}"]
     for first, past, record in told:
         if not any(f.begin - 2 * RATE < past and first < f.past + 2 * RATE for f in cabinet.faults):
             problems.append(f"false: {record}")
@@ -227,7 +264,9 @@ def judged(cabinet: Cabinet, runs: Sequence[Watched]) -> List[str]:
         rests = any(fault.kind == "rest" and fault.begin <= began < fault.past for fault in cabinet.faults)
         problems += list(problems_of_folder(folder, record, rests)) if folder else [f"not saved: {record}"]
     ids = [record["id"] for record in cabinet.incidents]
-    return problems + [f"{found} twice" for found in set(ids) if ids.count(found) > 1]
+    begun = [record["id"] for record in cabinet.log if record["event"] == "begun"]
+    problems += [f"{found} twice" for found in set(ids) if ids.count(found) > 1 or begun.count(found) > 1]
+    return problems + [f"{found} is not told" for found in set(begun) - set(ids)]
 
 
 def watched_with_kills(cabinet: Cabinet, seconds: int, kills: Sequence[float]) -> List[Watched]:
@@ -237,4 +276,6 @@ def watched_with_kills(cabinet: Cabinet, seconds: int, kills: Sequence[float]) -
     for kill in [*kills, None]:
         runs.append(cabinet.run(begin, seconds * RATE, kill))
         begin = runs[-1].past + 30 * RATE
+        if seconds >= LONGER:
+            print(f"run {len(runs)} of {len(kills) + 1} is over, {begin / RATE:.0f} of {seconds} s", flush=True)
     return runs

@@ -1,23 +1,43 @@
-"""Simulated days of bus-watch: faults of all kinds, lost input, stopped clocks, dying recorders, kills, a full disk.
+"""Simulated days of bus-watch, with faults of all kinds and all that can happen to a watch, and then a part in real time.
 
-    PYTHONPATH=scripts:scripts/port1_scripts python3 -m tests.week DAYS [SECONDS]
+    PORT1=PROGRAM PYTHONPATH=scripts:scripts/port1_scripts:tests python3 -m tests.week DAYS [SECONDS]
 
 runs some days, as long as the seconds last, and writes the figures. It takes root, which mounts a disk of 600 MB.
+
+In the days input is lost, clocks stand still, recorders die, the disk is full for a while, a second watch is started,
+and the watch is killed or its power cut, each within an incident. The part in real time has input that is lost beside
+incidents, before a power cut and before the end: there times of day are judged too.
 """
 
 import json
+import os
 import random
+import shutil
 import subprocess
 import sys
 import tempfile
 import threading
 import time
+from datetime import datetime
 from pathlib import Path
-from typing import Dict, List, NamedTuple, Optional, Sequence, Tuple
+from typing import Dict, Iterator, List, NamedTuple, Optional, Sequence, Tuple
 
 from needs import needs
 from tests.case import SCRIPTS
-from tests.watched import BEGIN, DICTIONARY, RATE, SIMULATOR, Cabinet, Fault, Watched, disk_of, judged, schedule
+from tests.watched import (
+    BEGIN,
+    DICTIONARY,
+    IN_PIPES,
+    RATE,
+    SIMULATOR,
+    Cabinet,
+    Fault,
+    Watched,
+    disk_of,
+    judged,
+    problems_of_frames,
+    schedule,
+)
 
 RUNS: List[object] = []
 
@@ -26,12 +46,41 @@ DAY = 86400
 # A run of the watch takes so many seconds at least.
 LEAST = 5
 
+# What is loaded before a watch whose power is to be cut: it keeps what was flushed in a folder beside it.
+POWER = SIMULATOR.parent / "power_disk.js"
+
+# The places that a power cut may lose where bits come as fast as they can, and in real time.
+UNFLUSHED, UNFLUSHED_LIVE = IN_PIPES + 70 * RATE, 14 * RATE
+
+# A run of so many places is so long that a second watch can be tried beside it.
+LONG_RUN = 2400 * RATE
+
+# The faults of the part in real time, in seconds: in the first run, whose power is cut in its last one, and in the next.
+LIVE = [
+    [(4, 5.2, "silent", 2), (9, 10.3, "lose", 0), (12, 13, "burst", 0.03), (17, 18, "late", 1)],
+    [(3, 4, "silent", 16), (8, 9.4, "lose", 0), (11.5, 12.5, "silent", 1)],
+]
+LIVE_ENDS = [40, 15]
+
+# How far times of day may be from those of the bus, in seconds.
+NEAR = 0.2
+
+# How many folders are compared with the bus, frame by frame.
+COMPARED = 150
+
 # A recorder's turn: it writes the places of the next line of `turns`, and after the last one the watch is ended.
 SOURCE = """read turn < turn; echo $((turn + 1)) > turn
 set -- $(sed -n ${{turn}}p turns)
 [ $# -eq 2 ] || {{ kill -TERM $PPID; exit; }}
-node {simulator} 7 $1 $2 plan 0 {form} 2>> told; exit 3
+node {simulator} 7 $1 $2 plan {speed} {form} 2>> told; exit 3
 """
+
+
+class End(NamedTuple):
+    """When a run of the watch is ended, in seconds, and whether by a power cut or by kill -9."""
+
+    seconds: float
+    is_cut: bool
 
 
 class Plan(NamedTuple):
@@ -39,7 +88,7 @@ class Plan(NamedTuple):
 
     faults: List[Fault]
     deaths: List[int]  # places where a recorder dies
-    kills: List[float]  # seconds after which runs of the watch are killed
+    ends: List[End]
     full: Tuple[float, float]  # when the disk is full, in seconds after the beginning, and for how long
 
 
@@ -56,12 +105,12 @@ def more_faults(generator: random.Random, days: float, faults: Sequence[Fault]) 
     return found
 
 
-def plan_of(seed: int, days: float, kills: Sequence[float], full: Tuple[float, float]) -> Plan:
+def plan_of(seed: int, days: float, ends: Sequence[End], full: Tuple[float, float]) -> Plan:
     generator = random.Random(seed)
     faults = schedule(seed, int(DAY * days), int(150 * days))
     faults = sorted([*faults, *more_faults(generator, days, faults)])
     deaths = sorted(int(generator.uniform(0, DAY * days) * RATE) for _ in range(int(2 * days)))
-    return Plan(faults, deaths, list(kills), full)
+    return Plan(faults, deaths, list(ends), full)
 
 
 class Gauge(threading.Thread):
@@ -145,76 +194,162 @@ class Week:
         self.form = form
         self.folder, self.plan, self.past = folder, plan, int(DAY * days) * RATE
         self.until = time.monotonic() + seconds
-        self.cabinet = Cabinet(folder, plan.faults)
         self.runs: List[Watched] = []
         self.most: Dict[str, int] = {}
-        self.open_kills = 0  # kill -9 while an incident was open
-        (folder / "plan").write_text("".join(f"{f.begin} {f.past} {f.kind} {f.number}\n" for f in plan.faults))
+        self.live: List[int] = []  # the runs in real time
+        self.counts = {"kills in an open incident": 0, "power cuts in one": 0, "second watches refused": 0}
+        self.problems: List[str] = []
 
-    def run(self, begin: int, past: int, kill: Optional[float] = None) -> int:
-        """Runs the watch from a place on, until all has come or it is killed, in the next open incident after so many
-        seconds; tells where the recorder was."""
+    @property
+    def cabinet(self) -> Cabinet:
+        return Cabinet(self.folder, self.plan.faults, form=self.form)
+
+    def words_of(self, begin: int, is_live: bool) -> List[object]:
+        date = time.strftime("%Y-%m-%dT%H:%M:%SZ", time.gmtime(BEGIN + begin / RATE))
+        source = SOURCE.format(simulator=SIMULATOR, form=self.form, speed=int(is_live))
+        words = [SCRIPTS / "bus-watch", "watch", "--dictionary", DICTIONARY, "--ring", "256M", "--keep", "200M"]
+        words += ["--floor", "16M", "--source", source, *(["--two"] if self.form == "pairs" else [])]
+        return [*words, "--after", "1"] if is_live else [*words, "--begin", date]
+
+    def start(self, begin: int, past: int, is_cut: bool, is_live: bool) -> "subprocess.Popen[bytes]":
+        """Starts the watch, and a recorder that is to come to a place."""
+        faults = self.plan.faults
+        (self.folder / "plan").write_text("".join(f"{f.begin} {f.past} {f.kind} {f.number}\n" for f in faults))
         turns = turns_from(self.plan, begin, past)
         (self.folder / "turns").write_text("".join(f"{first} {past}\n" for first, past in turns))
         (self.folder / "turn").write_text("1\n")
         (self.folder / "told").write_text("")
-        date = time.strftime("%Y-%m-%dT%H:%M:%SZ", time.gmtime(BEGIN + begin / RATE))
-        words = [SCRIPTS / "bus-watch", "watch", "--dictionary", DICTIONARY, "--begin", date, "--ring", "256M"]
-        words += ["--keep", "200M", "--floor", "16M", "--source", SOURCE.format(simulator=SIMULATOR, form=self.form)]
-        words += ["--two"] if self.form == "pairs" else []
+        shutil.rmtree(self.folder / "shadow", ignore_errors=True)
+        power = {"NODE_OPTIONS": f"--import={POWER}", "PORT1_SHADOW": str(self.folder / "shadow")}
+        environment = {**os.environ, **(power if is_cut else {})}
         with (self.folder / "said").open("ab") as said:
             pipes = {"stdin": subprocess.DEVNULL, "stdout": subprocess.DEVNULL, "stderr": said}
-            watch = subprocess.Popen(words, cwd=self.folder, **pipes)
+            return subprocess.Popen(self.words_of(begin, is_live), cwd=self.folder, env=environment, **pipes)
+
+    def second(self, watch: "subprocess.Popen[bytes]") -> None:
+        """A second watch is refused in one line, and changes nothing."""
+        while watch.poll() is None and last_run(self.folder / "watch") < len(self.runs) + 1:
+            time.sleep(0.01)
+        words = [SCRIPTS / "bus-watch", "watch", "--dictionary", DICTIONARY]
+        second = subprocess.run(words, cwd=self.folder, stdin=subprocess.DEVNULL, capture_output=True, timeout=60)
+        is_refused = second.returncode == 2 and second.stdout == b"" and second.stderr.count(b"\n") == 1
+        self.problems += [] if is_refused else [f"a second watch: {second}"]
+        self.counts["second watches refused"] += is_refused
+
+    def cut(self) -> None:
+        """Leaves of the watch's folder what was flushed."""
+        disk = self.folder / "watch"
+        left = self.folder / "shadow" / "folders" / str(disk.stat().st_ino)
+        for path in disk.iterdir():
+            shutil.rmtree(path) if path.is_dir() else path.unlink()
+        shutil.copytree(left, disk, ignore=shutil.ignore_patterns("*.fresh"), dirs_exist_ok=True)
+
+    def end_in_incident(self, watch: "subprocess.Popen[bytes]", is_cut: bool) -> None:
+        """Kills a watch in the next incident that is open, and takes away what was not flushed."""
+        while watch.poll() is None and not is_open(self.folder / "watch", len(self.runs) + 1):
+            time.sleep(0.002)
+        self.counts["power cuts in one" if is_cut else "kills in an open incident"] += watch.poll() is None
+        watch.kill()
+        watch.wait()
+        if is_cut:
+            self.cut()
+
+    def run(self, begin: int, past: int, end: Optional[End] = None, is_live: bool = False) -> int:
+        """Runs the watch from a place on, until all has come or it is ended, in the next open incident after so many
+        seconds; tells where the recorder was."""
+        is_cut = end is not None and end.is_cut
+        watch = self.start(begin, past, is_cut, is_live)
         gauge = Gauge(watch, self.folder / "watch")
         gauge.start()
+        if past - begin > LONG_RUN:
+            self.second(watch)
         try:
-            watch.wait(kill)
+            watch.wait(end.seconds if end else None)
         except subprocess.TimeoutExpired:
-            while watch.poll() is None and not is_open(self.folder / "watch", len(self.runs) + 1):
-                time.sleep(0.002)
-            self.open_kills += watch.poll() is None
-            watch.kill()
-            watch.wait()
+            self.end_in_incident(watch, is_cut)
         gauge.join()
         self.most = {name: max(self.most.get(name, 0), count) for name, count in {**self.most, **gauge.most}.items()}
-        for _ in range(1200):  # the recorder ends when it finds that nobody reads
+        done = self.turns_done()
+        unsure = (UNFLUSHED_LIVE if is_live else UNFLUSHED) if is_cut else IN_PIPES
+        self.runs.append(Watched(done, [], "", watch.returncode, unsure))
+        print(f"run {len(self.runs)} is over: {begin / RATE:.0f} to {done[-1][1] / RATE:.0f} s", flush=True)
+        return done[-1][1]
+
+    def turns_done(self) -> List[Tuple[int, int]]:
+        """The places of the recorders, each of which ends when it finds that nobody reads."""
+        turns = (self.folder / "turns").read_text().splitlines()
+        for _ in range(1200):
             lines = (self.folder / "told").read_text().splitlines()
             told = [line.split() for line in lines if line.startswith("places")]
             if len(told) >= min(int((self.folder / "turn").read_text()) - 1, len(turns)):
                 break
             time.sleep(0.1)
-        done = [(int(first), int(past)) for _, first, past in told]
-        self.runs.append(Watched(done, [], "", watch.returncode))
-        return done[-1][1] if done else begin
+        return [(int(first), int(past)) for _, first, past in told]
 
     def go(self) -> None:
         begin = 0
-        for kill in [*self.plan.kills, 10 * DAY]:
+        for end in [*self.plan.ends, End(10 * DAY, False)]:
             left = self.until - time.monotonic()
             if left > LEAST and begin < self.past:
-                begin = self.run(begin, self.past, min(kill, left)) + 30 * RATE
+                begin = self.run(begin, self.past, end._replace(seconds=min(end.seconds, left))) + 30 * RATE
         if begin < self.past:  # there was no time for more
             self.past = self.run(begin, begin + 120 * RATE)
+        self.go_live(max(self.past, begin) + 60 * RATE)
+
+    def go_live(self, begin: int) -> None:
+        """The part in real time."""
+        for faults, seconds in zip(LIVE, LIVE_ENDS):
+            own = [Fault(begin + int(at * RATE), begin + int(to * RATE), kind, n) for at, to, kind, n in faults]
+            self.plan = self.plan._replace(faults=[*self.plan.faults, *own], deaths=[])
+            last = faults[-1]
+            end = End(last[0] + 0.2, True) if seconds > last[1] + 10 else None
+            self.live.append(len(self.runs) + 1)
+            begin = self.run(begin, begin + seconds * RATE, end, True) + 30 * RATE
+
+    def problems_of_live(self) -> Iterator[str]:
+        """What is wrong with the times of day in a run in real time: they are as far apart as on the bus."""
+        for number in self.live:
+            own = [record for record in self.cabinet.incidents if record["run"] == number]
+            run = self.runs[number - 1]
+            apart = [
+                datetime.fromisoformat(record["wall"].replace("Z", "+00:00")).timestamp()
+                - run.in_cabinet(record["place"], self.plan.faults) / RATE
+                for record in own
+            ]
+            if len(own) < 2 or max(apart) - min(apart) > NEAR:
+                yield f"times of run {number}: {[round(one - apart[0], 3) for one in apart]} of {own}"
+
+    def problems_of_bits(self) -> Iterator[str]:
+        """What is wrong with saved bits, in so many folders."""
+        saved = [record for record in self.cabinet.incidents if record["saved"]]
+        there = [record for record in saved if (self.folder / "watch" / "incidents" / record["saved"]).is_dir()]
+        for record in there[:: 1 + len(there) // COMPARED]:
+            folder = self.folder / "watch" / "incidents" / record["saved"]
+            yield from problems_of_frames(self.cabinet, self.runs[record["run"] - 1], folder)
 
     def figures(self) -> str:
-        log = self.cabinet.log
         counts: Dict[str, int] = {}
-        for record in log:
+        for record in self.cabinet.log:
             counts[record["event"]] = counts.get(record["event"], 0) + 1
+        marks = {name: sum(name in record for record in self.cabinet.incidents) for name in ("cut", "holes", "seam")}
         unsaved = sum(record["saved"] is None for record in self.cabinet.incidents)
-        cut = sum("cut" in record for record in self.cabinet.incidents)
         known = [f for f in self.plan.faults if not f.is_small and any(run.watches(f) for run in self.runs)]
-        kills = f"{self.open_kills} kills in an open incident"
-        return f"{len(known)} faults to be found; {counts}; {unsaved} not saved, {cut} cut; {kills}; most {self.most}"
+        return f"{len(known)} faults to be found; {counts}; {unsaved} not saved, {marks}; {self.counts}; most {self.most}"
+
+
+def last_run(folder: Path) -> int:
+    """The number of the last run that the log has."""
+    lines = read(folder / "incidents.jsonl").splitlines()[-40:]
+    return max((json.loads(line)["run"] for line in lines if line.endswith("}")), default=0)
 
 
 def problems_of_days(
-    folder: Path, days: float, kills: Sequence[float], full: Tuple[float, float], seconds: float, form: str
+    folder: Path, days: float, ends: Sequence[End], full: Tuple[float, float], seconds: float, form: str
 ) -> List[str]:
     """What is wrong with some days, or as many of them as fit into some seconds."""
     needs("node")
     with disk_of(600, folder) as disk:
-        week = Week(folder, plan_of(41, days, kills, full), days, seconds, form)
+        week = Week(folder, plan_of(41, days, ends, full), days, seconds, form)
         filler = threading.Thread(target=fill, args=(disk, week.plan), daemon=True)
         filler.start()
         began = time.monotonic()
@@ -222,12 +357,13 @@ def problems_of_days(
         print(f"{week.past / RATE / DAY:.2f} days in {time.monotonic() - began:.0f} s: {week.figures()}", flush=True)
         print(f"status of each run {[run.status for run in week.runs]}; said {(folder / 'said').read_text()}", flush=True)
         problems = (problem for problem in judged(week.cabinet, week.runs) if not problem.startswith("not saved"))
-        return [problem for problem in problems if not problem.endswith("is not there")]  # old folders go
+        problems = (problem for problem in problems if not problem.endswith("is not there"))  # old folders go
+        return [*week.problems, *problems, *week.problems_of_live(), *week.problems_of_bits()]
 
 
 def an_hour_of_all(folder: Path) -> List[str]:
     """A simulated hour with each of it."""
-    return problems_of_days(folder, 1 / 24, [3, 4], (5, 2), DAY, "arrivals")
+    return problems_of_days(folder, 1 / 24, [End(3, False), End(3, True)], (4, 2), DAY, "arrivals")
 
 
 TESTS = [an_hour_of_all]
@@ -236,8 +372,8 @@ TESTS = [an_hour_of_all]
 def main(days: float, seconds: float) -> None:
     generator = random.Random(6)
     with tempfile.TemporaryDirectory(prefix="port1-") as folder:
-        kills = [generator.uniform(0.4, 1.6) * seconds / 12 for _ in range(10)]
-        problems = problems_of_days(Path(folder), days, kills, (seconds / 4, 20), seconds, "pairs")
+        ends = [End(generator.uniform(0.4, 1.6) * seconds / 12, bool(at % 2)) for at in range(10)]
+        problems = problems_of_days(Path(folder), days, ends, (seconds / 4, 20), seconds, "pairs")
     print("\n".join([*problems, f"{len(problems)} problems"]))
 
 

@@ -7,6 +7,12 @@ declare module "node:os";
 declare module "node:fs" {
   function mkdtempSync(prefix: string): string;
   function openAsBlob(path: string): Promise<Blob>;
+  function symlinkSync(target: string, path: string): void;
+  function appendFileSync(path: string, octets: Uint8Array): void;
+  interface Stats {
+    ino: number;
+    isDirectory(): boolean;
+  }
 }
 
 declare module "node:child_process" {

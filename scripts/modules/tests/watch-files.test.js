@@ -6,6 +6,7 @@ import { tmpdir } from "node:os";
 import { join } from "node:path";
 import { test } from "node:test";
 
+import { DISK } from "../watch/disk.js";
 import { ARRIVALS, PAIRS, Packer, octetsBefore } from "../watch/forms.js";
 import { Incidents } from "../watch/incidents.js";
 import { Journal } from "../watch/journal.js";
@@ -20,6 +21,7 @@ async function within(body) {
   const folder = mkdtempSync(join(tmpdir(), "port1-"));
   try {
     await body(folder);
+    await DISK.idle;
   } finally {
     rmSync(folder, { recursive: true, force: true });
   }
@@ -135,6 +137,20 @@ test("an incident within which the watch ends is cut, and may go on in the next 
   next.trigger("burst", 10, 20);
   next.take(20);
   assert.equal(next.open?.continues, "1-1");
+});
+
+test("that bits are missing beside an incident is still known in the next run", () => {
+  const office = { zero: () => 0, keep() {}, save() {}, log() {} };
+  const incidents = new Incidents(1, { after: 1, longest: 600 }, { ...office, settled: () => 0 });
+  const second = 153600;
+  for (const at of [1, 5, 9]) incidents.trigger(`burst ${at}`, at * second, at * second + 1);
+  incidents.seam(5.5 * second);
+  incidents.tick(10.5 * second);
+  const { open, waiting } = JSON.parse(JSON.stringify(incidents.kept(() => 7, [8.5 * second])));
+  const next = new Incidents(2, { after: 1, longest: 600 }, office);
+  next.takeOver([...waiting, open]);
+  const told = next.waiting.map((one) => [next.recordOf(one).seam, one.zero]);
+  assert.deepEqual(told, [[undefined, 7], [true, 7], [true, 7]]);
 });
 
 /** How often missing answers are told where a run had some of them and the next one the others. */

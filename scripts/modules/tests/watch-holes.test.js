@@ -7,6 +7,7 @@ import { join } from "node:path";
 import { test } from "node:test";
 
 import { RATE } from "../port1.js";
+import { DISK } from "../watch/disk.js";
 import { PAIRS } from "../watch/forms.js";
 import { Ring, SEGMENT } from "../watch/ring.js";
 import { Saver } from "../watch/saver.js";
@@ -39,7 +40,7 @@ function ringIn(folder, told = []) {
   return ring;
 }
 
-test("a ring with holes gives pieces that stand at their places, and tells the holes", () => {
+test("a ring with holes gives pieces that stand at their places, and tells the holes", async () => {
   const folder = mkdtempSync(join(tmpdir(), "port1-"));
   try {
     assert.ok(60 * SECOND > SEGMENT);
@@ -55,6 +56,7 @@ test("a ring with holes gives pieces that stand at their places, and tells the h
       wanted.forEach(([one, other], at) => assert.deepEqual(pieces[at].octets, octetsOf(one, other)));
     }
   } finally {
+    await DISK.idle;
     rmSync(folder, { recursive: true, force: true });
   }
 });
@@ -128,6 +130,7 @@ async function leftBy(keep, causes) {
     const left = names.map((name) => name.slice(15, 17) + name.slice(name.indexOf("Z-") + 1));
     return { left, size: sizeOf(join(folder, "incidents", names[names.length - 1])) };
   } finally {
+    await DISK.idle;
     rmSync(folder, { recursive: true, force: true });
   }
 }

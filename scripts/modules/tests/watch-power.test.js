@@ -12,7 +12,8 @@ import { Journal } from "../watch/journal.js";
 import { read } from "../watch/memory.js";
 import { RecordedWall } from "../watch/wall.js";
 import { Watch } from "../watch/watch.js";
-import { Left, Quick, TakenDown, lay } from "./support/cut_disk.js";
+import { Left, Quick, Slow, TakenDown, lay } from "./support/cut_disk.js";
+import { randomOf } from "./support/random.js";
 import { LINES, SECONDS, WANTED, rowsOf } from "./support/talk.js";
 
 const ROWS = rowsOf(LINES);
@@ -84,7 +85,23 @@ const stepsOfRun = () => inFolder(async (folder) => {
     await watch.take(Buffer.from("0".repeat(RATE)));
     await watch.ring.packing;
     await watch.saving;
+    await disk.idle;
   }
+  await watch.end();
+  return disk.steps;
+});
+
+/** The same on a disk that flushes so many things in each second of the talk, and the others in the end. */
+const stepsOfSlowRun = (flushes) => inFolder(async (folder) => {
+  const disk = new Slow(folder);
+  const watch = new Tried(folder, disk);
+  await watch.begin();
+  for (let second = 0; second < SECONDS; second++) {
+    await watch.take(Buffer.from("0".repeat(RATE)));
+    for (let count = 0; count < flushes; count++) await disk.let();
+  }
+  assert.ok(disk.waiting.length > 0);
+  disk.letAll();
   await watch.end();
   return disk.steps;
 });
@@ -126,10 +143,17 @@ const problemsAfter = (files, bits) => inFolder(async (folder) => {
   ];
 });
 
-/** How many places the ring has among some files. */
+/** How many places the ring has among some files, up to the first that is missing; one that is packed is whole. */
 function bitsIn(files) {
-  const open = [...files].filter(([name]) => /^ring\/[0-9-]+$/.test(name));
-  return Math.max(0, ...open.map(([name, octets]) => Number(name.slice(12)) + 4 * octets.length));
+  const segments = [...files].filter(([name]) => /^ring\/[0-9-]+(\.gz)?$/.test(name)).sort();
+  let past = 0;
+  for (const [at, [name, octets]] of segments.entries()) {
+    const place = Number(name.slice(12).split(".")[0]);
+    if (place > past) break;
+    const next = Number(segments[at + 1]?.[0].slice(12).split(".")[0] ?? place);
+    past = name.endsWith(".gz") ? next : place + 4 * octets.length;
+  }
+  return past;
 }
 
 for (const isFlushed of [false, true]) {
@@ -148,6 +172,66 @@ for (const isFlushed of [false, true]) {
     }
   });
 }
+
+for (const flushes of [0, 1]) {
+  test(`bits come while a slow disk flushes ${flushes} things a second, and power fails after each step`, async () => {
+    const [steps, left] = [await stepsOfSlowRun(flushes), new Left()];
+    for (const [number, step] of steps.entries()) {
+      left.step(step);
+      for (const isFlushed of [false, true]) {
+        const files = left.files(isFlushed);
+        const problems = await problemsAfter(files, bitsIn(files));
+        assert.deepEqual(problems, [], `after step ${number}, ${step.kind} ${step.path ?? step.to}`);
+      }
+    }
+  });
+}
+
+test("power fails after each step, and by chance some is left that was not flushed", async () => {
+  const [steps, left, random] = [await stepsOfRun(), new Left(), randomOf(29)];
+  for (const [number, step] of steps.entries()) {
+    left.step(step);
+    for (let count = 0; count < 2; count++) {
+      const files = left.mixed(random);
+      const problems = await problemsAfter(files, bitsIn(left.files(true)));
+      assert.deepEqual(problems, [], `after step ${number}, ${step.kind} ${step.path ?? step.to}`);
+    }
+  }
+});
+
+/** The steps of a next run on some files, which takes over what the run before left. */
+const stepsOfNext = (files) => inFolder(async (folder) => {
+  lay(files, folder);
+  const disk = new TakenDown(folder);
+  const watch = new Tried(folder, disk);
+  await watch.begin();
+  await watch.end();
+  return disk.steps;
+});
+
+/** Whether a step changes what a next run finds of the run before. */
+const isTold = ({ kind, path = "", to = "" }) => (kind === "write" && path === "incidents.jsonl") || to === "state.json";
+
+test("power fails after each step of a next run too, which takes over what the run before left", async () => {
+  const [steps, left] = [await stepsOfRun(), new Left()];
+  let tried = 0;
+  for (const [number, step] of steps.entries()) {
+    left.step(step);
+    if (!isTold(step)) continue;
+    for (const isFlushed of [false, true]) {
+      const files = left.files(isFlushed);
+      const next = new Left(files);
+      for (const [at, own] of (await stepsOfNext(files)).entries()) {
+        next.step(own);
+        const found = next.files(isFlushed);
+        const problems = await problemsAfter(found, bitsIn(files));
+        assert.deepEqual(problems, [], `after step ${number}, then ${at}, ${own.kind} ${own.path ?? own.to}`);
+        tried += 1;
+      }
+    }
+  }
+  assert.ok(tried > 500, `${tried}`);
+});
 
 test("power fails at each octet of what is written: the log has whole lines, the state is the one before", async () => {
   const [steps, left] = [await stepsOfRun(), new Left()];
@@ -183,6 +267,49 @@ test("power fails at any octet of a segment: what the next run judges is what st
     const octets = whole.subarray(0, whole.length - (step.octets.length >> 1) - 1);
     const files = new Map([...before, [step.path, octets]]);
     assert.deepEqual(await problemsAfter(files, bitsIn(files)), []);
+  }
+});
+
+/** What stands in place of a part of a file. */
+const PARTS = [null, true, 0, -1, 1.5, 1e300, -1e300, 9e15, "", "x", "1-1", [], {}, [[]], [null], [{}], { a: 1 }];
+
+/** The ways to all parts of a value. */
+const waysIn = (value, way = []) =>
+  [way, ...Object.entries(Object(value)).flatMap(([name, part]) =>
+    (typeof value === "object" ? waysIn(part, [...way, name]) : []))];
+
+/** A value of which a part is another one, or is not there. */
+function spoilt(value, random) {
+  const copy = structuredClone(value);
+  const way = random.one(waysIn(copy).slice(1));
+  const owner = way.slice(0, -1).reduce((part, name) => part[name], copy);
+  if (random.once(4)) delete owner[way[way.length - 1]];
+  else owner[way[way.length - 1]] = random.one(PARTS);
+  return copy;
+}
+
+test("a state or a log of which a part is another one is read or set aside, and never ends the watch", async () => {
+  const [steps, left, random] = [await stepsOfRun(), new Left(), randomOf(17)];
+  for (const step of steps) {
+    left.step(step);
+    if (step.kind !== "rename" || step.to !== "state.json") continue;
+    for (let count = 0; count < 12; count++) {
+      const files = left.files(false);
+      const state = spoilt(JSON.parse(files.get("state.json").toString()), random);
+      const log = logOf(files).map((entry) => (random.once(4) ? spoilt(entry, random) : entry));
+      files.set("state.json", Buffer.from(JSON.stringify(state)));
+      files.set("incidents.jsonl", Buffer.from(log.map((entry) => `${JSON.stringify(entry)}\n`).join("")));
+      await inFolder(async (folder) => {
+        lay(files, folder);
+        /** @type {string[]} */
+        const said = [];
+        const watch = new Tried(folder, new Quick(), (text) => said.push(text));
+        await watch.begin();
+        await watch.end();
+        const [line = "the state: "] = said;
+        assert.ok(said.length <= 1 && line.startsWith("the state: ") && !line.includes("\n"), said.join("\n"));
+      });
+    }
   }
 });
 

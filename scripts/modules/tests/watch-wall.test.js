@@ -117,8 +117,8 @@ test("another recording has a clock of its own, and until it comes the one befor
 
 test("a time as ISO 8601 has it", () => assert.equal(iso(1795748400.25), "2026-11-27T03:00:00.250Z"));
 
-/** A watch of a made wall: incidents at true times of day, in seconds after the beginning, and what is told of them. */
-function toldOf(seconds, lost, after) {
+/** A watch of a made wall, incidents at true times of day, in seconds after the beginning, and what is told of them. */
+function watchOf(seconds, lost, after) {
   const made = new Made(5).run(30);
   const records = [];
   const office = {
@@ -132,24 +132,44 @@ function toldOf(seconds, lost, after) {
   for (const second of seconds) {
     const ahead = second < 30 ? 0 : lost;
     const place = Math.round((second - ahead) * RATE);
-    if (made.time < 1000 + second + 0.1) made.run(second + 0.1 - (made.time - 1000));
-    seamsOf(made, incidents);
+    runUntil(made, second + 0.1, incidents);
     incidents.tick(place);
     incidents.trigger(`burst ${second}`, place, place + 10);
     incidents.tick(made.place - RATE / 5);
   }
-  for (let count = 0; count < 60; count++) {
-    made.run(0.5);
-    seamsOf(made, incidents);
+  return { made, incidents, records };
+}
+
+/** Runs a watch until a second, and marks what was lost, as a watch does. */
+function runUntil(made, second, incidents) {
+  while (made.time < 1000 + second) {
+    made.run(Math.min(0.5, 1000 + second - made.time));
+    made.lost.splice(0).forEach(() => incidents.seam(made.wall.steps.at(-1).place));
     incidents.tick(made.place - RATE / 5);
   }
+}
+
+/** What is told of incidents once all is known. */
+function toldOf(seconds, lost, after) {
+  const { made, incidents, records } = watchOf(seconds, lost, after);
+  runUntil(made, 90, incidents);
   const timeOf = (wall) => Date.parse(wall) / 1000;
   return records.map(({ wall, causes, seam = false }) => ({ wall: timeOf(wall), causes: Object.keys(causes), seam }));
 }
 
-/** Marks what was lost, as a watch does. */
-function seamsOf(made, incidents) {
-  made.lost.splice(0).forEach(() => incidents.seam(made.wall.steps.at(-1).place));
+/** What is kept of two seconds that were lost and of incidents, where nothing comes after some second. */
+function keptAt(until, seconds) {
+  const { made, incidents } = watchOf(seconds, 2, 1);
+  runUntil(made, until, incidents);
+  const { wall, place } = made;
+  incidents.finish(place);
+  incidents.close();
+  const { zero, zeros } = wall.atEnd;
+  const unsettled = wall.settled < place ? [wall.settled] : [];
+  const { waiting } = incidents.kept((at) => stepAt(zeros, at)?.zero ?? zero, unsettled);
+  const timeOf = ({ zero, first }) => zero + first / RATE - 1000 - made.shift;
+  const told = waiting.map((incident) => ({ time: timeOf(incident), seam: incident.seam ?? false }));
+  return { told, lost: wall.settle(), after: wall.zero - zero, seam: wall.zeros[0]?.place };
 }
 
 test("times after lost input are right, and what lies beside the loss is marked", () => {
@@ -161,6 +181,36 @@ test("times after lost input are right, and what lies beside the loss is marked"
     assert.ok(Math.abs(late) < 0.1, `${seconds[at]} s is ${late} s late`);
   });
   assert.deepEqual(told.map(({ seam }) => seam), [true, true, false, false, false, false, false, false]);
+});
+
+const ENDS = /** @type {[until: number, wanted: string][]} */ ([
+  ...[[32.6, "marked"], [33.6, "known at the end"], [36, "known at the end"], [41, "known at the end"]],
+  [45, "known before"],
+]);
+
+for (const [until, wanted] of ENDS) {
+  test(`input that was lost at 30 s, where nothing comes after ${until} s, is ${wanted}`, () => {
+    const second = Number(until) - 0.4;
+    const { told: [{ time, seam }], lost, after, seam: place } = keptAt(Number(until), [second]);
+    assert.ok(Math.abs(after) < 1e-6, `${after}`);
+    assert.equal(seam, second < 33);
+    assert.ok(Math.abs(lost - (wanted === "known at the end" ? 2 : 0)) < 0.1, `${lost} s`);
+    if (wanted === "marked") return;
+    assert.ok(Math.abs(place / RATE - 30) < 0.1, `lost at ${place}`);
+    assert.ok(Math.abs(time - second) < 0.1, `${time}`);
+  });
+}
+
+test("what was late and is being caught up where nothing comes any more is not lost", () => {
+  for (const rate of [1.6, 2, 10]) {
+    const made = new Made().run(30).lose(5);
+    for (let left = 5; left > 0.7; left -= (rate - 1) * 0.2) {
+      made.ahead = left;
+      made.run(0.2);
+    }
+    assert.equal(made.wall.settle(), 0);
+    assert.ok(Math.abs(made.wall.zero - (1000 + made.shift)) < 0.1);
+  }
 });
 
 test("times without a loss are told at once", () => {

@@ -1,12 +1,28 @@
-import { closeSync, fsyncSync, mkdirSync, openSync, readdirSync } from "node:fs";
+import { closeSync, fsync, mkdirSync, openSync, readdirSync } from "node:fs";
 import { renameSync, rmSync, truncateSync, writeSync } from "node:fs";
 import { dirname, join } from "node:path";
+import { promisify } from "node:util";
+
+const flushed = promisify(fsync);
 
 /**
- * How a watch writes its files. What it writes is there after a power cut once this has returned: a file is written and
- * flushed before its name is, and its name before what refers to it.
+ * How a watch writes its files. A card may take seconds to flush something, and bits come meanwhile: so nothing waits
+ * for it but what is to be done in its turn. A file is flushed before its name is, and its name before what refers to
+ * it.
  */
 export class Disk {
+  /** Until all that is to be done in its turn is done. */
+  idle = Promise.resolve();
+
+  /**
+   * Does something once all that was to be done before is.
+   * @param {() => Promise<void>|void} act
+   * @param {(fault: Error) => void} tell hears why it cannot be done
+   */
+  later(act, tell) {
+    this.idle = this.idle.then(act).catch(tell);
+  }
+
   /** @param {string} path @param {string} flags */
   open(path, flags) {
     return openSync(path, flags);
@@ -17,9 +33,9 @@ export class Disk {
     return writeSync(file, octets, at);
   }
 
-  /** @param {number} file */
+  /** @param {number} file @returns {Promise<void>} */
   sync(file) {
-    fsyncSync(file);
+    return flushed(file);
   }
 
   /** @param {number} file */
@@ -28,10 +44,10 @@ export class Disk {
   }
 
   /** @param {string} path */
-  syncFolder(path) {
+  async syncFolder(path) {
     const file = openSync(path, "r");
     try {
-      fsyncSync(file);
+      await flushed(file);
     } finally {
       closeSync(file);
     }
@@ -77,19 +93,28 @@ export class Disk {
    * @param {string} flags
    * @param {Uint8Array} octets
    */
-  writeTo(path, flags, octets) {
+  async writeTo(path, flags, octets) {
     const file = this.open(path, flags);
     try {
       this.writeAll(file, octets);
-      this.sync(file);
+      await this.sync(file);
     } finally {
       this.close(file);
     }
   }
 
-  /** @param {string} path @param {string} text */
+  /**
+   * Writes text behind what a file has, and flushes nothing.
+   * @param {string} path
+   * @param {string} text
+   */
   append(path, text) {
-    this.writeTo(path, "a", Buffer.from(text));
+    const file = this.open(path, "a");
+    try {
+      this.writeAll(file, Buffer.from(text));
+    } finally {
+      this.close(file);
+    }
   }
 
   /**
@@ -97,11 +122,23 @@ export class Disk {
    * @param {string} path
    * @param {string|Uint8Array} content
    */
-  put(path, content) {
+  async put(path, content) {
     const fresh = `${path}.new`;
-    this.writeTo(fresh, "w", typeof content === "string" ? Buffer.from(content) : content);
+    await this.writeTo(fresh, "w", typeof content === "string" ? Buffer.from(content) : content);
     this.rename(fresh, path);
-    this.syncFolder(dirname(path));
+    await this.syncFolder(dirname(path));
+  }
+
+  /**
+   * The same of what need not outlive a power cut.
+   * @param {string} path
+   * @param {string} text
+   */
+  replace(path, text) {
+    const fresh = `${path}.new`;
+    this.remove(fresh);
+    this.append(fresh, text);
+    this.rename(fresh, path);
   }
 
   /**
@@ -109,12 +146,12 @@ export class Disk {
    * @param {string} fresh
    * @param {string} path
    */
-  putFolder(fresh, path) {
-    for (const name of readdirSync(fresh)) this.writeTo(join(fresh, name), "a", Buffer.alloc(0));
-    this.syncFolder(fresh);
+  async putFolder(fresh, path) {
+    for (const name of readdirSync(fresh)) await this.writeTo(join(fresh, name), "a", Buffer.alloc(0));
+    await this.syncFolder(fresh);
     this.remove(path);
     this.rename(fresh, path);
-    this.syncFolder(dirname(path));
+    await this.syncFolder(dirname(path));
   }
 }
 

@@ -21,17 +21,29 @@ const NEAR_SEAM = 1;
  * @property {Record<string, number>} causes
  * @property {number} zero
  * @property {boolean} cut whether the watch ended before it
+ * @property {boolean} [seam] whether bits were missing beside it in its run
  * @property {string} [continues] the incident of the run before that goes on in this one
  */
 
 /**
  * @typedef {object} Office what incidents need of the watch
  * @property {(place: number) => number} zero when place 0 was by the clock of a place
+ * @property {(id: string, cause: string, first: number) => boolean} [isTaken] whether another incident has an id
  * @property {() => number} [settled] the place up to which that is sure
  * @property {() => void} keep writes down what is known, which outlives the watch
  * @property {(record: import("./journal.js").Entry) => void} log
  * @property {(incident: Incident) => void} save
  */
+
+/**
+ * The places that are saved of an incident, however long it lasts.
+ * @param {{ first: number, past: number }} incident
+ * @param {{ before?: number, after: number, longest: number }} times in seconds
+ * @returns {[first: number, past: number]}
+ */
+export function savedOf({ first, past }, { before = 0, after, longest }) {
+  return [Math.max(0, first - before * RATE), Math.min(past, first + longest * RATE) + after * RATE];
+}
 
 /**
  * What came: a cause, or what is well again; and where it began and was decided.
@@ -82,20 +94,26 @@ export class Incidents {
     this.office = office;
   }
 
-  /** What outlives the watch. */
-  kept() {
-    const { open, waiting, over, long, before, count } = this;
-    const timed = (/** @type {Incident} */ incident) => ({ ...incident, zero: this.office.zero(incident.first) });
-    const all = [...waiting, ...over.map(timed)];
-    return { open: open && timed(open), waiting: all, long: [...long], before, count, ahead: this.ahead };
+  /**
+   * What outlives the watch.
+   * @param {(place: number) => number} [zero] when place 0 was by the clock of a place, were nothing more to come
+   * @param {number[]} [seams] places before which bits are missing then
+   */
+  kept(zero = this.office.zero, seams = []) {
+    const { open, waiting, over, long, before, count, ahead } = this;
+    const all = [...this.seams, ...seams];
+    const marked = (/** @type {Incident} */ one) => (this.isAtSeam(one, all) ? { ...one, seam: true } : one);
+    const timed = (/** @type {Incident} */ one) => marked({ ...one, zero: zero(one.first) });
+    const untold = [...waiting.map(marked), ...over.map(timed)];
+    return { open: open && timed(open), waiting: untold, long: [...long], before, count, ahead, seams: all };
   }
 
   /**
    * Goes on where another one of the same run was.
    * @param {import("./memory.js").Kept["incidents"]} kept
    */
-  resume({ open, waiting, long, before, count, ahead = [] }) {
-    Object.assign(this, { open, waiting, long: new Map(long), before, count, ahead: [...ahead] });
+  resume({ open, waiting, long, before, count, ahead = [], seams = [] }) {
+    Object.assign(this, { open, waiting, long: new Map(long), before, count, ahead: [...ahead], seams: [...seams] });
   }
 
   /**
@@ -165,7 +183,9 @@ export class Incidents {
 
   /** @param {string} cause @param {number} first @param {number} past @returns {Incident} */
   begun(cause, first, past) {
-    const id = `${this.run}-${++this.count}`;
+    const next = () => `${this.run}-${++this.count}`;
+    let id = next();
+    while (this.office.isTaken?.(id, cause, first)) id = next();
     const isEarly = first < GOES_ON * RATE;
     const earlier = isEarly ? this.before.find(({ cut, causes }) => cut && causes[cause] !== undefined) : undefined;
     const more = earlier ? { continues: earlier.id } : {};
@@ -194,7 +214,7 @@ export class Incidents {
   tick(mark) {
     this.take(mark - KNOWN);
     this.advance(mark - KNOWN);
-    this.settle(this.office.settled?.() ?? Infinity);
+    this.settle(this.office.settled?.() ?? Infinity, mark - KNOWN);
   }
 
   /**
@@ -243,11 +263,14 @@ export class Incidents {
   }
 
   /**
-   * Has those saved whose times are sure, and what lies beside them.
+   * Has those saved whose times are sure, and what lies beside them, and all of whose bits have come.
    * @param {number} settled the place up to which times are
+   * @param {number} [come] the place up to which bits have
    */
-  settle(settled) {
-    const sure = this.over.filter(({ past }) => past + NEAR_SEAM * RATE <= settled);
+  settle(settled, come = Infinity) {
+    const isSure = (/** @type {Incident} */ incident) =>
+      incident.past + NEAR_SEAM * RATE <= settled && savedOf(incident, this.times)[1] <= come;
+    const sure = this.over.filter(isSure);
     if (sure.length === 0) return;
     this.over = this.over.filter((incident) => !sure.includes(incident));
     for (const incident of sure) incident.zero = this.office.zero(incident.first);
@@ -259,10 +282,11 @@ export class Incidents {
   /**
    * Whether an incident is near a place before which bits are missing.
    * @param {Incident} incident
+   * @param {number[]} [seams]
    */
-  isAtSeam({ run, first, past }) {
+  isAtSeam({ run, first, past, seam = false }, seams = this.seams) {
     const near = NEAR_SEAM * RATE;
-    return run === this.run && this.seams.some((place) => first - near < place && place < past + near);
+    return seam || (run === this.run && seams.some((place) => first - near < place && place < past + near));
   }
 
   /**

@@ -1,6 +1,7 @@
 import { existsSync, readFileSync, statSync } from "node:fs";
 import { dirname } from "node:path";
 import { DISK } from "./disk.js";
+import { isRun } from "./memory.js";
 
 /** @typedef {{ event: string, wall: string, run: number, place: number } & Record<string, unknown>} Entry of the log */
 
@@ -42,7 +43,8 @@ export class Journal {
     this.write = write;
     this.warn = warn;
     this.disk = disk;
-    this.isNamed = existsSync(path); // whether a power cut leaves the log its name
+    this.isNamed = existsSync(path); // whether a power cut leaves the log its name,
+    this.isFlushed = true; // and all its lines
     this.cutOffHalfALine();
   }
 
@@ -74,7 +76,7 @@ export class Journal {
 
   /** The number of the last run that the log has, or 0. */
   get lastRun() {
-    return this.told().reduce((last, { run }) => (run > last ? run : last), 0);
+    return Math.max(0, ...this.told().map(({ run }) => run).filter(isRun));
   }
 
   /** @param {Entry} record */
@@ -88,17 +90,27 @@ export class Journal {
 
   /** Writes what waits; where the disk takes a part of it, that is taken back. */
   flush() {
+    const tell = (/** @type {Error} */ fault) => this.warn(`the log: ${fault.message}`);
     try {
       for (; this.waiting.length > 0; this.waiting.shift()) this.disk.append(this.path, this.waiting[0]);
-      if (!this.isNamed) this.disk.syncFolder(dirname(this.path));
-      this.isNamed = true;
+      this.isFlushed = false;
+      this.disk.later(() => this.sync(), tell);
     } catch (fault) {
-      this.warn(`the log: ${/** @type {Error} */ (fault).message}`);
+      tell(/** @type {Error} */ (fault));
       try {
         this.cutOffHalfALine();
       } catch {
         // the next line tries again
       }
     }
+  }
+
+  /** Flushes what was written. */
+  async sync() {
+    if (this.isFlushed) return;
+    this.isFlushed = true;
+    await this.disk.writeTo(this.path, "a", Buffer.alloc(0));
+    if (!this.isNamed) await this.disk.syncFolder(dirname(this.path));
+    this.isNamed = true;
   }
 }

@@ -11,8 +11,8 @@ import { DISK } from "./disk.js";
  * @property {number} zero when place 0 was, by the last place
  * @property {{ place: number, zero: number }[]} [zeros] the same up to places before which input was lost
  * @property {ReturnType<import("./triggers.js").Triggers["kept"]>} triggers
- * @property {Omit<ReturnType<import("./incidents.js").Incidents["kept"]>, "ahead">
- *   & { ahead?: import("./incidents.js").Event[] }} incidents
+ * @property {Omit<ReturnType<import("./incidents.js").Incidents["kept"]>, "ahead"|"seams">
+ *   & { ahead?: import("./incidents.js").Event[], seams?: number[] }} incidents
  */
 
 const NOTHING = {
@@ -24,8 +24,23 @@ const NOTHING = {
 /** @param {any} value */
 const isObject = (value) => typeof value === "object" && value !== null && !Array.isArray(value);
 
+/** The greatest numbers that a watch writes: of seconds since 1970, and of places. What is greater is no date. */
+const [MOST_SECONDS, MOST_PLACES] = [2 ** 40, 2 ** 50];
+
 /** @param {any} value */
-const isPlace = (value) => value === null || Number.isFinite(value);
+const isTime = (value) => typeof value === "number" && Math.abs(value) <= MOST_SECONDS;
+
+/** @param {any} value */
+const isPlace = (value) => typeof value === "number" && Math.abs(value) <= MOST_PLACES;
+
+/**
+ * Whether a value is the number of a run.
+ * @param {any} value
+ */
+export const isRun = (value) => Number.isInteger(value) && value >= 0 && isPlace(value);
+
+/** @param {(value: any) => boolean} is @returns {(value: any) => boolean} */
+const orNull = (is) => (value) => value === null || is(value);
 
 /** @param {any} values @param {(value: any) => boolean} is */
 const areAll = (values, is) => Array.isArray(values) && values.every(is);
@@ -33,40 +48,45 @@ const areAll = (values, is) => Array.isArray(values) && values.every(is);
 /** @param {any} value */
 const isIncident = (value) =>
   isObject(value) && typeof value.id === "string" && typeof value.cut === "boolean" && isObject(value.causes) &&
-  [value.run, value.first, value.past, value.zero, ...Object.values(value.causes)].every(Number.isFinite) &&
+  [value.run, value.first, value.past, ...Object.values(value.causes)].every(isPlace) && isTime(value.zero) &&
   Object.keys(value.causes).length > 0;
 
 /** @param {any} value */
 const isKind = (value) =>
-  isObject(value) && [value.usual, value.bad, value.badFrom].every(Number.isFinite) &&
-  [value.last, value.since].every(isPlace) && [value.isBad, value.isGone].every((is) => typeof is === "boolean");
+  isObject(value) && [value.usual, value.bad, value.badFrom].every(isPlace) && orNull(isPlace)(value.last) &&
+  orNull(isTime)(value.since) && [value.isBad, value.isGone].every((is) => typeof is === "boolean");
+
+/** @param {any} value */
+const isMark = (value) => isObject(value) && isPlace(value.past);
 
 /** @param {any} value */
 const areTriggers = (value) =>
-  isObject(value) && isObject(value.kinds) && Object.values(value.kinds).every(isKind) && isPlace(value.lastHeard) &&
-  areAll(value.pieces, Number.isFinite) && (value.judged === null || isObject(value.judged));
+  isObject(value) && isObject(value.kinds) && Object.values(value.kinds).every(isKind) &&
+  orNull(isPlace)(value.lastHeard) && areAll(value.pieces, isPlace) && orNull(isMark)(value.judged);
 
 /** @param {any} value */
 const isLong = (value) =>
   Array.isArray(value) && typeof value[0] === "string" && isObject(value[1]) &&
-  [value[1].first, value[1].past, value[1].count].every(Number.isFinite);
+  [value[1].first, value[1].past, value[1].count].every(isPlace);
 
 /** @param {any} value */
-const isEvent = (value) => isObject(value) && [value.first, value.past].every(Number.isFinite);
+const isEvent = (value) =>
+  isObject(value) && [value.first, value.past].every(isPlace) && orNull(isTime)(value.since ?? null);
 
 /** @param {any} value */
 const areIncidents = (value) =>
-  isObject(value) && Number.isFinite(value.count) && (value.open === null || isIncident(value.open)) &&
+  isObject(value) && isPlace(value.count) && orNull(isIncident)(value.open) &&
   areAll(value.waiting, isIncident) && areAll(value.before, isIncident) && areAll(value.long, isLong) &&
-  areAll(value.ahead ?? [], isEvent);
+  (value.ahead === undefined || areAll(value.ahead, isEvent)) &&
+  (value.seams === undefined || areAll(value.seams, isPlace));
 
 /** @param {any} value */
-const isStep = (value) => isObject(value) && [value.place, value.zero].every(Number.isFinite);
+const isStep = (value) => isObject(value) && isPlace(value.place) && isTime(value.zero);
 
 /** @param {any} value */
 const isKept = (value) =>
-  isObject(value) && Number.isInteger(value.run) && value.run >= 0 && typeof value.isOver === "boolean" &&
-  isPlace(value.wall) && Number.isFinite(value.zero) && areAll(value.zeros ?? [], isStep) &&
+  isObject(value) && isRun(value.run) && typeof value.isOver === "boolean" &&
+  orNull(isTime)(value.wall) && isTime(value.zero) && (value.zeros === undefined || areAll(value.zeros, isStep)) &&
   areTriggers(value.triggers) && areIncidents(value.incidents);
 
 /**
@@ -118,8 +138,8 @@ export function untold({ open, waiting }, told) {
  */
 export function onlyBegun(entries, known) {
   const told = new Set([...known, ...entries.filter(({ event }) => event === "incident")].map(({ id }) => id));
-  const isWhole = (/** @type {import("./journal.js").Entry} */ { wall, run, place }) =>
-    !Number.isNaN(Date.parse(wall)) && [run, place].every(Number.isFinite);
+  const isWhole = (/** @type {{ id: string } & import("./journal.js").Entry} */ { id, wall, run, place }) =>
+    typeof id === "string" && !Number.isNaN(Date.parse(wall)) && isRun(run) && isPlace(place);
   const begun = entries.filter((entry) => entry.event === "begun" && isWhole(entry) && !told.has(entry.id));
   return begun.map(({ id, run, place, wall, cause }) => ({
     ...{ id, run, first: place, past: place, causes: { [String(cause)]: 1 } },

@@ -70,11 +70,18 @@ const isLast = (row, last) =>
  */
 export async function judgedRest({ run, zero: last, zeros, triggers: known, incidents: before }, ring, asked, journal) {
   const zero = (/** @type {number} */ place) => stepAt(zeros ?? [], place)?.zero ?? last;
-  const told = new Set(journal.told().map(keyOf));
+  const entries = journal.told();
+  const told = new Set(entries.map(keyOf));
+  const begun = new Map(entries.filter(({ event }) => event === "begun").map((entry) => [entry.id, entry]));
   const log = (/** @type {Entry} */ record) => (told.has(keyOf(record)) ? undefined : journal.log(record));
-  const incidents = new Incidents(run, asked.limits, { zero, keep() {}, save() {}, log });
+  /** @type {NonNullable<import("./incidents.js").Office["isTaken"]>} */
+  const isTaken = (id, cause, first) => {
+    const entry = begun.get(id);
+    return entry !== undefined && (entry.cause !== cause || entry.place !== first);
+  };
+  const incidents = new Incidents(run, asked.limits, { zero, keep() {}, save() {}, log, isTaken });
   incidents.resume(before);
-  if (before.open) incidents.tellBegun(before.open);
+  if (before.open && !begun.has(before.open.id)) incidents.tellBegun(before.open);
   const triggers = new Triggers({
     trigger: (cause, first, past) => incidents.trigger(cause, first, past),
     wellAgain: (about, first, past, since) => incidents.wellAgain(about, first, past, since),
@@ -95,15 +102,19 @@ export async function judgedRest({ run, zero: last, zeros, triggers: known, inci
 async function judge(triggers, incidents, ring, asked) {
   const { judged } = triggers;
   const from = Math.max((judged?.past ?? 0) - BEFORE, ring.beginOf(incidents.run, MOST));
-  const [piece, ...others] = ring.read(asked.form, incidents.run, from, Infinity);
-  if (piece) await judgePiece(triggers, incidents, piece, judged, asked);
-  for (const other of others) {
-    incidents.seam(other.place);
-    triggers.seam(other.place);
-    await judgePiece(triggers, incidents, other, null, asked);
+  let past = from;
+  let last = judged;
+  for (const piece of ring.read(asked.form, incidents.run, from, Infinity)) {
+    if (piece.place > (last?.past ?? 0)) {
+      incidents.seam(piece.place);
+      triggers.seam(piece.place);
+      last = null;
+    }
+    await judgePiece(triggers, incidents, piece, last, asked);
+    [past, last] = [piece.past, null];
   }
   incidents.take(Infinity);
-  return others.at(-1)?.past ?? piece?.past ?? from;
+  return past;
 }
 
 /**

@@ -131,20 +131,26 @@ export class Ring {
     this.hole = null;
   }
 
+  /**
+   * Does something with the disk in its turn.
+   * @param {() => Promise<void>|void} act
+   */
+  later(act) {
+    this.disk.later(act, (fault) => this.warn(`the ring: ${fault.message}`));
+  }
+
   /** Flushes what was added. */
   sync() {
-    if (this.file !== null) this.disk.sync(this.file);
+    const { file } = this;
+    if (file !== null) this.later(() => this.disk.sync(file));
   }
 
   close() {
     const { file } = this;
-    this.file = null;
     if (file === null) return;
-    try {
-      this.disk.sync(file);
-    } finally {
-      this.disk.close(file);
-    }
+    this.sync();
+    this.later(() => this.disk.close(file));
+    this.file = null;
   }
 
   /**
@@ -161,7 +167,7 @@ export class Ring {
     const name = `${padded(this.run, 6)}-${padded(place, 18)}`;
     this.file = this.disk.open(this.path(name), "w");
     this.segments.push({ name, size: 0 });
-    this.disk.syncFolder(this.folder);
+    this.later(() => this.disk.syncFolder(this.folder));
   }
 
   /** Makes room for a segment. */
@@ -183,9 +189,8 @@ export class Ring {
     const [from, to] = [this.path(segment.name), this.path(`${segment.name}.gz`)];
     try {
       const packed = await zipped(readFileSync(from), { level: 1 });
-      if (!this.segments.includes(segment)) return;
-      this.disk.put(to, packed);
-      this.disk.remove(from);
+      if (this.segments.includes(segment)) await this.disk.put(to, packed);
+      this.disk.remove(this.segments.includes(segment) ? from : to);
       Object.assign(segment, { name: `${segment.name}.gz`, size: packed.length });
     } catch {
       this.disk.remove(`${to}.new`);

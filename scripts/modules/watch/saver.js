@@ -13,6 +13,7 @@ import { report } from "../statistics/report.js";
 import { wordsOfList } from "./decoder.js";
 import { DISK } from "./disk.js";
 import { captureOf, octetsBefore } from "./forms.js";
+import { savedOf } from "./incidents.js";
 import { holesOf, nearestOf } from "./pieces.js";
 import { roomIn } from "./ring.js";
 import { iso } from "./wall.js";
@@ -129,23 +130,13 @@ export class Saver {
   }
 
   /**
-   * The places that are to be saved.
-   * @param {Incident} incident
-   * @returns {[first: number, past: number]}
-   */
-  wanted({ first, past }) {
-    const { before, after, longest } = this.limits;
-    return [Math.max(0, first - before * RATE), Math.min(past, first + longest * RATE) + after * RATE];
-  }
-
-  /**
-   * What is missing of them: the end of an earlier run is where its bits end.
+   * What is missing of an incident's places: the end of an earlier run is where its bits end.
    * @param {Incident} incident
    * @param {Piece[]} found
    * @returns {Missing[]}
    */
   holesIn(incident, found) {
-    const [first, past] = this.wanted(incident);
+    const [first, past] = savedOf(incident, this.limits);
     const end = incident.run === this.ring.run ? this.ring.past : found.at(-1)?.past ?? past;
     const told = (/** @type {import("./pieces.js").Hole} */ hole) =>
       ({ wall: iso(incident.zero + hole.first / RATE), place: hole.first, seconds: (hole.past - hole.first) / RATE });
@@ -169,7 +160,7 @@ export class Saver {
    * @returns {Promise<Saved>} whose name is null where there is no room, or none of the bits is there any more
    */
   async save(incident, record) {
-    const found = this.ring.read(this.decoding.form, incident.run, ...this.wanted(incident));
+    const found = this.ring.read(this.decoding.form, incident.run, ...savedOf(incident, this.limits));
     const holes = this.holesIn(incident, found);
     const room = BESIDE * found.reduce((sum, { octets }) => sum + octets.length, 0) + PAGE;
     if (found.length === 0 || !this.hasRoom(room)) return { saved: null, holes };
@@ -179,7 +170,7 @@ export class Saver {
       mkdirSync(fresh);
       await this.fill(fresh, incident, found, { ...record, ...(holes.length > 0 && { holes }) });
       this.prune(sizeOf(fresh), name);
-      this.disk.putFolder(fresh, join(this.folder, name));
+      await this.disk.putFolder(fresh, join(this.folder, name));
       return { saved: name, holes };
     } catch (fault) {
       rmSync(fresh, { recursive: true, force: true });

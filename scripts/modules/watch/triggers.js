@@ -91,7 +91,7 @@ export class Triggers {
    */
   seam(place) {
     this.pieces = [];
-    if (this.lastHeard !== null) this.lastHeard = place;
+    if (this.lastHeard !== null && !this.isAtRest) this.lastHeard = place;
     for (const kind of this.kinds.values()) {
       if (kind.last !== null && !kind.isGone) kind.last = place;
       kind.bad = 0;

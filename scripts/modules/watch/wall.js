@@ -3,6 +3,9 @@ import { RATE } from "../port1.js";
 /** How long a delay has to stay before it is judged, in seconds; and how slowly the clock of the bits is followed. */
 const [STEADY, FOLLOWED] = [10, 60];
 
+/** The same where nothing more comes; and how much less a delay is of input that was late and is caught up. */
+const [STEADY_AT_END, CAUGHT_UP] = [1, 0.1];
+
 /** A step of the system's clock that is told, in seconds. */
 const STEP = 0.5;
 
@@ -39,6 +42,8 @@ export class Wall {
   settled = 0; // the one up to which times are sure
   /** @type {{ now: number, delay: number }[]} the least delays, each until a lesser one came */
   window = [];
+  /** @type {{ first: number, least: number, since: number }|null} */
+  risen = null; // delays that are great, since they fell last
   isAnew = true;
   since = 0; // when the first delay came that is judged
   last = 0;
@@ -69,9 +74,22 @@ export class Wall {
     this.window = [];
   }
 
-  /** No more is to be known of what came. */
+  /**
+   * No more is to be known of what came.
+   * @returns {number} seconds that were lost
+   */
   settle() {
+    const lost = this.lostAtEnd;
+    if (lost > 0) this.step(/** @type {number} */ (this.base) + lost);
     this.settled = this.place;
+    this.risen = null;
+    return lost;
+  }
+
+  /** What was lost, in seconds, were nothing more to come. */
+  get lostAtEnd() {
+    const { risen, last, base } = this;
+    return risen && last - risen.since >= STEADY_AT_END ? risen.least - /** @type {number} */ (base) : 0;
   }
 
   /**
@@ -90,8 +108,16 @@ export class Wall {
     while (this.window[0].now < now - STEADY) this.window.shift();
     const lost = this.follow(this.window[0].delay, elapsed, now);
     this.place = place;
-    if (delay - /** @type {number} */ (this.base) < this.lost) this.settled = place;
+    if (delay - /** @type {number} */ (this.base) >= this.lost) this.rise(delay, now);
+    else [this.settled, this.risen] = [place, null];
     return lost;
+  }
+
+  /** @param {number} delay @param {number} now */
+  rise(delay, now) {
+    const { risen } = this;
+    if (risen && delay > risen.first - CAUGHT_UP) risen.least = Math.min(risen.least, delay);
+    else this.risen = { first: delay, least: delay, since: now };
   }
 
   /**
@@ -131,6 +157,13 @@ export class Wall {
   get zeros() {
     return this.steps.map(({ place, base }) => ({ place, zero: base + this.shift }));
   }
+
+  /** Both, were nothing more to come. */
+  get atEnd() {
+    const { zero, zeros, lostAtEnd, settled } = this;
+    if (lostAtEnd === 0) return { zero, zeros };
+    return { zero: zero + lostAtEnd, zeros: [...zeros, { place: settled, zero }] };
+  }
 }
 
 /** The same of a recording that began at a known time: its bits are the clock. */
@@ -155,7 +188,13 @@ export class RecordedWall {
 
   restart() {}
 
-  settle() {}
+  settle() {
+    return 0;
+  }
+
+  get atEnd() {
+    return { zero: this.zero, zeros: this.zeros };
+  }
 
   /** @param {number} place */
   take(place) {

@@ -28,6 +28,7 @@ export class Watch {
   saving = Promise.resolve();
   kept = { time: 0, place: 0 }; // when what is known was written down, in seconds, and where
   keepBits = KEEP_BITS;
+  known = { number: 0, text: "" }; // what is to be written down, and how often that was so
 
   decoder = /** @type {Decoder} */ (/** @type {unknown} */ (null)); // until it begins
 
@@ -139,12 +140,25 @@ export class Watch {
 
   /** Writes down what outlives the watch. */
   keep(isOver = false) {
-    const triggers = this.triggers.kept((place) => this.timeOf(place));
-    const [{ zero, zeros }, wall, incidents] = [this.wall, this.wall.now(), this.incidents.kept()];
+    const { zero, zeros } = this.wall.atEnd;
+    const zeroAt = (/** @type {number} */ place) => stepAt(zeros, place)?.zero ?? zero;
+    const triggers = this.triggers.kept((place) => zeroAt(place) + place / RATE);
+    const [wall, incidents] = [this.wall.now(), this.incidents.kept(zeroAt, this.unsettled())];
     /** @type {import("./memory.js").Kept} */
     const known = { run: this.number, isOver, wall, zero, zeros, triggers, incidents };
-    this.tried("ring", () => this.ring.sync());
-    this.tried("state", () => this.disk.put(this.state, JSON.stringify(known)));
+    this.ring.sync();
+    this.known = { number: this.known.number + 1, text: JSON.stringify(known) };
+    const { number } = this.known;
+    const tell = (/** @type {Error} */ fault) => this.complain(`the state: ${fault.message}`);
+    this.disk.later(() => this.putKnown(number), tell);
+  }
+
+  /**
+   * Puts what is known on disk, unless that is out of date: what is newer comes later, and after what it goes with.
+   * @param {number} number
+   */
+  async putKnown(number) {
+    if (number === this.known.number) await this.disk.put(this.state, this.known.text);
   }
 
   /**
@@ -169,11 +183,28 @@ export class Watch {
   look(lost) {
     const set = this.wall.set();
     if (set !== 0) this.log("clock set", { seconds: Number(set.toFixed(3)) });
+    this.lose(lost);
+  }
+
+  /** @param {number} lost seconds of input */
+  lose(lost) {
     if (lost === 0) return;
     this.lost += lost;
     const place = this.wall.zeros.at(-1)?.place ?? 0;
     this.incidents.seam(place);
     this.log("input lost", { wall: iso(this.timeOf(place)), place, seconds: Number(lost.toFixed(3)) });
+  }
+
+  /** The place, if there is one, after which it is not known yet whether input was lost. */
+  unsettled() {
+    const { settled } = this.wall;
+    return settled < this.packer.places ? [settled] : [];
+  }
+
+  /** Nothing more comes by which it is known whether input was lost: what has come decides. */
+  settle() {
+    this.unsettled().forEach((place) => this.incidents.seam(place));
+    this.lose(this.wall.settle());
   }
 
   /**
@@ -203,19 +234,10 @@ export class Watch {
     const { prometheus } = this.asked;
     const counts = { lost, unsaved, failed: ring.failed, places, last: this.timeOf(places) };
     if (!prometheus) return;
-    this.tried("metrics", () => this.disk.put(prometheus, metricsOf(this.triggers, this.incidents.tally, counts)));
-  }
-
-  /**
-   * Does what a full disk may keep from being done.
-   * @param {string} what
-   * @param {() => void} act
-   */
-  tried(what, act) {
     try {
-      act();
+      this.disk.replace(prometheus, metricsOf(this.triggers, this.incidents.tally, counts));
     } catch (fault) {
-      this.complain(`the ${what}: ${/** @type {Error} */ (fault).message}`);
+      this.complain(`the metrics: ${/** @type {Error} */ (fault).message}`);
     }
   }
 
@@ -225,6 +247,7 @@ export class Watch {
    * @param {Record<string, unknown>} [more]
    */
   seam(event, more = {}) {
+    this.settle();
     this.incidents.seam(this.packer.places);
     this.triggers.seam(this.packer.places);
     this.wall.restart();
@@ -276,7 +299,7 @@ export class Watch {
     this.incidents.finish(places);
     this.incidents.cutOff();
     this.incidents.close();
-    this.wall.settle();
+    this.settle();
     this.incidents.settle(Infinity);
     await this.saving;
     this.ring.goOn(this.ring.past);
@@ -285,5 +308,6 @@ export class Watch {
     this.keep(isWell);
     this.measure();
     this.log("end");
+    await this.disk.idle;
   }
 }

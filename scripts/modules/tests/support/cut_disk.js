@@ -35,13 +35,18 @@ export class TakenDown extends Disk {
     return count;
   }
 
-  sync(file) {
+  async sync(file) {
     this.note({ kind: "sync", path: this.paths.get(file) });
+    await this.waited();
   }
 
-  syncFolder(path) {
+  async syncFolder(path) {
     this.note({ kind: "syncFolder", path });
+    await this.waited();
   }
+
+  /** What a flush waits for. */
+  waited() {}
 
   rename(from, to) {
     super.rename(from, to);
@@ -61,9 +66,32 @@ export class TakenDown extends Disk {
 
 /** A disk that flushes nothing. */
 export class Quick extends Disk {
-  sync() {}
+  async sync() {}
 
-  syncFolder() {}
+  async syncFolder() {}
+}
+
+/** A disk that takes down what is done to it, and flushes something only when it is let. */
+export class Slow extends TakenDown {
+  /** @type {(() => void)[]} */
+  waiting = [];
+  isLet = false;
+
+  waited() {
+    return this.isLet ? Promise.resolve() : new Promise((done) => this.waiting.push(() => done(undefined)));
+  }
+
+  /** Lets the first flush that waits be done. */
+  async let() {
+    this.waiting.shift()?.();
+    await new Promise((done) => setTimeout(() => done(undefined), 0));
+  }
+
+  /** Lets all be done. */
+  letAll() {
+    this.isLet = true;
+    this.waiting.splice(0).forEach((done) => done());
+  }
 }
 
 const isIn = (path, folder) => folder === "" || path === folder || path.startsWith(`${folder}/`);
@@ -72,6 +100,12 @@ const isIn = (path, folder) => folder === "" || path === folder || path.startsWi
 export class Left {
   names = new Map(); // files by path: their octets, and those that were flushed
   flushed = new Map(); // of names that were
+
+  /** @param {Map<string, Buffer>} [files] that are there, flushed */
+  constructor(files = new Map()) {
+    this.names = new Map([...files].map(([path, octets]) => [path, { octets, flushed: octets }]));
+    this.flushed = new Map(this.names);
+  }
 
   open({ path, flags }) {
     const known = this.names.get(path);
@@ -86,7 +120,7 @@ export class Left {
 
   sync({ path }) {
     const file = this.names.get(path);
-    file.flushed = file.octets;
+    if (file) file.flushed = file.octets; // it may be removed before its turn comes
   }
 
   truncate({ path, size }) {
@@ -111,6 +145,15 @@ export class Left {
 
   step(step) {
     this[step.kind](step);
+  }
+
+  /** The files where by chance some stayed that was not flushed: names, and octets up to any. */
+  mixed(random) {
+    const names = new Set([...this.names.keys(), ...this.flushed.keys()]);
+    const files = [...names].map((name) => [name, (random.once(2) ? this.names : this.flushed).get(name)]);
+    const lengthOf = ({ octets, flushed }) =>
+      random.once(2) ? octets.length : random.between(Math.min(flushed.length, octets.length), octets.length);
+    return new Map(files.flatMap(([name, file]) => (file ? [[name, file.octets.subarray(0, lengthOf(file))]] : [])));
   }
 
   /** The files, by name. @param {boolean} isFlushed whether only what was flushed stays */
