@@ -101,7 +101,7 @@ fn analyse_some<C: Check, W: Write>(
 }
 
 /// Takes so many symbols of these octets, with the 1s that bring the second line to rest among them.
-fn analyse_block<C: Check, W: Write>(
+fn analyse_rested<C: Check, W: Write>(
     bits: &[u8],
     lines: &[u8],
     count: usize,
@@ -199,7 +199,7 @@ impl<C: Check> CaptureKind for ClockAnalyser<C> {
         w: &mut W,
     ) -> Result<(), ToolFault> {
         let (bit, is_second) = symbol;
-        analyse_block(&[u8::from(bit)], &[u8::from(is_second)], 1, run, w)
+        analyse_rested(&[u8::from(bit)], &[u8::from(is_second)], 1, run, w)
     }
 
     fn analyse_text<W: Write>(
@@ -215,7 +215,7 @@ impl<C: Check> CaptureKind for ClockAnalyser<C> {
         let mut bits = [0; BLOCK];
         let mut lines = [0; BLOCK];
         let block = TextArrivals::part(octets, &mut bits, &mut lines);
-        analyse_block(&bits, &lines, block.count, run, w)?;
+        analyse_rested(&bits, &lines, block.count, run, w)?;
         Ok(block.taken)
     }
 
@@ -235,7 +235,7 @@ impl<C: Check> CaptureKind for ClockAnalyser<C> {
         let mut bits = [0; BLOCK];
         let mut lines = [0; BLOCK];
         body.unpack_octets(whole, &mut bits, &mut lines);
-        analyse_block(&bits, &lines, 4 * whole.len(), run, w)?;
+        analyse_rested(&bits, &lines, 4 * whole.len(), run, w)?;
         Ok(count)
     }
 

@@ -18,23 +18,23 @@ unpack_octets-requires-clause-sixteens g c =
       c.whole-count.ensures.sixteens,
     )
 
-pub returns-in_err-analyse_block-clause-taken : goal.returns-in_err-analyse_block-clause-taken
-returns-in_err-analyse_block-clause-taken g c =
+pub returns-in_err-analyse_rested-clause-taken : goal.returns-in_err-analyse_rested-clause-taken
+returns-in_err-analyse_rested-clause-taken g c =
     let failed = err_from_is_err_and c.from_residual.result c.from_residual.ensures.1 in
     rw (failed.1, failed.2) (λ start xs followed.
     let whole = take c.whole-count.result c.args.octets.now in (
       c.whole-count.result,
-      octets-taken c.laws.ensures _ (xs ++ whole) c.unpack_octets.new.self (Err c.in_err-analyse_block.field-0.0)
-          c.requires.places c.analyse_block.ensures.same followed.bits.bits
+      octets-taken c.laws.ensures _ (xs ++ whole) c.unpack_octets.new.self (Err c.in_err-analyse_rested.field-0.0)
+          c.requires.places c.analyse_rested.ensures.same followed.bits.bits
           (octets-read packed_arrival_capture pair_body c.arrivals_are_head_and_body.ensures.headed _ whole _
           c.unpack_octets.ensures.given followed.read)
-          (c.in_err-analyse_block.ensures.taken start _ followed.bits),
+          (c.in_err-analyse_rested.ensures.taken start _ followed.bits),
     ))
 
 pub returns-clause-taken : goal.returns-clause-taken
 returns-clause-taken g c = λ start xs followed.
     let whole = take c.whole-count.result c.args.octets.now in
     octets-taken c.laws.ensures _ (xs ++ whole) c.unpack_octets.new.self (Ok tt) c.requires.places
-    c.analyse_block.ensures.same followed.bits.bits
+    c.analyse_rested.ensures.same followed.bits.bits
     (octets-read packed_arrival_capture pair_body c.arrivals_are_head_and_body.ensures.headed _ whole _
-    c.unpack_octets.ensures.given followed.read) (c.in_ok-analyse_block.ensures.taken start _ followed.bits)
+    c.unpack_octets.ensures.given followed.read) (c.in_ok-analyse_rested.ensures.taken start _ followed.bits)

@@ -17,10 +17,10 @@ held false false = refl
 pub returns-clause-taken : goal.returns-clause-taken
 returns-clause-taken g c = λ start b fed.
     let kind = arrivals_kind g.C.Check.check in
-    let run = c.analyse_block.new.run in
-    let now = g.W.Write.contents c.analyse_block.new.w in
+    let run = c.analyse_rested.new.run in
+    let now = g.W.Write.contents c.analyse_rested.new.w in
     let symbol = c.args.symbol in
     let this : zip (bits_from (c.from.result ∷ []) 0 1) (bits_from (c.from-2.result ∷ []) 0 1) ≡ symbol ∷ [] =
     rw (c.from.ensures, c.from-2.ensures) (held symbol.0 symbol.1) in
-    subst (λ (xs : List (Bool × Bool)). MatchResult c.analyse_block.result (λ _. FeedAfter kind start now run (b ++ xs))
-    (λ f. FeedStopsWith kind start now run (b ++ xs) f)) this (c.analyse_block.ensures.taken start b fed)
+    subst (λ (xs : List (Bool × Bool)). MatchResult c.analyse_rested.result (λ _. FeedAfter kind start now run (b ++ xs))
+    (λ f. FeedStopsWith kind start now run (b ++ xs) f)) this (c.analyse_rested.ensures.taken start b fed)

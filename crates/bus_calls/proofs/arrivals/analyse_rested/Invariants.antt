@@ -2,7 +2,7 @@ use Rattle.std.proofs.Common.{ℕ, ◌-◌, ◌≤◌, Bool, List, ◌++◌, Opt
 use Rattle.bus_bits.specs.Bits.{bits_from}
 use Rattle.bus_calls.specs.Internal.Arrivals.{arrivals_kind}
 use Rattle.bus_calls.specs.Internal.Watching.{IsSound, FeedAfter, IsSame}
-use Rattle.bus_calls.proofs.arrivals.analyse_block.Given as goal
+use Rattle.bus_calls.proofs.arrivals.analyse_rested.Given as goal
 
 -- the symbols so far were taken
 abbrev pub invariant-loop-taken : goal.invariant-loop-taken

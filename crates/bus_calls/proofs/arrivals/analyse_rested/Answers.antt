@@ -6,7 +6,7 @@ use Rattle.bus_tap.proofs.ArrivalLemmas.{symbols-more}
 use Rattle.bus_calls.specs.Internal.Arrivals.{arrivals_kind}
 use Rattle.bus_calls.specs.Internal.Watching.{FeedAfter, FeedStopsWith}
 use Rattle.bus_calls.proofs.WatchingLemmas.{same-both, same-self}
-use Rattle.bus_calls.proofs.arrivals.analyse_block.Goals as goal
+use Rattle.bus_calls.proofs.arrivals.analyse_rested.Goals as goal
 
 module _ (bits lines : List ℕ) where
   -- so many of these symbols, and more behind them
