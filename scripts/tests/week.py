@@ -59,9 +59,12 @@ LONG_RUN = 2400 * RATE
 # The faults of the part in real time, in seconds: of a run whose power is cut in the last of them, and of the next one.
 LIVE = [
     [(4, 5.2, "silent", 2), (9, 10.3, "lose", 0), (12, 13, "burst", 0.03), (17, 18, "late", 1)],
-    [(3, 4, "silent", 16), (8, 9.4, "lose", 0), (11.5, 12.5, "silent", 1)],
+    [(3, 4, "silent", 16), (9.5, 10.5, "silent", 1), (14, 15.4, "lose", 0), (17.5, 18.5, "silent", 2)],
 ]
-LIVE_ENDS = [40, 15]
+LIVE_ENDS = [40, 21]
+
+# When the disk is full in the last run, and for how long, in seconds: the bits of the incident after it have a hole.
+LIVE_FULL = (5.5, 2.0)
 
 # How far times of day may be from those of the bus, in seconds.
 NEAR = 0.2
@@ -172,13 +175,10 @@ def place_in(ring: Path) -> Tuple[int, int]:
     return int(run), int(place)
 
 
-def fill(disk: Path, week: "Week") -> None:
-    """Keeps a disk full for a while, from a place on."""
-    begin, length = week.plan.full
-    while week.place() < begin:
-        time.sleep(0.01)
+def fill(disk: Path, seconds: float) -> None:
+    """Keeps a disk full for a while."""
     filler = disk / "filler"
-    until = time.monotonic() + length
+    until = time.monotonic() + seconds
     with filler.open("wb", buffering=0) as file:
         while time.monotonic() < until:
             room = os.statvfs(disk)
@@ -186,7 +186,6 @@ def fill(disk: Path, week: "Week") -> None:
                 os.posix_fallocate(file.fileno(), filler.stat().st_size, room.f_bfree * room.f_bsize)
             time.sleep(0.005)
     filler.unlink()
-    week.has_hole = True
 
 
 def turns_from(plan: Plan, begin: int, past: int) -> List[Tuple[int, int]]:
@@ -220,6 +219,14 @@ class Week:
         """The place that the watch has come to."""
         run, place = place_in(self.folder / "watch" / "ring")
         return self.begin + place if run == len(self.runs) + 1 else 0
+
+    def fill(self) -> None:
+        """Keeps the disk full for a while, from a place on."""
+        begin, seconds = self.plan.full
+        while self.place() < begin:
+            time.sleep(0.01)
+        fill(self.folder / "watch", seconds)
+        self.has_hole = True
 
     def words_of(self, begin: int, is_live: bool) -> List[object]:
         date = time.strftime("%Y-%m-%dT%H:%M:%SZ", time.gmtime(BEGIN + begin / RATE))
@@ -322,6 +329,9 @@ class Week:
             last = faults[-1]
             end = End(last[0] + 0.2, True) if seconds > last[1] + 10 else None
             self.live.append(len(self.runs) + 1)
+            if end is None:
+                at, length = LIVE_FULL
+                threading.Timer(at, fill, (self.folder / "watch", length)).start()
             begin = self.run(begin, begin + seconds * RATE, end, True) + 30 * RATE
 
     def problems_of_live(self) -> Iterator[str]:
@@ -367,10 +377,9 @@ def problems_of_days(
 ) -> List[str]:
     """What is wrong with some days, or as many of them as fit into some seconds, so many times as fast as the bus."""
     needs("node")
-    with disk_of(600, folder) as disk:
+    with disk_of(600, folder):
         week = Week(folder, plan_of(41, days, ends, full), days, seconds, form, speed)
-        filler = threading.Thread(target=fill, args=(disk, week), daemon=True)
-        filler.start()
+        threading.Thread(target=week.fill, daemon=True).start()
         began = time.monotonic()
         week.go()
         print(f"{week.past / RATE / DAY:.2f} days in {time.monotonic() - began:.0f} s: {week.figures()}", flush=True)
@@ -378,8 +387,10 @@ def problems_of_days(
         print(f"status of each run {[run.status for run in week.runs]}; said {said}", flush=True)
         problems = (problem for problem in judged(week.cabinet, week.runs) if not problem.startswith("not saved"))
         problems = (problem for problem in problems if not problem.endswith("is not there"))  # old folders go
-        is_told = any(record["event"] == "bits not kept" for record in week.cabinet.log) or not week.has_hole
-        hole = [] if is_told else ["no hole is told"]
+        told = [record["run"] for record in week.cabinet.log if record["event"] == "bits not kept"]
+        holes = [record["run"] for record in week.cabinet.incidents if "holes" in record]
+        is_told = len(told) > week.has_hole and week.live[-1] in told and week.live[-1] in holes
+        hole = [] if is_told else [f"holes: told in runs {told}, in incidents of runs {holes}"]
         return [*week.problems, *hole, *problems, *week.problems_of_live(), *week.problems_of_bits()]
 
 
