@@ -1,4 +1,4 @@
-"""Simulated days of bus-watch, with faults of all kinds and all that can happen to a watch, and then a part in real time.
+"""Simulated days of bus-watch, with faults of all kinds and all that can happen to a watch, and a part in real time.
 
     PORT1=PROGRAM PYTHONPATH=scripts:scripts/port1_scripts:tests python3 -m tests.week DAYS [SECONDS]
 
@@ -9,6 +9,7 @@ and the watch is killed or its power cut, each within an incident. The part in r
 incidents, before a power cut and before the end: there times of day are judged too.
 """
 
+import contextlib
 import json
 import os
 import random
@@ -55,12 +56,15 @@ UNFLUSHED, UNFLUSHED_LIVE = IN_PIPES + 70 * RATE, 14 * RATE
 # A run of so many places is so long that a second watch can be tried beside it.
 LONG_RUN = 2400 * RATE
 
-# The faults of the part in real time, in seconds: in the first run, whose power is cut in its last one, and in the next.
+# The faults of the part in real time, in seconds: of a run whose power is cut in the last of them, and of the next one.
 LIVE = [
     [(4, 5.2, "silent", 2), (9, 10.3, "lose", 0), (12, 13, "burst", 0.03), (17, 18, "late", 1)],
-    [(3, 4, "silent", 16), (8, 9.4, "lose", 0), (11.5, 12.5, "silent", 1)],
+    [(3, 4, "silent", 16), (9.5, 10.5, "silent", 1), (14, 15.4, "lose", 0), (17.5, 18.5, "silent", 2)],
 ]
-LIVE_ENDS = [40, 15]
+LIVE_ENDS = [40, 21]
+
+# When the disk is full in the last run, and for how long, in seconds: the bits of the incident after it have a hole.
+LIVE_FULL = (5.5, 2.0)
 
 # How far times of day may be from those of the bus, in seconds.
 NEAR = 0.2
@@ -89,7 +93,7 @@ class Plan(NamedTuple):
     faults: List[Fault]
     deaths: List[int]  # places where a recorder dies
     ends: List[End]
-    full: Tuple[float, float]  # when the disk is full, in seconds after the beginning, and for how long
+    full: Tuple[int, float]  # from which place on the disk is full, and for how many seconds
 
 
 def more_faults(generator: random.Random, days: float, faults: Sequence[Fault]) -> List[Fault]:
@@ -105,7 +109,7 @@ def more_faults(generator: random.Random, days: float, faults: Sequence[Fault]) 
     return found
 
 
-def plan_of(seed: int, days: float, ends: Sequence[End], full: Tuple[float, float]) -> Plan:
+def plan_of(seed: int, days: float, ends: Sequence[End], full: Tuple[int, float]) -> Plan:
     generator = random.Random(seed)
     faults = schedule(seed, int(DAY * days), int(150 * days))
     faults = sorted([*faults, *more_faults(generator, days, faults)])
@@ -164,18 +168,23 @@ def children(pid: int) -> List[str]:
     return read(Path(f"/proc/{pid}/task/{pid}/children")).split()
 
 
-def fill(disk: Path, plan: Plan) -> None:
+def place_in(ring: Path) -> Tuple[int, int]:
+    """The run and the place at which the last segment of a ring begins."""
+    names = sorted(path.name.split(".")[0] for path in ring.glob("0*-*"))
+    run, place = names[-1].split("-") if names else (0, 0)
+    return int(run), int(place)
+
+
+def fill(disk: Path, seconds: float) -> None:
     """Keeps a disk full for a while."""
-    begin, length = plan.full
-    time.sleep(begin)
     filler = disk / "filler"
-    until = time.monotonic() + length
+    until = time.monotonic() + seconds
     with filler.open("wb", buffering=0) as file:
         while time.monotonic() < until:
-            try:
-                file.write(bytes(1 << 20))
-            except OSError:
-                time.sleep(0.02)
+            room = os.statvfs(disk)
+            with contextlib.suppress(OSError):  # the watch may have taken it meanwhile
+                os.posix_fallocate(file.fileno(), filler.stat().st_size, room.f_bfree * room.f_bsize)
+            time.sleep(0.005)
     filler.unlink()
 
 
@@ -190,13 +199,15 @@ def turns_from(plan: Plan, begin: int, past: int) -> List[Tuple[int, int]]:
 
 
 class Week:
-    def __init__(self, folder: Path, plan: Plan, days: float, seconds: float, form: str) -> None:
-        self.form = form
+    def __init__(self, folder: Path, plan: Plan, days: float, seconds: float, form: str, speed: int) -> None:
+        self.form, self.speed = form, speed
         self.folder, self.plan, self.past = folder, plan, int(DAY * days) * RATE
         self.until = time.monotonic() + seconds
         self.runs: List[Watched] = []
         self.most: Dict[str, int] = {}
         self.live: List[int] = []  # the runs in real time
+        self.begin = 0  # of the run
+        self.has_hole = False
         self.counts = {"kills in an open incident": 0, "power cuts in one": 0, "second watches refused": 0}
         self.problems: List[str] = []
 
@@ -204,9 +215,22 @@ class Week:
     def cabinet(self) -> Cabinet:
         return Cabinet(self.folder, self.plan.faults, form=self.form)
 
+    def place(self) -> int:
+        """The place that the watch has come to."""
+        run, place = place_in(self.folder / "watch" / "ring")
+        return self.begin + place if run == len(self.runs) + 1 else 0
+
+    def fill(self) -> None:
+        """Keeps the disk full for a while, from a place on."""
+        begin, seconds = self.plan.full
+        while self.place() < begin:
+            time.sleep(0.01)
+        fill(self.folder / "watch", seconds)
+        self.has_hole = True
+
     def words_of(self, begin: int, is_live: bool) -> List[object]:
         date = time.strftime("%Y-%m-%dT%H:%M:%SZ", time.gmtime(BEGIN + begin / RATE))
-        source = SOURCE.format(simulator=SIMULATOR, form=self.form, speed=int(is_live))
+        source = SOURCE.format(simulator=SIMULATOR, form=self.form, speed=1 if is_live else self.speed)
         words = [SCRIPTS / "bus-watch", "watch", "--dictionary", DICTIONARY, "--ring", "256M", "--keep", "200M"]
         words += ["--floor", "16M", "--source", source, *(["--two"] if self.form == "pairs" else [])]
         return [*words, "--after", "1"] if is_live else [*words, "--begin", date]
@@ -258,6 +282,7 @@ class Week:
         """Runs the watch from a place on, until all has come or it is ended, in the next open incident after so many
         seconds; tells where the recorder was."""
         is_cut = end is not None and end.is_cut
+        self.begin = begin
         watch = self.start(begin, past, is_cut, is_live)
         gauge = Gauge(watch, self.folder / "watch")
         gauge.start()
@@ -290,9 +315,9 @@ class Week:
         begin = 0
         for end in [*self.plan.ends, End(10 * DAY, False)]:
             left = self.until - time.monotonic()
-            if left > LEAST and begin < self.past:
+            if left > LEAST and begin + 60 * RATE < self.past:
                 begin = self.run(begin, self.past, end._replace(seconds=min(end.seconds, left))) + 30 * RATE
-        if begin < self.past:  # there was no time for more
+        if begin + 60 * RATE < self.past:  # there was no time for more
             self.past = self.run(begin, begin + 120 * RATE)
         self.go_live(max(self.past, begin) + 60 * RATE)
 
@@ -304,6 +329,9 @@ class Week:
             last = faults[-1]
             end = End(last[0] + 0.2, True) if seconds > last[1] + 10 else None
             self.live.append(len(self.runs) + 1)
+            if end is None:
+                at, length = LIVE_FULL
+                threading.Timer(at, fill, (self.folder / "watch", length)).start()
             begin = self.run(begin, begin + seconds * RATE, end, True) + 30 * RATE
 
     def problems_of_live(self) -> Iterator[str]:
@@ -334,7 +362,8 @@ class Week:
         marks = {name: sum(name in record for record in self.cabinet.incidents) for name in ("cut", "holes", "seam")}
         unsaved = sum(record["saved"] is None for record in self.cabinet.incidents)
         known = [f for f in self.plan.faults if not f.is_small and any(run.watches(f) for run in self.runs)]
-        return f"{len(known)} faults to be found; {counts}; {unsaved} not saved, {marks}; {self.counts}; most {self.most}"
+        known_and_told = f"{len(known)} faults to be found; {counts}; {unsaved} not saved, {marks}"
+        return f"{known_and_told}; {self.counts}; most {self.most}"
 
 
 def last_run(folder: Path) -> int:
@@ -344,26 +373,30 @@ def last_run(folder: Path) -> int:
 
 
 def problems_of_days(
-    folder: Path, days: float, ends: Sequence[End], full: Tuple[float, float], seconds: float, form: str
+    folder: Path, days: float, ends: Sequence[End], full: Tuple[int, float], seconds: float, form: str, speed: int = 0
 ) -> List[str]:
-    """What is wrong with some days, or as many of them as fit into some seconds."""
+    """What is wrong with some days, or as many of them as fit into some seconds, so many times as fast as the bus."""
     needs("node")
-    with disk_of(600, folder) as disk:
-        week = Week(folder, plan_of(41, days, ends, full), days, seconds, form)
-        filler = threading.Thread(target=fill, args=(disk, week.plan), daemon=True)
-        filler.start()
+    with disk_of(600, folder):
+        week = Week(folder, plan_of(41, days, ends, full), days, seconds, form, speed)
+        threading.Thread(target=week.fill, daemon=True).start()
         began = time.monotonic()
         week.go()
         print(f"{week.past / RATE / DAY:.2f} days in {time.monotonic() - began:.0f} s: {week.figures()}", flush=True)
-        print(f"status of each run {[run.status for run in week.runs]}; said {(folder / 'said').read_text()}", flush=True)
+        said = (folder / "said").read_text()
+        print(f"status of each run {[run.status for run in week.runs]}; said {said}", flush=True)
         problems = (problem for problem in judged(week.cabinet, week.runs) if not problem.startswith("not saved"))
         problems = (problem for problem in problems if not problem.endswith("is not there"))  # old folders go
-        return [*week.problems, *problems, *week.problems_of_live(), *week.problems_of_bits()]
+        told = [record["run"] for record in week.cabinet.log if record["event"] == "bits not kept"]
+        holes = [record["run"] for record in week.cabinet.incidents if "holes" in record]
+        is_told = len(told) > week.has_hole and week.live[-1] in told and week.live[-1] in holes
+        hole = [] if is_told else [f"holes: told in runs {told}, in incidents of runs {holes}"]
+        return [*week.problems, *hole, *problems, *week.problems_of_live(), *week.problems_of_bits()]
 
 
 def an_hour_of_all(folder: Path) -> List[str]:
-    """A simulated hour with each of it."""
-    return problems_of_days(folder, 1 / 24, [End(3, False), End(3, True)], (4, 2), DAY, "arrivals")
+    """A simulated hour with each of it, five hundred times as fast as the bus, and a part in real time."""
+    return problems_of_days(folder, 1 / 24, [End(2, False), End(1, True)], (2475 * RATE, 0.5), DAY, "arrivals", 500)
 
 
 TESTS = [an_hour_of_all]
@@ -373,7 +406,7 @@ def main(days: float, seconds: float) -> None:
     generator = random.Random(6)
     with tempfile.TemporaryDirectory(prefix="port1-") as folder:
         ends = [End(generator.uniform(0.4, 1.6) * seconds / 12, bool(at % 2)) for at in range(10)]
-        problems = problems_of_days(Path(folder), days, ends, (seconds / 4, 20), seconds, "pairs")
+        problems = problems_of_days(Path(folder), days, ends, (int(DAY * days / 4) * RATE, 20), seconds, "pairs")
     print("\n".join([*problems, f"{len(problems)} problems"]))
 
 

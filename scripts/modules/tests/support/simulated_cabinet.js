@@ -127,7 +127,8 @@ function flush() {
   try {
     for (let at = 0; at < held; ) at += writeSync(1, room, at, held - at);
   } catch (error) {
-    if (/** @type {{ code?: string }} */ (error).code !== "EPIPE") throw error;
+    const { code = "" } = /** @type {{ code?: string }} */ (error);
+    if (code !== "EPIPE" && code !== "ECONNRESET") throw error;
     console.error(`places ${from} ${written}`);
     process.exit(0);
   }
