@@ -85,7 +85,8 @@ loop-turn-preserved g c =
     let start = g.E.Write.contents c.args.e.now in
     let same = c.consume_read.ensures.options ∙ c.loop-turn.invariant.options in
     let told = c.in_ok-look.ensures start before.0 (take c.in-Ok.count c.read.new.buffer) (search rules) (search rules)
-    read.taken.tap (subst (λ o. HasTold o start (g.E.Write.contents c.loop-turn.e) before.0) (sym same) before.4) in record {
+    read.taken.tap
+    (subst (λ o. HasTold o start (g.E.Write.contents c.loop-turn.e) before.0) (sym same) before.4) in record {
       few = search rules;
       unfailed = c.in-Ok.ensures.same ∙ c.loop-turn.invariant.unfailed;
       options = c.consume_read.ensures.options ∙ c.loop-turn.invariant.options;
