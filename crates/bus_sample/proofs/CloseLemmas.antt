@@ -1,5 +1,6 @@
 -- The end of the text.
-use Rattle.std.proofs.Common.{◌≡◌, ◌∙◌, ◌++◌, ℕ, List, [], replicate, refl, sym, append-nil, append_assoc, Option, Err, inl}
+use Rattle.std.proofs.Common.{◌≡◌, ◌∙◌, ◌++◌, ℕ, List, [], replicate, refl, sym, append-nil, append_assoc, Option}
+use Rattle.std.proofs.Common.{Err, inl}
 use Rattle.std.specs.Io.KnownBytes.{Appends}
 use Rattle.bus_text.specs.Pages.{Pages}
 use Rattle.bus_text.specs.Put.{TextStopsAt}

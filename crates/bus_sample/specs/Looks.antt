@@ -20,7 +20,8 @@ pub data AreLooks (o : SampleOptions) : List ℕ → List TapFacts → Type 0 wh
   before : AreLooks o [] []
   quiet : (xs ys : List ℕ) → o.looks ≡ false → AreLooks o xs [] → AreLooks o (xs ++ ys) []
   after : (xs ys : List ℕ) (fs : List TapFacts) (f : TapFacts) → o.looks ≡ true → 1 ≤ length ys
-      → length ys ≤ most_read → AreLooks o xs fs → AreTapFacts o.hold o.jump f (levels o (recorded o.form (xs ++ ys))) → AreLooks o (xs ++ ys) (fs ++ f ∷ [])
+      → length ys ≤ most_read → AreLooks o xs fs
+      → AreTapFacts o.hold o.jump f (levels o (recorded o.form (xs ++ ys))) → AreLooks o (xs ++ ys) (fs ++ f ∷ [])
 
 -- the second writer got the text of the looks at these octets
 abbrev pub HasTold : SampleOptions → Option (List ℕ) → Option (List ℕ) → List ℕ → Type 0

@@ -175,8 +175,8 @@ module _ (hold b s : ℕ) where
       ) refl
 
 -- until they count they bring none
-pub waits-quietly : (t : TapState) (o : Option SamplerState) (b s : ℕ) → t.sampler ≡ o → IsStill o b → HasHold t.hold o →
-    BringNone t (replicate t.hold s)
+pub waits-quietly : (t : TapState) (o : Option SamplerState) (b s : ℕ) → t.sampler ≡ o → IsStill o b →
+    HasHold t.hold o → BringNone t (replicate t.hold s)
 waits-quietly t None b s is was of = absurd was
 waits-quietly t (Some old) b s is was of =
     let start : t.sampler ≡ Some (waiting t.hold b s 0) = is ∙ ap Some (settled-waits t.hold b s old of was) in

@@ -76,7 +76,8 @@ module _ {C : Type 0} {view : CheckView C} {old : LinesState C} {bit : Bool} {e 
   -- that of the first bit of the piece that it decides
   opened-at : (r : Report) → WasOpen (own Second xs) bit r →
       places.opened ≡ old.first.origin + place_of (xs ++ (Second, bit) ∷ []) r.first
-  opened-at r was = opened-place old.first.origin old.places places xs bit opens reached.places notes-at opening-at r was
+  opened-at r was =
+      opened-place old.first.origin old.places places xs bit opens reached.places notes-at opening-at r was
 
   last-bit : LastBit old.first.origin old.second.longest xs bit second.octets e places
   last-bit = record {

@@ -4,8 +4,8 @@ ghost use Rattle.std.specs.Prelude.{◌≡◌, ◌+◌, ◌-◌, ◌++◌, ◌�
 ghost use Rattle.bus_pairing.specs.declared.line.Line.TheVariants.{First, Second};
 ghost use Rattle.bus_tap.specs.Arrival.{Arrival, own};
 ghost use Rattle.bus_tap.specs.Lines.{BeginsAt};
-ghost use Rattle.bus_tap.specs.Places.{AreLocated, IsLocated, IsOpenSpan, IsPast, KeepsDecided, KeepsPlaces, LocatesLast};
-ghost use Rattle.bus_tap.specs.Places.{Notes};
+ghost use Rattle.bus_tap.specs.Places.{AreLocated, IsLocated, IsOpenSpan, IsPast, KeepsDecided, KeepsPlaces};
+ghost use Rattle.bus_tap.specs.Places.{LocatesLast, Notes};
 
 use bus_bits::Span;
 use bus_line::{Event, EventKind};

@@ -69,8 +69,8 @@ returns-in_err-look-clause-read g c =
     let read = c.in_ok-consume_read.ensures.read (g.W.Write.contents c.args.w.now) before.0 before.2 in
     let start = g.E.Write.contents c.args.e.now in
     let same = c.consume_read.ensures.options ∙ c.loop-turn.invariant.options in
-    let cut = c.in_err-look.ensures start before.0 (take c.in-Ok.count c.read.new.buffer) (search rules) (search rules) read.taken.tap
-    (subst (λ o. HasTold o start (g.E.Write.contents c.loop-turn.e) before.0) (sym same) before.4) in
+    let cut = c.in_err-look.ensures start before.0 (take c.in-Ok.count c.read.new.buffer) (search rules) (search rules)
+    read.taken.tap (subst (λ o. HasTold o start (g.E.Write.contents c.loop-turn.e) before.0) (sym same) before.4) in
     rw (raised.1, raised.2, cut.0) (
       xs,
       consumes_both _ _ _ before.0 _ before.1 c.in-Ok.ensures.octets.0,
@@ -84,7 +84,8 @@ loop-turn-preserved g c =
     let read = c.in_ok-consume_read.ensures.read (g.W.Write.contents c.args.w.now) before.0 before.2 in
     let start = g.E.Write.contents c.args.e.now in
     let same = c.consume_read.ensures.options ∙ c.loop-turn.invariant.options in
-    let told = c.in_ok-look.ensures start before.0 (take c.in-Ok.count c.read.new.buffer) (search rules) (search rules) read.taken.tap
+    let told = c.in_ok-look.ensures start before.0 (take c.in-Ok.count c.read.new.buffer) (search rules) (search rules)
+    read.taken.tap
     (subst (λ o. HasTold o start (g.E.Write.contents c.loop-turn.e) before.0) (sym same) before.4) in record {
       few = search rules;
       unfailed = c.in-Ok.ensures.same ∙ c.loop-turn.invariant.unfailed;
@@ -95,8 +96,8 @@ loop-turn-preserved g c =
         consumes_both _ _ _ before.0 _ before.1 c.in-Ok.ensures.octets.0,
         read,
         longer before.0 c.read.new.buffer c.in-Ok.count c.loop-turn._turn before.3 (search rules) (search rules),
-        subst (λ o. HasTold o start (g.E.Write.contents c.look.new.e) (before.0 ++ take c.in-Ok.count c.read.new.buffer))
-            same told,
+        subst (λ o. HasTold o start (g.E.Write.contents c.look.new.e)
+            (before.0 ++ take c.in-Ok.count c.read.new.buffer)) same told,
       );
     }
 
