@@ -232,7 +232,7 @@ INPUTS = [
     ),
     Input("an empty file", {"empty.csv": b""}, "", {STATUS: "^empty.csv is empty"}),
     Input("a picture", {"tap.png": b"\x89PNG\r\n\x1a\n\0\0"}, "", {STATUS: "^tap.png is a picture"}),
-    Input("a table with semicolons", {"t.csv": b"Time;TXC\n0;1\n"}, "", {STATUS: "no commas part"}),
+    Input("words", {"notes.txt": b"station 16 flashes\n"}, "", {STATUS: "^notes.txt is text, but no capture"}),
     Input("a dictionary alone", DICT, "", {STATUS: "^The dictionary is kept. Now drop a recording.$"}),
     Input(
         "what cannot be read beside what can",

@@ -33,3 +33,19 @@ export async function octetsOf(part) {
     throw faultOf(error);
   }
 }
+
+/**
+ * Octets with others before them.
+ * @param {Uint8Array} first
+ * @param {Uint8Array} second
+ * @returns {Uint8Array}
+ */
+export function joined(first, second) {
+  if (first.length === 0) {
+    return second;
+  }
+  const both = new Uint8Array(first.length + second.length);
+  both.set(first);
+  both.set(second, first.length);
+  return both;
+}

@@ -1,6 +1,7 @@
-"""Recordings with faults of the analyser or of their file, one table: what is said of each, and that no station is blamed.
+"""Tables of inputs: recordings with faults of the analyser or of their file, and texts as people have them.
 
-Nothing is wrong on the bus. Each recording is read as bus-report does it, and all that it says is in the table.
+On the bus of a recording nothing is wrong: what is said of each is in the table, and no station is blamed. Texts are
+read alike however they are written, or refused in one short line.
 """
 
 import io
@@ -8,10 +9,10 @@ import re
 import zipfile
 from functools import lru_cache
 from pathlib import Path
-from typing import Callable, List, NamedTuple, Sequence, Tuple
+from typing import Callable, Dict, Iterator, List, NamedTuple, Sequence, Tuple
 
 from needs import needs_module
-from tests.case import Run, ran
+from tests.case import DICTIONARY, TOP, Run, Word, listed, ran
 
 try:
     import numpy as np
@@ -246,4 +247,161 @@ def faults_of_the_analyser(folder: Path) -> List[str]:
     return [f"{row.name}: {problem}" for row in rows() for problem in problems_of(row, folder)]
 
 
-TESTS = [faults_of_the_analyser]
+# How a text may be written.
+WRITINGS: Dict[str, Callable[[str], bytes]] = {
+    "a byte order mark": lambda text: b"\xef\xbb\xbf" + text.encode(),
+    "CR LF": lambda text: text.replace("\n", "\r\n").encode(),
+    "a byte order mark and CR LF": lambda text: b"\xef\xbb\xbf" + text.replace("\n", "\r\n").encode(),
+    "CR": lambda text: text.replace("\n", "\r").encode(),
+    "UTF-16": lambda text: b"\xff\xfe" + text.encode("utf-16-le"),
+    "UTF-16, the high octet first, and CR LF": lambda text: b"\xfe\xff" + text.replace("\n", "\r\n").encode("utf-16-be"),
+}
+
+# How a table may be written.
+PARTINGS: Dict[str, Callable[[str], str]] = {
+    "commas": lambda text: text,
+    "semicolons and decimal commas": lambda text: text.replace(",", ";").replace(".", ","),
+    "semicolons": lambda text: text.replace(",", ";"),
+    "tabs": lambda text: text.replace(",", "\t"),
+    "tabs and decimal commas": lambda text: text.replace(",", "\t").replace(".", ","),
+    "sep=;": lambda text: "sep=;\n" + text.replace(",", ";").replace(".", ","),
+    "sep=,": lambda text: "sep=,\n" + text,
+}
+
+LIMITS = "[bus]\nframes = 2\ndamaged = 0\n"
+
+Outcome = Tuple[int, bytes, bytes]
+
+
+def outcome(words: Sequence[Word], stdin: bytes = b"") -> Outcome:
+    got = ran(words, stdin)
+    return got.returncode, got.stdout, got.stderr
+
+
+def wires_as_text() -> str:
+    return (TOP / "examples" / "four-wires.csv").read_text(encoding="ascii")
+
+
+def dump_as_text() -> str:
+    return (TOP / "examples" / "call-and-reply.vcd").read_text(encoding="ascii")
+
+
+def listing_as_text() -> str:
+    capture = (TOP / "examples" / "two-clocks.arrivals").read_bytes()
+    return listed(capture, ["--bits", "--arrivals", "--dict", DICTIONARY]).stdout.decode()
+
+
+class Reading(NamedTuple):
+    """A text that a command reads: on standard input or, where a word is @, from a file."""
+
+    words: Sequence[str]
+    text: str
+    stdin: bytes = b""
+
+
+def readings(folder: Path) -> Iterator[Reading]:
+    """Every command that reads a text of people. Other files that they need are in a folder."""
+    listing = listing_as_text()
+    (folder / "limits.toml").write_text(LIMITS, encoding="ascii")
+    (folder / "unit.list").write_text(listing, encoding="ascii")
+    arrivals = (TOP / "examples" / "two-clocks.arrivals").read_bytes()
+    yield Reading(["recording-to-bits", "TXC", "TXD", "RXC", "RXD"], wires_as_text())
+    yield Reading(["recording-to-bits", "clk", "tx", "rx"], dump_as_text())
+    yield from (Reading(words, listing) for words in (["bus-summary"], ["list-to-jsonl"], ["draft-dictionary"]))
+    yield Reading(["list-to-pcap", "--text", "153600"], listing)
+    yield Reading(["bus-limits", str(folder / "limits.toml"), "unit=@"], listing)
+    yield Reading(["bus-limits", "@", f"unit={folder / 'unit.list'}"], LIMITS)
+    yield Reading(["dictionary-to-lua"], DICTIONARY)
+    yield Reading(["bus-summary", "--dictionary", "@"], DICTIONARY, listing.encode())
+    yield Reading(["bus-watch", "@/", "--begin", "2026-01-01T00:00:00Z", "--dictionary", "@"], DICTIONARY, arrivals)
+
+
+def read_as(reading: Reading, octets: bytes, folder: Path) -> Outcome:
+    """What a command makes of a text that is written in some way."""
+    if not any("@" in word for word in reading.words):
+        return outcome(reading.words, octets)
+    folder.mkdir(parents=True)
+    (folder / "text").write_bytes(octets)
+    names = {"@/": str(folder / "made"), "@": str(folder / "text")}
+    words = [names.get(word, word.replace("=@", f"={folder / 'text'}")) for word in reading.words]
+    return outcome(words, reading.stdin)
+
+
+def writings(folder: Path) -> List[str]:
+    """Each command reads a text alike, however it is written."""
+    problems = []
+    for number, reading in enumerate(readings(folder)):
+        name, own = " ".join(reading.words[:2]), folder / str(number)
+        wanted = read_as(reading, reading.text.encode(), own / "plain")
+        problems += [] if wanted[0] == 0 else [f"{name}: {wanted}"]
+        for how, write in WRITINGS.items():
+            got = read_as(reading, write(reading.text), own / how)
+            problems += [] if got == wanted else [f"{name}: {how}: wanted {wanted}, got {got}"]
+    return problems
+
+
+def partings(_: Path) -> List[str]:
+    """A table is read alike, whatever parts its cells and however it is written."""
+    problems, words = [], ["recording-to-bits", "TXC", "TXD", "RXC", "RXD"]
+    wanted = outcome(words, wires_as_text().encode())
+    for parting, write in PARTINGS.items():
+        for how in ("CR LF", "UTF-16"):
+            got = outcome(words, WRITINGS[how](write(wires_as_text())))
+            problems += [] if got == wanted else [f"{parting}, {how}: {got}"]
+    return problems
+
+
+class Refusal(NamedTuple):
+    """An input that is refused: the words after a command, what it reads, and the one line that it says."""
+
+    words: Sequence[str]
+    stdin: bytes
+    said: str
+
+
+LONG = "x" * 3000
+
+REFUSALS = [
+    Refusal(["recording-to-bits", "--samplerate=0", "0", "1"], b"", 'error: --samplerate: "0" is no rate above 0'),
+    Refusal(["recording-to-bits", "--octets=9", "0", "1"], b"", 'error: --octets: "9" is no whole number from 1 to 8'),
+    Refusal(["recording-to-bits", f"--samplerate={LONG}", "0", "1"], b"", f'error: --samplerate: "{LONG[:80]}" .. is no rate'),
+    Refusal(["recording-to-bits", "a", "b"], f"Time {LONG},a,b\n0,0,1\n".encode(),
+            f'the times of the column "Time {LONG[:75]}" .. have no known unit: export them in seconds'),
+    Refusal(["recording-to-bits", "a", "c"], f"a,b,{','.join([LONG] * 9)}\n0,1\n".encode(),
+            f"no channel has the name c; there are: a, b, {LONG[:394]} .."),
+    Refusal(["recording-to-bits", "a", "b"], "\u200ba,b\n0,1\n".encode(), "no channel has the name a; there are: \\u200ba, b"),
+    Refusal(["recording-to-bits", "a", "b"], f"Time [s],a,b\n0,0,1\n1{LONG},1,1\n".encode(), f'row 2: "1{LONG[:79]}" .. is no time'),
+    Refusal(["bus-summary"], "8 49 frame 108300fde5\n57\u00a098 idle\n".encode(),
+            'line 2 is no line of `port1 list`: "57\\u00a098 idle"'),
+    Refusal(["bus-summary"], b"8 49 frame 108300fde5\n57 98 idle\r\n", 'line 2 is no line of `port1 list`: "57 98 idle\\r"'),
+    Refusal(["bus-summary"], f"8 49 {LONG}\n".encode(), f'line 1 is no line of `port1 list`: "8 49 {LONG[:75]}" ..'),
+    Refusal(["dictionary-to-lua"], b"version = 2 # \xe4\n", "standard input is no text in UTF-8 or UTF-16: save it as UTF-8"),
+]
+
+
+def refusals(_: Path) -> List[str]:
+    """What is refused: its last line, which is short, with a status of 2."""
+    problems = []
+    for words, stdin, said in REFUSALS:
+        status, _, stderr = outcome(words, stdin)
+        last = stderr.decode().splitlines()[-1:]
+        wanted = [f"{words[0]}: {said}"]
+        problems += [] if (status, last) == (2, wanted) else [f"wanted {wanted}, got {status} {stderr[-600:]!r}"]
+    return problems
+
+
+def cut_listings(folder: Path) -> List[str]:
+    """A listing that is cut within its last line never passes, however it is written."""
+    (folder / "limits.toml").write_text(LIMITS, encoding="ascii")
+    text, problems = listing_as_text(), []
+    for how, write in {"plain": str.encode, **WRITINGS}.items():
+        whole = write(text)
+        last = len(write(text.splitlines(keepends=True)[-1])) - len(write(""))
+        for cut in (1, 2, last // 2, last - 2):
+            (folder / "unit.list").write_bytes(whole[: len(whole) - max(cut, len(write("\n")) - len(write("")))])
+            got = outcome(["bus-limits", folder / "limits.toml", f"unit={folder / 'unit.list'}"])
+            problems += [] if got[0] == 2 and b"PASS" not in got[1] else [f"{how}, without {cut} octets: {got}"]
+    return problems
+
+
+TESTS = [faults_of_the_analyser, writings, partings, refusals, cut_listings]

@@ -107,7 +107,7 @@ BAD_LINES = [
 
 
 def bad_line(script: str, text: str) -> str:
-    return f"{script}: line 2 is no line of `port1 list`: {json.dumps(text.rstrip())}\n"
+    return f"{script}: line 2 is no line of `port1 list`: {json.dumps(text)}\n"
 
 
 RUNS = [

@@ -94,7 +94,7 @@ RUNS = [
             [SCRIPT, "0", "1"],
             text,
             b"",
-            f"{SCRIPT}: this is text, and neither a VCD nor a CSV with commas; if it is samples, say --format binary\n",
+            f"{SCRIPT}: this is text, and neither a VCD nor a table (CSV); if it is samples, say --format binary\n",
             2,
         )
         for text in [b"version = 2\n[[frame]]\n", b"8 49 frame 108300fde5\n"]
@@ -105,9 +105,7 @@ RUNS = [
             (b"PK\3\4" + bytes(26) + b"meta.json", "a session of Saleae Logic: export its data there, as CSV."),
             (b"PK\3\4" + bytes(26) + b"header", "a session of DSView: export its data there, as CSV or VCD."),
             (b"\x89PNG\r\n\x1a\n", "a picture."),
-            ("a,b\n0,1\n".encode("utf-16"), "text in UTF-16: save it as UTF-8."),
-            (b"clk;data in\n0;1\n1;0\n", "a table whose cells no commas part: export it with commas."),
-            (b"clk\tdata\n0\t1\n", "a table whose cells no commas part: export it with commas."),
+            (b"\xff\xfe\x42\x30\x44\x30", "text in UTF-16: save it as UTF-8."),
         ]
     ],
     Run(

@@ -1,8 +1,16 @@
+import { octetsOf } from "../../../scripts/modules/octets.js";
 import { usualOf } from "../../../scripts/modules/recording/usual.js";
+import { plainText } from "../../../scripts/modules/text.js";
 import { element, make } from "./dom.js";
 import { chosenFiles, droppedFiles } from "./given.js";
 
 /** @typedef {import("./given.js").Given} Given */
+
+/**
+ * The text of a file, plain.
+ * @param {File} file
+ */
+export const textOf = async (file) => plainText(await octetsOf(file), file.name);
 
 /** The choice of files, and of how each is read. */
 export class Files {

@@ -10,7 +10,7 @@ import { restOf } from "./command.js";
 import { DictionaryPane } from "./dictionary.js";
 import { element, fillList, make, save } from "./dom.js";
 import { octetsOf, unpacked } from "./embedded.js";
-import { Files } from "./files.js";
+import { Files, textOf } from "./files.js";
 import { Heading } from "./heading.js";
 import { Incidents, incidentsAmong, shownOf } from "./incidents.js";
 import { FORMS } from "./job.js";
@@ -226,7 +226,7 @@ class Page {
     const shown = shownOf(incident, this.engine !== null);
     if (shown === null) throw new Error(`${incident.path} has neither bits.ts2 nor listing.txt.`);
     const dictionary = incident.files.get("cabinet.toml");
-    if (dictionary) await this.dictionary.set(await dictionary.text(), dictionary.name);
+    if (dictionary) await this.dictionary.set(await textOf(dictionary), dictionary.name);
     this.chosen = [shown.file];
     this.files.offer(this.chosen);
     this.zero = shown.begin;
@@ -251,7 +251,7 @@ class Page {
     const [rest, others] = [[], []];
     for (const file of files) {
       const { form, why } = await this.desk.lookAt(file);
-      if (form === "dictionary") await this.dictionary.set(await file.text(), file.name);
+      if (form === "dictionary") await this.dictionary.set(await textOf(file), file.name);
       else if (form === "other") others.push(`${file.name} is ${why}`);
       else rest.push(file);
     }

@@ -2,6 +2,7 @@ import { isListing } from "../../../scripts/modules/listing/read.js";
 import { SESSION, formOf as formOfRecording } from "../../../scripts/modules/recording/forms.js";
 import { otherForm } from "../../../scripts/modules/recording/others.js";
 import { characters } from "../../../scripts/modules/recording/words.js";
+import { plainHead } from "../../../scripts/modules/text.js";
 
 /** @typedef {1|2|"arrivals"} Kind of a capture: of one line, of pairs, or of bits in the order of arrival */
 
@@ -46,11 +47,11 @@ function whyNot(text) {
  * @returns {Found}
  */
 export function formOf(head) {
-  const text = characters(head);
   if (head.length === 0) return { form: "other", why: "empty: it has no octet." };
-  const kind = PACKED[text.slice(0, 8)];
+  const kind = PACKED[characters(head.subarray(0, 8))];
   if (kind) return { form: "packed", kind };
-  if (SESSION.test(text)) return { form: "session" };
+  if (SESSION.test(characters(head))) return { form: "session" };
+  const text = characters(plainHead(head));
   if (isListing(head)) return { form: "listing" };
   if (MARKS.test(text)) return { form: "text", kind: kindOf(text) };
   if (DICTIONARY.test(text)) return { form: "dictionary" };

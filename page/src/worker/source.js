@@ -12,6 +12,7 @@ import { Moments } from "../../../scripts/modules/recording/moments.js";
 import { recordingOf } from "../../../scripts/modules/recording/recording.js";
 import { samplingOf } from "../../../scripts/modules/recording/sampling.js";
 import { sessionOf } from "../../../scripts/modules/recording/session.js";
+import { plainPieces } from "../../../scripts/modules/text.js";
 import { inWholeLines, piecesOf } from "./pieces.js";
 
 /** @typedef {import("../../../scripts/modules/recording/doubts.js").Warning} Warning */
@@ -155,14 +156,15 @@ function kindOf(job) {
 /** @param {ListingSource} job @param {Heard} heard @returns {Promise<Read>} */
 async function readListing(job, heard) {
   const reader = new ListingReader();
-  for await (const piece of piecesOf(job.file, heard)) reader.take(piece);
+  for await (const piece of plainPieces(piecesOf(job.file, heard))) reader.take(piece);
   return { listing: reader.end(), bits: null, fault: null, notes: [], warnings: [] };
 }
 
 /** @param {BitsSource} job @param {Kind} kind @param {Sink} sink @param {Heard} heard */
 async function takeCapture(job, kind, sink, heard) {
   const reader = job.form === "packed" ? new PackedReader(kind, sink) : new TextReader(kind, sink);
-  for await (const piece of piecesOf(job.file, heard)) reader.take(piece);
+  const pieces = piecesOf(job.file, heard);
+  for await (const piece of job.form === "text" ? plainPieces(pieces) : pieces) reader.take(piece);
   reader.end();
 }
 

@@ -8,8 +8,10 @@ import { pageOf } from "../limits/page.js";
 import { RATE } from "../port1.js";
 import { Bus } from "../statistics/bus.js";
 import { objectOf } from "../statistics/object.js";
+import { plainPieces } from "../text.js";
 import { misuse, positive, run, warn, wordsOf, writeText } from "./command.js";
 import { dateOf, piecesOf, sha256Of } from "./facts.js";
+import { textIn } from "./file.js";
 import { rowsOfInput } from "./input.js";
 import { writeTextFile } from "./output.js";
 
@@ -48,9 +50,9 @@ const LINE_FEED = 10;
  * The pieces of a listing, whose last line is whole: of one that was cut off, no limit is known to hold.
  * @param {string} file
  */
-function* piecesOfListing(file) {
+async function* piecesOfListing(file) {
   let last = LINE_FEED;
-  for (const piece of piecesOf(file, 1 << 16)) {
+  for await (const piece of plainPieces(piecesOf(file, 1 << 16))) {
     last = piece[piece.length - 1];
     yield piece;
   }
@@ -140,7 +142,7 @@ run(async () => {
   const twice = units.find(({ name }, at) => units.findIndex((unit) => unit.name === name) < at);
   if (twice) throw misuse(`${twice.name} stands there twice`);
   const { rate = RATE, within = 20, date = dateOf(new Date()) } = values;
-  const limits = limitsOf(file, readFileSync(file, "utf8"));
+  const limits = limitsOf(file, textIn(file));
   const before = values.baseline === undefined ? null : await baselineOf(values.baseline, rate);
   const found = [];
   for (const unit of units) {

@@ -11,7 +11,7 @@ import { samplerate } from "../recording/units.js";
 import { wiresAmong } from "../recording/usual.js";
 import { misuse, run, warn, whole, wordOf, wordsOf, write, writeText } from "./command.js";
 import { piecesOf } from "./facts.js";
-import { FilePart, inflated } from "./file.js";
+import { FilePart, inflated, textIn } from "./file.js";
 import { page, programNamed } from "./program.js";
 
 /** Octets of a recording that tell its form and its channels. */
@@ -146,7 +146,7 @@ function checkInverted(names, channels) {
  * @param {string} file
  */
 function dictionaryIn(file) {
-  const text = readFileSync(file, "utf8");
+  const text = textIn(file);
   readDictionary(text);
   return text;
 }

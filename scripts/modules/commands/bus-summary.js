@@ -1,4 +1,3 @@
-import { readFileSync } from "node:fs";
 import { readDictionary } from "../dictionary/dictionary.js";
 import { RATE } from "../port1.js";
 import { warningOf } from "../recording/doubts.js";
@@ -8,6 +7,7 @@ import { DayTime } from "../statistics/day-time.js";
 import { objectOf } from "../statistics/object.js";
 import { report } from "../statistics/report.js";
 import { positive, run, wordsOf, writeText } from "./command.js";
+import { textIn } from "./file.js";
 import { rowsOfInput } from "./input.js";
 
 /** @param {string} text */
@@ -27,11 +27,11 @@ const WARNING = /^recording-to-bits: warning: /;
  * @param {string} file
  */
 const warningsIn = (file) =>
-  readFileSync(file, "utf8").split(/\r?\n/).flatMap((line) => (WARNING.test(line) ? [line.replace(WARNING, "")] : []));
+  textIn(file).split("\n").flatMap((line) => (WARNING.test(line) ? [line.replace(WARNING, "")] : []));
 
 run(async () => {
   const { rate = RATE, dictionary, bits: end = null, begin: dayTime = null, json, notes } = wordsOf(OPTIONS).values;
-  const entries = dictionary === undefined ? null : readDictionary(readFileSync(dictionary, "utf8"));
+  const entries = dictionary === undefined ? null : readDictionary(textIn(dictionary));
   const warnings = notes === undefined ? [] : warningsIn(notes);
   const bus = new Bus(rate, dayTime, unsureOf(warnings.map(warningOf)));
   for await (const rows of rowsOfInput()) bus.takeSome(rows);

@@ -1,4 +1,3 @@
-import { readFileSync } from "node:fs";
 import { Fault } from "../fault.js";
 import { RATE } from "../port1.js";
 import { DayTime } from "../statistics/day-time.js";
@@ -10,6 +9,7 @@ import { Input, Source } from "../watch/source.js";
 import { RecordedWall, Wall, iso } from "../watch/wall.js";
 import { Watch } from "../watch/watch.js";
 import { misuse, run, warn, whole, wordsOf, writeText } from "./command.js";
+import { textIn } from "./file.js";
 import { programNamed } from "./program.js";
 import { onEndOfStream } from "./signals.js";
 
@@ -37,7 +37,7 @@ const seconds = (text) => {
 
 /** @param {string} text @param {string} program */
 function dictionaryOf(text, program) {
-  const dictionary = readFileSync(text, "utf8").replace(/\n+$/, "");
+  const dictionary = textIn(text).replace(/\n+$/, "");
   const refusal = refusalOf(program, dictionary);
   if (refusal !== "") throw new Fault(`${text}: ${refusal}`);
   return dictionary;

@@ -1,6 +1,13 @@
-import { fstatSync, readSync } from "node:fs";
+import { fstatSync, readFileSync, readSync } from "node:fs";
 import { Readable } from "node:stream";
 import { createInflateRaw } from "node:zlib";
+import { plainText } from "../text.js";
+
+/**
+ * The text of a file, plain.
+ * @param {string} path
+ */
+export const textIn = (path) => plainText(readFileSync(path), path);
 
 /** Octets of one read. */
 const SLICE = 1 << 20;

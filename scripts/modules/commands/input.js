@@ -1,6 +1,7 @@
 import { read } from "node:fs";
 import { promisify } from "node:util";
 import { ListingReader } from "../listing/read.js";
+import { plainPieces, plainText } from "../text.js";
 import { onEndOfStream } from "./signals.js";
 
 const readSome = promisify(read);
@@ -118,7 +119,7 @@ export async function* standardInput(size = PIECE, gather = { least: 1, millisec
 export async function textOfInput() {
   const pieces = [];
   for await (const piece of allOfInput()) pieces.push(Buffer.from(piece));
-  return Buffer.concat(pieces).toString();
+  return plainText(Buffer.concat(pieces), "standard input");
 }
 
 /**
@@ -130,7 +131,7 @@ export async function textOfInput() {
 export async function* rowsOfInput(pieces = standardInput()) {
   const reader = new ListingReader();
   try {
-    for await (const piece of pieces) {
+    for await (const piece of plainPieces(pieces)) {
       reader.take(piece);
       yield reader.newRows();
       reader.forget();

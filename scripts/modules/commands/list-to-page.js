@@ -7,8 +7,10 @@ import { asHtml } from "../limits/forms.js";
 import { ListingReader } from "../listing/read.js";
 import { RATE } from "../port1.js";
 import { DayTime } from "../statistics/day-time.js";
+import { plainPieces } from "../text.js";
 import { positive, run, wordsOf, writeText } from "./command.js";
 import { dateOf, sha256Of } from "./facts.js";
+import { textIn } from "./file.js";
 import { standardInput } from "./input.js";
 import { PAGES, page as builtPage } from "./program.js";
 
@@ -56,7 +58,7 @@ const notesOf = (notes) =>
 /** The pieces of standard input, each of which has been read as lines of a listing. */
 async function* checked() {
   const reader = new ListingReader();
-  for await (const piece of standardInput()) {
+  for await (const piece of plainPieces(standardInput())) {
     reader.take(piece);
     reader.forget();
     yield Buffer.from(piece);
@@ -99,7 +101,7 @@ const OPTIONS = {
 run(async () => {
   const { values, words: [title] } = wordsOf({ ...OPTIONS, bits: positive, page: String }, ["TITLE"]);
   const { rate = RATE, begin, command = "", recording, notes, bits } = values;
-  const dictionary = values.dictionary ? readFileSync(values.dictionary, "utf8") : "";
+  const dictionary = values.dictionary ? textIn(values.dictionary) : "";
   const page = pageOf(values.page ?? builtPage() ?? PAGES[0]);
   const [before, after] = partsOf(page, {
     ...{ title, rate, dictionary, command },

@@ -1,5 +1,5 @@
 import { spawn } from "node:child_process";
-import { openSync, readFileSync } from "node:fs";
+import { openSync } from "node:fs";
 import { ListingReader } from "../listing/read.js";
 import { PCAPNG_HEAD, pcapngOf } from "../pcap/forms.js";
 import { Packets } from "../pcap/packets.js";
@@ -7,6 +7,7 @@ import { RATE, SILENCE } from "../port1.js";
 import { PAIRS, arrivalsOf } from "../watch/forms.js";
 import { Source } from "../watch/source.js";
 import { misuse, run, warn, whole, wordsOf, write, writeText } from "./command.js";
+import { textIn } from "./file.js";
 import { programNamed } from "./program.js";
 import { onEndOfStream } from "./signals.js";
 
@@ -85,7 +86,7 @@ async function capture({ fifo, source: command, dictionary, two, rest }) {
   const source = new Source(command || process.env.PORT1_SOURCE || RECORDER);
   const file = dictionary || process.env.PORT1_DICTIONARY;
   const words = ["list", "--bits", ...(two ? PAIRS : arrivalsOf(rest)).options];
-  const text = file ? ["--dict", readFileSync(file, "utf8").replace(/\n+$/, "")] : [];
+  const text = file ? ["--dict", textIn(file).replace(/\n+$/, "")] : [];
   const listing = new Capture(fifo);
   const bits = source.start();
   const decoder = spawn(programNamed("port1"), [...words, ...text], { stdio: ["pipe", "pipe", "ignore"] });

@@ -1,12 +1,14 @@
 import { Fault } from "../fault.js";
+import { joined } from "../octets.js";
+import { plainHead, quoted } from "../text.js";
 import { Cursor } from "./cursor.js";
 import { ANSWERED, CAUSES, DAMAGED, FRAME, KINDS, OPEN, typeOf } from "./kinds.js";
 import { Listing, NO_HEAD, OTHER_CONTROL, UNTYPED } from "./listing.js";
 
 const LINE_END = 10;
 
-/** How much of a wrong line is shown. */
-const SHOWN = 80;
+/** How much of a wrong line is read to be shown. */
+const SHOWN = 256;
 
 /** The octets of a frame that a dictionary can have, its check among them, and some more. */
 const MOST_OCTETS = 1024;
@@ -18,8 +20,9 @@ const NUMBERS = new Map(KINDS.map((kind, number) => [kind, number]));
  * @param {Uint8Array} head
  */
 export function isListing(head) {
-  const end = head.indexOf(LINE_END);
-  return new LineReader(new Listing()).take(head, 0, end < 0 ? head.length : end);
+  const plain = plainHead(head);
+  const end = plain.indexOf(LINE_END);
+  return new LineReader(new Listing()).take(plain, 0, end < 0 ? plain.length : end);
 }
 
 /** Reads lines into a listing. A line that `port1 list` would write otherwise is none of a listing. */
@@ -145,16 +148,8 @@ export class ListingReader {
     const { length } = this.listing;
     if (this.lines.take(octets, begin, end)) return;
     this.listing.drop(length); // of a line with something after its end
-    const text = new TextDecoder().decode(octets.subarray(begin, Math.min(end, begin + SHOWN))).trimEnd();
+    const text = new TextDecoder("utf-8", { ignoreBOM: true }).decode(octets.subarray(begin, Math.min(end, begin + SHOWN)));
     const number = this.forgotten + length + 1;
-    throw new Fault(`line ${number} is no line of \`port1 list\`: ${JSON.stringify(text)}`);
+    throw new Fault(`line ${number} is no line of \`port1 list\`: ${quoted(text)}`);
   }
-}
-
-/** @param {Uint8Array} one @param {Uint8Array} other */
-function joined(one, other) {
-  const both = new Uint8Array(one.length + other.length);
-  both.set(one);
-  both.set(other, one.length);
-  return both;
 }

@@ -1,4 +1,5 @@
 import { Fault } from "../fault.js";
+import { listed } from "../text.js";
 import { withSingleSpaces } from "./text.js";
 
 /**
@@ -15,7 +16,7 @@ export function positionOf(name, names) {
   }
   if (found.length !== 1) {
     const count = found.length === 0 ? "no channel has" : `${found.length} channels have`;
-    throw new Fault(`${count} the name ${wanted}; there are: ${names.join(", ")}`);
+    throw new Fault(`${count} the name ${wanted}; there are: ${listed(names)}`);
   }
   return found[0];
 }

@@ -1,4 +1,5 @@
 import { Fault } from "../fault.js";
+import { quoted } from "../text.js";
 import { isTimeOfDay } from "./day.js";
 import { decodedWithoutMark } from "./text.js";
 import { UNITS, hertz } from "./units.js";
@@ -58,7 +59,7 @@ export class TableHead {
     const { names, head, ticks } = this;
     const unit = this.areOfDay ? 1 : head.length > 0 ? unitOf(head[0]) : null;
     if (head.length > 0 && unit === null && head[0].toLowerCase().startsWith("time")) {
-      throw new Fault(`the times of the column ${JSON.stringify(head[0])} have no known unit: export them in seconds`);
+      throw new Fault(`the times of the column ${quoted(head[0])} have no known unit: export them in seconds`);
     }
     const columns = unit === null ? head : head.slice(1);
     return { names: names.length > 0 ? names : columns, unit, ticks, areOfDay: this.areOfDay };

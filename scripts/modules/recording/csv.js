@@ -1,4 +1,5 @@
 import { Fault } from "../fault.js";
+import { quoted } from "../text.js";
 import { ChangeList, MOST, changesIn, safeTime } from "./changes.js";
 import { positionOf } from "./channels.js";
 import { TableHead } from "./csv-head.js";
@@ -116,7 +117,7 @@ export class RowReader {
     const isNumber = (/** @type {string} */ cell, /** @type {number} */ column) =>
       this.put[3 * column + HIGH] !== 0 && ![NaN, LOW, HIGH].includes(floatOf(cell));
     const found = cells.find(isNumber);
-    return found === undefined ? "" : `row ${this.number}: ${JSON.stringify(found.trim())}`;
+    return found === undefined ? "" : `row ${this.number}: ${quoted(found.trim())}`;
   }
 
   /** Takes down that a row says something else of a time than the one before. */
@@ -175,7 +176,7 @@ export class RowReader {
 
   /** @param {number} time @param {Uint8Array} cell */
   faultOf(time, cell) {
-    const told = `row ${this.number}: ${JSON.stringify(decoded(cell).trim())}`;
+    const told = `row ${this.number}: ${quoted(decoded(cell).trim())}`;
     if (!Number.isFinite(time)) {
       throw new Fault(`${told} is no time`);
     }
@@ -290,7 +291,7 @@ function valueOfText(text) {
 }
 
 /**
- * A table with commas (CSV): sigrok writes a row for each sample, Logic of Saleae one for each change.
+ * A table (CSV), with commas by now: sigrok writes a row for each sample, Logic of Saleae one for each change.
  * @param {import("./source.js").Source} source
  * @param {string[]} names
  * @returns {Promise<import("./changes.js").Changed>}

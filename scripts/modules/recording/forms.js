@@ -1,35 +1,38 @@
 import { Fault } from "../fault.js";
+import { plainHead } from "../text.js";
+import { headWithCommas, isTable } from "./cells.js";
 import { TableHead } from "./csv-head.js";
 import { otherForm } from "./others.js";
 import { namesOf, signalsOf } from "./signals.js";
 import { Words, characters } from "./words.js";
 
 /**
- * The forms of recordings that are read: value change dumps, tables with commas, and sessions of sigrok.
+ * The forms of recordings that are read: value change dumps, tables, and sessions of sigrok.
  * @typedef {"vcd"|"csv"|"session"} Form
  */
 
 /** What may stand before the first word of a recording. */
 const BEFORE_TEXT = Uint8Array.from([0xef, 0xbb, 0xbf, 9, 10, 13, 32]);
 
-const [LINE_END, DOLLAR, SEMICOLON, COMMA] = [10, 36, 59, 44];
+const [LINE_END, DOLLAR] = [10, 36];
 
 /** How a line begins that sigrok-cli may write before a recording. */
 const META = Uint8Array.from([77, 69, 84, 65, 32]);
 
 /**
  * Of which form a recording is.
- * @param {Uint8Array} head its first 4096 octets
+ * @param {Uint8Array} octets its first 4096
  * @returns {Form|null} none where these octets are of neither form
  */
-export function formOf(head) {
+export function formOf(octets) {
+  const head = plainHead(octets);
   const start = META.every((octet, at) => head[at] === octet) ? head.indexOf(LINE_END) + 1 : 0;
   const first = head.subarray(start).find((octet) => !BEFORE_TEXT.includes(octet));
   if (first === DOLLAR) {
     return "vcd";
   }
-  const isText = head.every((octet) => (octet >= 32 ? octet !== 127 : octet === 9 || octet === 10 || octet === 13));
-  return isText && (first === SEMICOLON || head.includes(COMMA)) ? "csv" : null;
+  const isText = head.length > 0 && head.every((octet) => (octet >= 32 ? octet !== 127 : octet === 9 || octet === 10 || octet === 13));
+  return isText && isTable(head) ? "csv" : null;
 }
 
 /** How an archive begins (PKWARE's APPNOTE.TXT, 4.3). */
@@ -53,22 +56,23 @@ export function formOfRecording(head) {
   const other = form === null || ARCHIVE.every((octet, at) => head[at] === octet) ? otherForm(text) : null;
   if (other !== null) throw new Fault(`this is ${other}`);
   if (form === null && PRINTED.test(text)) {
-    throw new Fault("this is text, and neither a VCD nor a CSV with commas; if it is samples, say --format binary");
+    throw new Fault("this is text, and neither a VCD nor a table (CSV); if it is samples, say --format binary");
   }
   return form ?? "binary";
 }
 
 /**
  * The channels of a recording by which they are taken: their names, or the numbers of columns that share a name.
- * @param {Uint8Array} head its first octets, as many as its definitions or the lines before its samples take
+ * @param {Uint8Array} octets its first ones, as many as its definitions or the lines before its samples take
  * @param {Form} form
  * @returns {string[]}
  */
-export function channelsOf(head, form) {
+export function channelsOf(octets, form) {
+  const head = plainHead(octets);
   if (form === "vcd") {
     return [...new Set(namesOf(signalsOf(new Words(head, head.length))))];
   }
-  const names = namesOfTable(head);
+  const names = namesOfTable(headWithCommas(head));
   const shared = sharedNames(names);
   const all = new Set(names);
   return names.map((name, at) => (shared.has(name) && !all.has(String(at)) ? String(at) : name));

@@ -86,16 +86,24 @@ function unevenness(bit) {
   return most - least;
 }
 
+/** Directions by so many steps of a turn, of which the middles stand here. */
+const STEPS = 4096;
+const ANGLES = Float64Array.from({ length: STEPS }, (_, step) => (2 * Math.PI * (step + 0.5)) / STEPS);
+const [COSINES, SINES] = [ANGLES.map(Math.cos), ANGLES.map(Math.sin)];
+
 /**
  * The direction of the mean of some times on a circle of one bit, in turns, and how near they are to it.
  * @param {number[]} times
  * @param {number} bit
  */
 function directionOf(times, bit) {
-  let [x, y] = [0, 0];
-  for (const time of times) {
-    const angle = 2 * Math.PI * (time / bit);
-    [x, y] = [x + Math.cos(angle), y + Math.sin(angle)];
+  let x = 0;
+  let y = 0;
+  for (let at = 0; at < times.length; at++) {
+    const turns = times[at] / bit;
+    const step = Math.floor(STEPS * (turns - Math.floor(turns)));
+    x += COSINES[step];
+    y += SINES[step];
   }
   return { turn: Math.atan2(y, x) / (2 * Math.PI), share: Math.hypot(x, y) / times.length };
 }
@@ -122,6 +130,7 @@ export class Losses {
     /** @type {Block[]} */
     this.blocks = []; // since the clock stopped last
     this.next = 1; // the block that is judged next
+    this.drift = 0; // of a block against the one before, in bits
     this.judged = 0;
     this.scattered = 0; // those whose edges are far apart within a bit
     this.count = 0;
@@ -142,14 +151,15 @@ export class Losses {
    * @param {number} wire
    */
   takeSamples(piece, width, wire) {
-    const mask = 1 << (wire & 7);
-    let { samples, level } = this;
-    for (let at = wire >> 3; at < piece.length; at += width) {
+    const [octet, mask] = [wire >> 3, 1 << (wire & 7)];
+    const { length } = piece;
+    let level = this.level;
+    for (let at = octet; at < length; at += width) {
       const now = piece[at] & mask;
-      if (now !== level) this.change(samples, (level = now));
-      samples += 1;
+      if (now !== level) this.change(this.samples + (at - octet) / width, (level = now));
     }
-    Object.assign(this, { samples, level });
+    this.level = level;
+    this.samples += length / width;
   }
 
   /**
@@ -231,6 +241,7 @@ export class Losses {
   /** @param {number} behind so many blocks stand behind those that are judged */
   judge(behind) {
     for (; this.next + behind < this.blocks.length; this.next++) {
+      if (this.judged % DRIFT === 0) this.measureDrift(this.next);
       if (!this.isOutOfStep(this.next)) continue;
       this.note(this.next);
       this.next += 1;
@@ -243,16 +254,32 @@ export class Losses {
    */
   isOutOfStep(at) {
     const { blocks } = this;
-    const near = blocks.slice(Math.max(0, at - DRIFT), at + FEWEST + 1);
-    const advances = near.slice(1).map(({ turn }, index) => wrapped(turn - near[index].turn));
     const share = Math.min(blocks[at - 1].share, blocks[at + 1].share);
-    if (advances.length < FEWEST || share < TOGETHER) return false;
-    const drift = medianOf(advances);
-    /** @param {number} from */
-    const shift = (from) => Math.abs(wrapped(blocks[from + 1].turn - blocks[from - 1].turn - 2 * drift));
-    if (shift(at) <= this.tolerance(share)) return false;
+    if (share < TOGETHER || this.shift(at) <= this.tolerance(share)) return false;
+    if (!this.measureDrift(at) || this.shift(at) <= this.tolerance(share)) return false;
     const isWithin = blocks[at].share < TOGETHER;
-    return isWithin || at + 2 >= blocks.length || blocks[at + 2].share < TOGETHER || shift(at + 1) <= shift(at);
+    const isLast = at + 2 >= blocks.length || blocks[at + 2].share < TOGETHER;
+    return isWithin || isLast || this.shift(at + 1) <= this.shift(at);
+  }
+
+  /**
+   * How far the block behind one is out of step with the one before it, in bits.
+   * @param {number} at
+   */
+  shift(at) {
+    return Math.abs(wrapped(this.blocks[at + 1].turn - this.blocks[at - 1].turn - 2 * this.drift));
+  }
+
+  /**
+   * Measures the drift near a block, if enough blocks are there.
+   * @param {number} at
+   */
+  measureDrift(at) {
+    const near = this.blocks.slice(Math.max(0, at - DRIFT), at + FEWEST + 1);
+    const advances = near.slice(1).map(({ turn }, index) => wrapped(turn - near[index].turn));
+    if (advances.length < FEWEST) return false;
+    this.drift = medianOf(advances);
+    return true;
   }
 
   /**

@@ -1,5 +1,3 @@
-const TABLE = "a table whose cells no commas part: export it with commas.";
-
 /**
  * What else a file may be, by how it begins, and what to do then.
  * @type {[RegExp, string][]}
@@ -17,8 +15,6 @@ const OTHERS = [
   [/^(\xff\xfe|\xfe\xff)/, "text in UTF-16: save it as UTF-8."],
   [/^\s*[{[]/, "JSON."],
   [/^\s*</, "XML or HTML."],
-  [/^(?!;)[^,\n]*;[^,]*$/, TABLE],
-  [/^[^,\n]*\w\t[^,]*$/, TABLE],
 ];
 
 /**

@@ -1,11 +1,14 @@
 import { Fault } from "../fault.js";
+import { joined } from "../octets.js";
+import { plainPieces } from "../text.js";
+import { piecesWithCommas } from "./cells.js";
 import { positionOf } from "./channels.js";
 import { tableOf } from "./csv.js";
 import { Losses } from "./losses.js";
 import { Runs } from "./runs.js";
 import { samplingOf } from "./sampling.js";
 import { seamsOf } from "./seams.js";
-import { Source, joined } from "./source.js";
+import { Source } from "./source.js";
 import { dumpOf } from "./vcd.js";
 
 export { channelsOf, formOf } from "./forms.js";
@@ -73,9 +76,10 @@ function checkOnce(positions, channels) {
 export async function recordingOf(pieces, wanted) {
   const { form, channels, samples } = wanted;
   if (channels.length < 2 || channels.length > 4) throw new Fault("two, three or four channels are to be named");
-  const source = new Source(pieces);
   const names = wiresOf(channels);
   if (form === "vcd" || form === "csv") {
+    const plain = plainPieces(pieces);
+    const source = new Source(form === "csv" ? piecesWithCommas(plain) : plain);
     const { ticks, changes, positions, faults = () => [] } = await (form === "vcd" ? dumpOf : tableOf)(source, channels);
     checkOnce(positions, channels);
     const known = wanted.ticks ?? ticks;
@@ -86,6 +90,7 @@ export async function recordingOf(pieces, wanted) {
     const all = { ...whole, begin: () => runs.begin };
     return watched(all, closing(source, runs.of(changes)), () => faults().map((seam) => ({ ...seam, from: seam.from / unit })));
   }
+  const source = new Source(pieces);
   if (samples === undefined) throw new Fault("what the samples are is not known");
   const positions = channels.map((name) => positionOf(name, samples.names));
   checkOnce(positions, channels);

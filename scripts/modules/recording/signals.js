@@ -1,4 +1,5 @@
 import { Fault } from "../fault.js";
+import { listed, plainHead } from "../text.js";
 import { positionOf } from "./channels.js";
 import { decoded, withSingleSpaces } from "./text.js";
 import { UNITS } from "./units.js";
@@ -53,7 +54,10 @@ export function signalsOf(words) {
  * @param {Uint8Array} head
  * @returns {boolean}
  */
-export const isWholeHead = (head) => signalsOf(new Words(head, head.length)).isWhole;
+export function isWholeHead(head) {
+  const plain = plainHead(head);
+  return signalsOf(new Words(plain, plain.length)).isWhole;
+}
 
 /** @param {Signals} signals @param {string} keyword @param {Uint8Array[]} section */
 function define(signals, keyword, section) {
@@ -117,7 +121,7 @@ export function codeOf(name, signals) {
   const short = whole.map(withoutBits);
   const names = !whole.includes(withSingleSpaces(name)) && short.includes(name) ? short : whole;
   if (!names.includes(name)) {
-    throw new Fault(`no channel has the name ${name}; there are: ${names.join(", ")}`);
+    throw new Fault(`no channel has the name ${name}; there are: ${listed(names)}`);
   }
   return [...signals.codes.values()].flatMap((codes) => [...codes])[positionOf(name, names)];
 }

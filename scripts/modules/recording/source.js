@@ -102,22 +102,6 @@ export class Source {
 }
 
 /**
- * Octets with others before them.
- * @param {Uint8Array} first
- * @param {Uint8Array} second
- * @returns {Uint8Array}
- */
-export function joined(first, second) {
-  if (first.length === 0) {
-    return second;
-  }
-  const both = new Uint8Array(first.length + second.length);
-  both.set(first);
-  both.set(second, first.length);
-  return both;
-}
-
-/**
  * What goes on in the next piece: too much of it is a fault.
  * @param {Uint8Array} rest
  * @returns {Uint8Array}

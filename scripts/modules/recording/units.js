@@ -1,4 +1,5 @@
 import { Fault } from "../fault.js";
+import { quoted } from "../text.js";
 
 /** Units of time by the names that recordings give them, in ticks a second. */
 export const UNITS = new Map([
@@ -16,7 +17,7 @@ const ZEROS = new Map([["", 0], ["k", 3], ["M", 6], ["G", 9]]);
  */
 export function samplerate(text) {
   const rate = hertz(text);
-  if (rate === 0) throw new Fault(`${JSON.stringify(text)} is no rate above 0`);
+  if (rate === 0) throw new Fault(`${quoted(text)} is no rate above 0`);
   return rate;
 }
 
@@ -28,7 +29,7 @@ export function samplerate(text) {
 export function hertz(text) {
   const found = RATE.exec(text.trim());
   if (found === null) {
-    throw new Fault(`${JSON.stringify(text)} is no rate`);
+    throw new Fault(`${quoted(text)} is no rate`);
   }
   const [, whole, decimals = "", prefix] = found;
   const zeros = ZEROS.get(prefix) ?? 0;

@@ -1,8 +1,10 @@
 import { Fault } from "../fault.js";
+import { joined } from "../octets.js";
+import { quoted } from "../text.js";
 import { ChangeList, MOST, changesIn, safeTime } from "./changes.js";
 import { wholeOf } from "./numbers.js";
 import { codeOf, signalsOf } from "./signals.js";
-import { joined, notTooLong } from "./source.js";
+import { notTooLong } from "./source.js";
 import { decoded } from "./text.js";
 import { Words, afterLastSpace, beginOfWord, characters, endOfWord } from "./words.js";
 

@@ -77,7 +77,7 @@ for (const text of WRONG) {
   test(`a line is refused: ${text}`, () => {
     assert.throws(() => readAll(`0 32 frame 1083452c untyped\n${text}\n`, 1000), {
       constructor: Fault,
-      message: `line 2 is no line of \`port1 list\`: ${JSON.stringify(text.trimEnd())}`,
+      message: `line 2 is no line of \`port1 list\`: ${JSON.stringify(text)}`,
     });
   });
 }

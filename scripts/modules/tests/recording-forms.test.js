@@ -11,7 +11,7 @@ import { hertz } from "../recording/units.js";
 
 const BEGINNINGS = {
   vcd: ["$", "  \r\n\t$date", "\xef\xbb\xbf$date", "\xbf\xbb\xef$", "META samplerate: 1\n$date"],
-  csv: [";", "; a", "a,b\n", "\t;", "\xef\xbb\xbf;", ",", "0,1\x80", "Time [s],a\r\n"],
+  csv: [";", "; a", "a,b\n", "\t;", "\xef\xbb\xbf;", ",", "0,1\x80", "Time [s],a\r\n", "a;b\n0;1\n", "a\tb\n", "sep=;\na;b\n", "\xff\xfea\0,\0b\0\r\0\n\0"],
   session: ["PK\x03\x04,", "PK\x03\x04"],
   binary: ["x$", "\0$", "0,1\0", "0,1\x7f", "\xef\xbb\xbf", " ", "\x1b,", "\x0b,", "META samplerate: 1\n\0"],
 };
@@ -28,7 +28,7 @@ test("the form by the beginning", () => {
       if (form !== "session") assert.equal(formOf(octets), form === "binary" ? null : form);
     }
   }
-  for (const [refused, why] of [["", "the recording is empty"], ["a;b\n", "this is a table whose cells"], ["\x89PNG", "this is a picture"]]) {
+  for (const [refused, why] of [["", "the recording is empty"], ["\x89PNG", "this is a picture"]]) {
     const octets = Uint8Array.from(Buffer.from(refused, "latin1"));
     assert.throws(() => formOfRecording(octets), (fault) => fault instanceof Fault && fault.message.startsWith(why));
   }
