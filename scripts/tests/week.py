@@ -66,6 +66,9 @@ LIVE_ENDS = [40, 21]
 # When the disk is full in the last run, and for how long, in seconds: the bits of the incident after it have a hole.
 LIVE_FULL = (5.5, 2.0)
 
+# How many seconds of bits a power cut may take in real time.
+MOST_LOST = 11
+
 # How far times of day may be from those of the bus, in seconds.
 NEAR = 0.2
 
@@ -264,9 +267,17 @@ class Week:
         """Leaves of the watch's folder what was flushed."""
         disk = self.folder / "watch"
         left = self.folder / "shadow" / "folders" / str(disk.stat().st_ino)
+        had = self.octets_of_run()
         for path in disk.iterdir():
             shutil.rmtree(path) if path.is_dir() else path.unlink()
         shutil.copytree(left, disk, ignore=shutil.ignore_patterns("*.fresh"), dirs_exist_ok=True)
+        lost = (had - self.octets_of_run()) / (RATE / 4)
+        is_live = len(self.runs) + 1 in self.live
+        self.problems += [f"{lost:.1f} s of bits are lost"] if is_live and lost > MOST_LOST else []
+
+    def octets_of_run(self) -> int:
+        """The octets that the ring has of the run, of which it packs none in real time."""
+        return sum(path.stat().st_size for path in (self.folder / "watch" / "ring").glob(f"{len(self.runs) + 1:06}-*"))
 
     def end_in_incident(self, watch: "subprocess.Popen[bytes]", is_cut: bool) -> None:
         """Kills a watch in the next incident that is open, and takes away what was not flushed."""
