@@ -107,13 +107,7 @@ impl RestRule {
     /// Some of these arrivals come, from one on and before another: their bits, and a 1 for each that is one of the
     /// second line, the lowest of each octet first. Returns how many came, one at least, and whether fifteen 1s of the
     /// second line arrive right after them. These are not pushed here.
-    pub fn push_some(
-        &mut self,
-        bits: &[u8],
-        lines: &[u8],
-        from: usize,
-        end: usize,
-    ) -> (usize, bool)
+    pub fn push_some(&mut self, bits: &[u8], lines: &[u8], from: usize, end: usize) -> (usize, bool)
         requires some { from < end }
         requires enough { (end ≤ 8 * length bits.now) × (end ≤ 8 * length lines.now) }
         ensures within { (1 ≤ result.0) × (result.0 ≤ end - from) }

@@ -169,7 +169,12 @@ fn check_pushed(
 ) {
     for (at, arrival) in some.iter().enumerate() {
         let is_last = at + 1 == some.len();
-        same(rt, one_by_one.push(arrival.0, arrival.1), comes && is_last, "rest comes");
+        same(
+            rt,
+            one_by_one.push(arrival.0, arrival.1),
+            comes && is_last,
+            "rest comes",
+        );
     }
     same(rt, together.silent(), one_by_one.silent(), "the silence");
     same(rt, together.ones(), one_by_one.ones(), "the ones");

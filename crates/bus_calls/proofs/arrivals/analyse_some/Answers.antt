@@ -76,7 +76,7 @@ returns-in_err-analyse_arrivals-clause-taken g c =
 pub returns-in_err-analyse_arrivals-2-clause-taken : goal.returns-in_err-analyse_arrivals-2-clause-taken
 returns-in_err-analyse_arrivals-2-clause-taken g c =
     let failed = err_from_is_err_and c.from_residual-in_err-analyse_arrivals-2.result
-        c.from_residual-in_err-analyse_arrivals-2.ensures.1 in
+    c.from_residual-in_err-analyse_arrivals-2.ensures.1 in
     rw (failed.1, failed.2) (λ start b fed.
     let view = g.C.Check.check in
     let kind = arrivals_kind view in
@@ -92,8 +92,8 @@ returns-in_err-analyse_arrivals-2-clause-taken g c =
     let ahead = front bits lines from n r comes b in
     let ys = come bits lines from n r comes b in
     let followed = subst (λ (k : ℕ). WatchAfter kind start (g.W.Write.contents c.analyse_arrivals.new.w)
-        c.analyse_arrivals.new.run (ahead ++ arrivals_from bits lines from k)) (counted from n)
-        (c.in_ok-analyse_arrivals.ensures.taken start ahead (watched-behind view refl refl fed.bits)) in
+    c.analyse_arrivals.new.run (ahead ++ arrivals_from bits lines from k)) (counted from n)
+    (c.in_ok-analyse_arrivals.ensures.taken start ahead (watched-behind view refl refl fed.bits)) in
     stops-among view bits lines from c.args.end n c.push_some-count.ensures.within.1 c.laws.ensures start now run b f
     (symbols-taken view start now run {b = b ++ zip (bits_from bits from n) (bits_from lines from n)} (Err f)
     (rw (c.analyse_arrivals-then-comes.ensures.rule, c.analyse_arrivals.ensures.rule)
@@ -118,8 +118,8 @@ returns-in_ok-analyse_arrivals-2-clause-taken g c = λ start b fed.
     let ahead = front bits lines from n r comes b in
     let ys = come bits lines from n r comes b in
     let followed = subst (λ (k : ℕ). WatchAfter kind start (g.W.Write.contents c.analyse_arrivals.new.w)
-        c.analyse_arrivals.new.run (ahead ++ arrivals_from bits lines from k)) (counted from n)
-        (c.in_ok-analyse_arrivals.ensures.taken start ahead (watched-behind view refl refl fed.bits)) in
+    c.analyse_arrivals.new.run (ahead ++ arrivals_from bits lines from k)) (counted from n)
+    (c.in_ok-analyse_arrivals.ensures.taken start ahead (watched-behind view refl refl fed.bits)) in
     symbols-taken view start now run (Ok tt)
     (rw (c.analyse_arrivals-then-comes.ensures.rule, c.analyse_arrivals.ensures.rule)
     (stands bits lines from n r comes b c.push_some-count.new.self c.push_some-count.ensures.most fed.rule

@@ -78,8 +78,8 @@ loop-quiet-preserved c =
           let first = before.passes bits xs after in
           let front = arrivals_from bits lines from (at - from) in
           let octets = passes-on now.most c.loop-quiet.quiet.left c.pass_octets.new.self.left bits lines from
-              c.loop-quiet.quiet.at at xs before.within.0 within.0 first
-              (on most (c.pass_octets.ensures.quiet bits _) first.quiet) in
+          c.loop-quiet.quiet.at at xs before.within.0 within.0 first
+          (on most (c.pass_octets.ensures.quiet bits _) first.quiet) in
           let count : at + 1 - at ≡ 1 = omega arith in
           let one : arrivals_from bits lines at (at + 1 - at) ≡ arrival_of (bit_at bits at, c.bit_at.result) ∷ [] =
           ap (arrivals_from bits lines at) count
