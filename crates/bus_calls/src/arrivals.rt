@@ -1,6 +1,7 @@
 //! Captures of two lines with a clock each.
 
-ghost use Rattle.std.specs.Prelude.{◌≡◌, ◌≤◌, ◌<◌, ◌-◌, ◌*◌, ℕ, Bool, List, Option, ◌++◌, length, zip, MatchResult, IfOk};
+ghost use Rattle.std.specs.Prelude.{◌≡◌, ◌≤◌, ◌<◌, ◌-◌, ◌*◌, ℕ, Bool, List, Option, ◌++◌, length, zip, MatchResult};
+ghost use Rattle.std.specs.Prelude.{IfOk};
 ghost use Rattle.bus_bits.specs.Bits.{bits_from};
 ghost use Rattle.bus_calls.specs.Internal.Arrivals.{arrivals_kind};
 ghost use Rattle.bus_calls.specs.Internal.Watching.{FeedAfter, FeedStopsWith, WatchStopsWith, IsSame, IsSound};

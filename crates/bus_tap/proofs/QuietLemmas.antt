@@ -1,6 +1,7 @@
 -- The rule of rest, with many arrivals more.
 use Rattle.std.proofs.Common.{◌≡◌, ℕ, zero, suc, ◌+◌, ◌-◌, ◌*◌, ◌/◌, ◌%◌, ◌^◌, ◌<◌, ◌≤◌, ◌⊎◌, ◌==◌, ◌&&◌, min, ltb, leb}
-use Rattle.std.proofs.Common.{Bool, true, false, List, [], ◌∷◌, ◌++◌, length, refl, sym, ap, ◌∙◌, subst, arith, inl, inr}
+use Rattle.std.proofs.Common.{Bool, true, false, List, [], ◌∷◌, ◌++◌, length, refl, sym, ap, ◌∙◌, subst, arith, inl}
+use Rattle.std.proofs.Common.{inr}
 use Rattle.std.proofs.Common.{append-nil, append_assoc, length-append, if◌then◌else◌}
 use Rattle.std.specs.Prelude.{slice_index}
 use Rattle.std.proofs.lemmas.Bool.{cases_lt}
@@ -287,7 +288,8 @@ octet-behind bits lines i n whole none before =
 none-first : (bits lines : List ℕ) (i n : ℕ) → own Second (arrivals_from bits lines i (suc n)) ≡ [] →
     (bit_at lines i ≡ false) × (own Second (arrivals_from bits lines (i + 1) n) ≡ [])
 none-first bits lines i n alone =
-    by (bit_at lines i) (arrivals_from bits lines (i + 1) n) (sym (ap (own Second) (arrivals-first bits lines i n)) ∙ alone)
+    by (bit_at lines i) (arrivals_from bits lines (i + 1) n) (sym (ap (own Second) (arrivals-first bits lines i n))
+    ∙ alone)
   where
     by : (is : Bool) (ys : List Arrival) → own Second (arrival_of (bit_at bits i, is) ∷ ys) ≡ [] →
         (is ≡ false) × (own Second ys ≡ [])

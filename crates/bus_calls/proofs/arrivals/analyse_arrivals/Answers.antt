@@ -31,7 +31,8 @@ returns-clause-taken g c = λ start b followed.
     sym (arrivals-more bits lines from n (count - n)) ∙ ap (arrivals_from bits lines from) all in
     subst (λ (ys : List Arrival). MatchResult c.scanned.result (λ _. WatchAfter kind start now new (b ++ ys))
     (λ f. WatchStopsWith kind start now new (b ++ ys) f)) whole
-    (told-scanned kind {v = new} {after = now} told c.laws.ensures (arrivals_from bits lines (from + n) (count - n)) n count
+    (told-scanned kind {v = new} {after = now} told c.laws.ensures (arrivals_from bits lines (from + n)
+    (count - n)) n count
     c.scanned.result c.scanned.ensures.cut c.scanned.ensures.placed
     (λ full. let none : count - n ≡ 0 = omega (arith, full) in
     ap (arrivals_from bits lines (from + n)) none ∙ arrivals-none bits lines (from + n))
@@ -39,7 +40,8 @@ returns-clause-taken g c = λ start b followed.
       omega (arith, fewer, length-arrivals bits lines (from + n) (count - n)),
       omega (arith, fewer, told.sees.place, length-arrivals bits lines from n, taken),
     ))
-    (omega (arith, length-arrivals bits lines from n, taken, c.requires.sound.places)) c.requires.sound start b followed)
+    (omega (arith, length-arrivals bits lines from n, taken, c.requires.sound.places))
+    c.requires.sound start b followed)
 
 pub returns-clause-sound : goal.returns-clause-sound
 returns-clause-sound g c =

@@ -15,7 +15,8 @@ module _ (bits lines : List ℕ) where
       ≡ b ++ zip (bits_from bits 0 (at + n)) (bits_from lines 0 (at + n))
   behind b at n =
       let here : 0 + at ≡ at = omega arith in
-      append_assoc b (zip (bits_from bits 0 at) (bits_from lines 0 at)) (zip (bits_from bits at n) (bits_from lines at n))
+      append_assoc b (zip (bits_from bits 0 at) (bits_from lines 0 at)) (zip (bits_from bits at n)
+      (bits_from lines at n))
       ∙ ap (λ (xs : List (Bool × Bool)). b ++ xs) (sym (rw here at (symbols-more bits lines 0 at n)))
 
   none : (b : List (Bool × Bool)) → b ++ zip (bits_from bits 0 0) (bits_from lines 0 0) ≡ b
@@ -38,7 +39,8 @@ loop-taken-preserved g c = record {
   sound = c.analyse_some.ensures.sound;
   same = same-both c.loop-taken.invariant.same c.analyse_some.ensures.same;
   fed = λ start b fed.
-      subst (FeedAfter (arrivals_kind g.C.Check.check) start (g.W.Write.contents c.analyse_some.new.w) c.analyse_some.new.run)
+      subst (FeedAfter (arrivals_kind g.C.Check.check) start (g.W.Write.contents c.analyse_some.new.w)
+      c.analyse_some.new.run)
       (behind c.args.bits.now c.args.lines.now b c.loop-taken.taken c.in_ok-taken.field-0)
       (c.in_ok-taken.ensures.taken start _ (c.loop-taken.invariant.fed start b fed));
 }
@@ -57,5 +59,9 @@ returns-in_err-taken-clause-taken g c =
 
 pub returns-clause-taken : goal.returns-clause-taken
 returns-clause-taken g c = λ start b fed.
-    let all : c.loop-taken.taken ≡ c.args.count = omega (arith, c.loop-taken.invariant.within, c.loop-taken-test.false) in
+    let all : c.loop-taken.taken ≡ c.args.count = omega (
+      arith,
+      c.loop-taken.invariant.within,
+      c.loop-taken-test.false,
+    ) in
     rw (← all) (c.loop-taken.invariant.fed start b fed)

@@ -1,4 +1,5 @@
-use Rattle.std.proofs.Common.{◌≡◌, ◌+◌, ◌-◌, ◌++◌, [], ◌∷◌, ℕ, Bool, List, Ok, Err, map, zip, true, false, arith, ap, ◌∙◌}
+use Rattle.std.proofs.Common.{◌≡◌, ◌+◌, ◌-◌, ◌++◌, [], ◌∷◌, ℕ, Bool, List, Ok, Err, map, zip, true, false, arith, ap}
+use Rattle.std.proofs.Common.{◌∙◌}
 use Rattle.std.proofs.Common.{sym, subst, refl, append_assoc, append-nil}
 use Rattle.std.proofs.lemmas.Result.{err_from_is_err_and}
 use Rattle.bus_bits.specs.Bits.{bits_from}
@@ -43,7 +44,8 @@ module _ (bits lines : List ℕ) (from n : ℕ) (r : RestState) (comes : Bool) (
       ∙ ap (λ (xs : List Arrival). front ++ (come ++ xs)) (held ∙ ap fill (sym is))
 
   unfilled : comes ≡ false → front ++ come ≡ front ++ (come ++ fill comes)
-  unfilled none = ap (λ (xs : List Arrival). front ++ xs) (sym (append-nil come) ∙ ap (λ is. come ++ fill is) (sym none))
+  unfilled none = ap (λ (xs : List Arrival). front ++ xs) (sym (append-nil come) ∙ ap (λ is. come ++ fill is)
+  (sym none))
 
 pub returns-in_err-analyse_arrivals-clause-taken : goal.returns-in_err-analyse_arrivals-clause-taken
 returns-in_err-analyse_arrivals-clause-taken g c =

@@ -23,7 +23,8 @@ loop-at-preserved-then-lines-at-eq0 c =
       within = omega (arith, before.within, c.if-at-eq0.true);
       none = λ bits.
           let count : c.loop-at.at + 8 - from ≡ n + 8 = omega (arith, before.within) in
-          rw count (octet-behind bits c.args.lines.now from n (rw here c.if-at-eq0.true) (rw here c.if-lines-at-eq0.true)
+          rw count (octet-behind bits c.args.lines.now from n (rw here c.if-at-eq0.true) (rw here
+          c.if-lines-at-eq0.true)
           (before.none bits));
     }
 

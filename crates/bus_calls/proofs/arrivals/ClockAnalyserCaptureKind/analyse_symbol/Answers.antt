@@ -22,5 +22,6 @@ returns-clause-taken g c = λ start b fed.
     let symbol = c.args.symbol in
     let this : zip (bits_from (c.from.result ∷ []) 0 1) (bits_from (c.from-2.result ∷ []) 0 1) ≡ symbol ∷ [] =
     rw (c.from.ensures, c.from-2.ensures) (held symbol.0 symbol.1) in
-    subst (λ (xs : List (Bool × Bool)). MatchResult c.analyse_rested.result (λ _. FeedAfter kind start now run (b ++ xs))
+    subst (λ (xs : List (Bool × Bool)). MatchResult c.analyse_rested.result (λ _. FeedAfter kind start now run
+    (b ++ xs))
     (λ f. FeedStopsWith kind start now run (b ++ xs) f)) this (c.analyse_rested.ensures.taken start b fed)

@@ -30,7 +30,8 @@ loop-taken-init g c = record {
 pub scan_block-requires-clause-room : goal.scan_block-requires-clause-room
 scan_block-requires-clause-room g c =
     g.met.L.ReportObserver.has_less c.loop-taken.observer (c.min-count.result - c.loop-taken.taken) c.min-some.result
-    (omega (arith, c.min-some.ensures ∙ least 512 (c.min-count.result - c.loop-taken.taken))) c.loop-taken.invariant.room
+    (omega (arith, c.min-some.ensures ∙ least 512 (c.min-count.result - c.loop-taken.taken)))
+    c.loop-taken.invariant.room
 
 pub scan_block-requires-clause-places : goal.scan_block-requires-clause-places
 scan_block-requires-clause-places g c = omega (
@@ -55,7 +56,11 @@ loop-taken-preserved g c =
     let block = arrivals_from bits lines (from + taken) k in
     let before = c.loop-taken.invariant in
     let now = c.scan_block.new in
-    let few : k ≤ c.min-count.result - taken = omega (arith, c.min-some.ensures ∙ least 512 (c.min-count.result - taken)) in
+    let few : k ≤ c.min-count.result - taken = omega (
+      arith,
+      c.min-some.ensures ∙ least 512
+          (c.min-count.result - taken),
+    ) in
     let left : c.min-count.result - taken ≡ k + (c.min-count.result - (taken + k)) =
     omega (arith, few, c.loop-taken-test.true) in
     record {

@@ -46,7 +46,11 @@ loop-self-preserved c =
                 rw (w.self-is) (passes-octet most left bits lines (xs ++ front) at c.if-self-ge8.true those.quiet)
             | else-lines-self-eq0 w ↦
                 rw (w.self-is, w.saturating_sub-self.ensures)
-                (passes-busy most left bits lines (xs ++ front) at before.whole (omega (arith, c.type_inv.lines (at / 8))) w.if-lines-self-eq0.false
+                (passes-busy most left bits lines (xs ++ front) at before.whole (omega (
+                  arith,
+                  c.type_inv.lines
+                      (at / 8),
+                )) w.if-lines-self-eq0.false
                 c.if-self-ge8.true those.quiet)
           ]) in
           passes-on most left c.if-lines-self-eq0.self bits lines from at (at + 8) xs before.within.0 (omega arith)

@@ -1,4 +1,5 @@
-use Rattle.std.proofs.Common.{◌≡◌, ◌+◌, ◌-◌, ◌∷◌, ◌++◌, ◌≤◌, ◌<◌, [], ℕ, Bool, List, true, min, length, refl, sym, ap, ◌∙◌}
+use Rattle.std.proofs.Common.{◌≡◌, ◌+◌, ◌-◌, ◌∷◌, ◌++◌, ◌≤◌, ◌<◌, [], ℕ, Bool, List, true, min, length, refl, sym, ap}
+use Rattle.std.proofs.Common.{◌∙◌}
 use Rattle.std.proofs.Common.{arith, append_assoc, append-nil}
 use Rattle.bus_bits.specs.Bits.{bit_at}
 use Rattle.bus_line.specs.Run.{ones_after}
@@ -14,7 +15,8 @@ use Rattle.bus_tap.proofs.rest.RestRule.pass.Goals.{then-past-from, else-past-fr
 use Rattle.bus_tap.proofs.rest.RestRule.pass.Goals as goal
 
 -- those up to the last bit of the second line, and then those of the first line alone
-module _ (most : ℕ) (bits lines : List ℕ) (xs : List Arrival) (from past end : ℕ) (begun : from ≤ past) (within : past ≤ end)
+module _ (most : ℕ) (bits lines : List ℕ) (xs : List Arrival) (from past end : ℕ) (begun : from ≤ past)
+(within : past ≤ end)
     (alone : own Second (arrivals_from bits lines past (end - past)) ≡ []) where
   abbrev front : List Arrival
   front = arrivals_from bits lines from (past - from)

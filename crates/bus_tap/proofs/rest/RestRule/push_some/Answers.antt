@@ -1,4 +1,5 @@
-use Rattle.std.proofs.Common.{◌≡◌, ◌+◌, ◌-◌, ◌≤◌, ◌++◌, [], ◌∷◌, ℕ, Bool, List, refl, sym, ap, ◌∙◌, subst, arith, append_assoc}
+use Rattle.std.proofs.Common.{◌≡◌, ◌+◌, ◌-◌, ◌≤◌, ◌++◌, [], ◌∷◌, ℕ, Bool, List, refl, sym, ap, ◌∙◌, subst, arith}
+use Rattle.std.proofs.Common.{append_assoc}
 use Rattle.bus_bits.specs.Bits.{bit_at}
 use Rattle.bus_pairing.specs.declared.line.Line.{Line}
 use Rattle.bus_tap.specs.Arrival.{Arrival, arrival_of, arrivals_from}
@@ -35,12 +36,14 @@ module _ (bits lines : List ℕ) (from past : ℕ) (begun : from ≤ past) (line
       ∙ (ap (λ (ys : List Arrival). ys ++ ((line, bit) ∷ fill is)) quiet
       ∙ (append_assoc (rested old.most xs) front ((line, bit) ∷ fill is)
       ∙ ap (λ (ys : List Arrival). rested old.most xs ++ ys)
-      (sym (append_assoc front ((line, bit) ∷ []) (fill is)) ∙ ap (λ (ys : List Arrival). ys ++ fill is) (sym split))))))
+      (sym (append_assoc front ((line, bit) ∷ []) (fill is)) ∙ ap (λ (ys : List Arrival). ys ++ fill is)
+      (sym split))))))
 
   some-after : (next : RestState) (xs : List Arrival) → IsRestAfter next ((xs ++ front) ++ (line, bit) ∷ []) →
       IsRestAfter next (xs ++ whole)
   some-after next xs after =
-      subst (IsRestAfter next) (append_assoc xs front ((line, bit) ∷ []) ∙ ap (λ (ys : List Arrival). xs ++ ys) (sym split))
+      subst (IsRestAfter next) (append_assoc xs front ((line, bit) ∷ []) ∙ ap (λ (ys : List Arrival). xs ++ ys)
+      (sym split))
       after
 
 pub returns-clause-rested : goal.returns-clause-rested

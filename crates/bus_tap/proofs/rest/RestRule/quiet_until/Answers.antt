@@ -58,7 +58,8 @@ returns-then-at-end-clause-quiet c = λ bits xs after.
     let at = c.loop-quiet.quiet.at in
     let those = before.passes bits xs after in
     let front = arrivals_from bits c.args.lines.now c.args.from (at - c.args.from) in
-    (passes-on c.args.self.now.most c.loop-quiet.quiet.left c.pass_octets.new.self.left bits c.args.lines.now c.args.from
+    (passes-on c.args.self.now.most c.loop-quiet.quiet.left c.pass_octets.new.self.left bits c.args.lines.now
+    c.args.from
     at c.pass_octets.new.self.at xs before.within.0 c.pass_octets.ensures.within.0 those
     (on most (c.pass_octets.ensures.quiet bits (xs ++ front)) those.quiet)).same
 
