@@ -44,8 +44,8 @@ module _ (bits lines : List ℕ) (from n : ℕ) (r : RestState) (comes : Bool) (
       ∙ ap (λ (xs : List Arrival). front ++ (come ++ xs)) (held ∙ ap fill (sym is))
 
   unfilled : comes ≡ false → front ++ come ≡ front ++ (come ++ fill comes)
-  unfilled none = ap (λ (xs : List Arrival). front ++ xs) (sym (append-nil come) ∙ ap (λ is. come ++ fill is)
-  (sym none))
+  unfilled none =
+      ap (λ (xs : List Arrival). front ++ xs) (sym (append-nil come) ∙ ap (λ is. come ++ fill is) (sym none))
 
 pub returns-in_err-analyse_arrivals-clause-taken : goal.returns-in_err-analyse_arrivals-clause-taken
 returns-in_err-analyse_arrivals-clause-taken g c =

@@ -16,7 +16,7 @@ use Rattle.bus_tap.proofs.rest.RestRule.pass.Goals as goal
 
 -- those up to the last bit of the second line, and then those of the first line alone
 module _ (most : ℕ) (bits lines : List ℕ) (xs : List Arrival) (from past end : ℕ) (begun : from ≤ past)
-(within : past ≤ end)
+    (within : past ≤ end)
     (alone : own Second (arrivals_from bits lines past (end - past)) ≡ []) where
   abbrev front : List Arrival
   front = arrivals_from bits lines from (past - from)
