@@ -268,6 +268,7 @@ PARTINGS: Dict[str, Callable[[str], str]] = {
     "tabs and decimal commas": lambda text: text.replace(",", "\t").replace(".", ","),
     "sep=;": lambda text: "sep=;\n" + text.replace(",", ";").replace(".", ","),
     "sep=,": lambda text: "sep=,\n" + text,
+    "sep=|": lambda text: "sep=|\n" + text.replace(",", "|"),
 }
 
 LIMITS = "[bus]\nframes = 2\ndamaged = 0\n"
