@@ -14,7 +14,8 @@ const SHOWN = 80;
 const MOST_NAMES = 400;
 
 /** What cannot be seen, or is seen as a space. */
-const INVISIBLE = /[\x7f-\xa0\xad\u034f\u061c\u1680\u180e\u2000-\u200f\u2028-\u202f\u205f-\u206f\u3000\ufeff\ufff9-\ufffb]/g;
+const INVISIBLE =
+  /[\x7f-\xa0\xad\u034f\u061c\u1680\u180e\u2000-\u200f\u2028-\u202f\u205f-\u206f\u3000\ufeff\ufff9-\ufffb]/g;
 
 /** Encodings by their marks, and where the high octet of a character stands. */
 const MARKS = [
@@ -33,7 +34,8 @@ const OF_ASCII = 8;
 function encodingOf(head) {
   const found = MARKS.find(({ mark, high }) => {
     const rest = head.subarray(mark.length, mark.length + 2 * OF_ASCII);
-    return mark.every((octet, at) => head[at] === octet) && rest.every((octet, at) => high < 0 || at % 2 !== high || octet === 0);
+    const isOfAscii = rest.every((octet, at) => high < 0 || at % 2 !== high || octet === 0);
+    return isOfAscii && mark.every((octet, at) => head[at] === octet);
   });
   return found ?? { encoding: "utf-8", mark: [] };
 }

@@ -146,7 +146,8 @@ BLAME = "no station is to blame for what is wrong there."
 LACKS = f"The recording lacks samples, or has wrong ones, where N stand: {BLAME}"
 UNSURE = "Nothing of this recording is sure: record again."
 SLOW = "TXC has fewer than four samples a bit: record 1 million samples a second or more"
-ROUNDED = "rows of the table have the time of the row before them: export their times with all digits (N times, first at N s)"
+DIGITS = "rows of the table have the time of the row before them: export their times with all digits"
+ROUNDED = f"{DIGITS} (N times, first at N s)"
 ANALOG = 'row 1: "{}" is no level, 0 or 1: export digital channels, and no analog ones'
 
 # Where a loss is.
@@ -217,14 +218,15 @@ def said_of(row: Row, folder: Path) -> Said:
     recording.write_bytes(row.made())
     dictionary.write_text(cabinet.DICTIONARY, encoding="ascii")
     got = ran(["bus-report", "--dictionary", dictionary, recording, folder / row.name, *NAMES])
-    told = [line.partition(": ")[2] for line in got.stderr.decode().splitlines()[1:]]
-    warnings = [line.partition(": ")[2] for line in told if line.startswith("warning: ")]
-    faults = [line for line in told if not line.startswith("warning: ") and " edges" not in line]
+    lines = [line.partition(": ")[2] for line in got.stderr.decode().splitlines()[1:]]
+    warnings = [line.partition(": ")[2] for line in lines if line.startswith("warning: ")]
+    faults = [line for line in lines if not line.startswith("warning: ") and " edges" not in line]
     head = got.stdout.decode().split("\n\n")[1:]
     wrong = next((text for text in head if text.startswith("What is wrong")), "")
     text = " ".join(line.strip() for line in wrong.splitlines()[1:] if re.match(r"   \S|\d+\. ", line))
     sentences = [each for each in re.split(r"(?:^| )\d+\. (?=[A-Z0-9])", text) if each]
-    places = [int(place) for each in warnings for place in re.findall(r"\d+", "".join(re.findall(r"places (.*) on ", each)))]
+    told = re.findall(r"places (.*) on ", "\n".join(warnings))
+    places = [int(place) for each in told for place in re.findall(r"\d+", each)]
     return Said([plain(each) for each in warnings], faults, [plain(each) for each in sentences], places)
 
 
@@ -254,7 +256,7 @@ WRITINGS: Dict[str, Callable[[str], bytes]] = {
     "a byte order mark and CR LF": lambda text: b"\xef\xbb\xbf" + text.replace("\n", "\r\n").encode(),
     "CR": lambda text: text.replace("\n", "\r").encode(),
     "UTF-16": lambda text: b"\xff\xfe" + text.encode("utf-16-le"),
-    "UTF-16, the high octet first, and CR LF": lambda text: b"\xfe\xff" + text.replace("\n", "\r\n").encode("utf-16-be"),
+    "UTF-16, high octets first": lambda text: b"\xfe\xff" + text.replace("\n", "\r\n").encode("utf-16-be"),
 }
 
 # How a table may be written.
@@ -266,6 +268,7 @@ PARTINGS: Dict[str, Callable[[str], str]] = {
     "tabs and decimal commas": lambda text: text.replace(",", "\t").replace(".", ","),
     "sep=;": lambda text: "sep=;\n" + text.replace(",", ";").replace(".", ","),
     "sep=,": lambda text: "sep=,\n" + text,
+    "sep=|": lambda text: "sep=|\n" + text.replace(",", "|"),
 }
 
 LIMITS = "[bus]\nframes = 2\ndamaged = 0\n"
@@ -364,18 +367,23 @@ LONG = "x" * 3000
 REFUSALS = [
     Refusal(["recording-to-bits", "--samplerate=0", "0", "1"], b"", 'error: --samplerate: "0" is no rate above 0'),
     Refusal(["recording-to-bits", "--octets=9", "0", "1"], b"", 'error: --octets: "9" is no whole number from 1 to 8'),
-    Refusal(["recording-to-bits", f"--samplerate={LONG}", "0", "1"], b"", f'error: --samplerate: "{LONG[:80]}" .. is no rate'),
+    Refusal(["recording-to-bits", f"--samplerate={LONG}", "0", "1"], b"",
+            f'error: --samplerate: "{LONG[:80]}" .. is no rate'),
     Refusal(["recording-to-bits", "a", "b"], f"Time {LONG},a,b\n0,0,1\n".encode(),
             f'the times of the column "Time {LONG[:75]}" .. have no known unit: export them in seconds'),
     Refusal(["recording-to-bits", "a", "c"], f"a,b,{','.join([LONG] * 9)}\n0,1\n".encode(),
             f"no channel has the name c; there are: a, b, {LONG[:394]} .."),
-    Refusal(["recording-to-bits", "a", "b"], "\u200ba,b\n0,1\n".encode(), "no channel has the name a; there are: \\u200ba, b"),
-    Refusal(["recording-to-bits", "a", "b"], f"Time [s],a,b\n0,0,1\n1{LONG},1,1\n".encode(), f'row 2: "1{LONG[:79]}" .. is no time'),
+    Refusal(["recording-to-bits", "a", "b"], "\u200ba,b\n0,1\n".encode(),
+            "no channel has the name a; there are: \\u200ba, b"),
+    Refusal(["recording-to-bits", "a", "b"], f"Time [s],a,b\n0,0,1\n1{LONG},1,1\n".encode(),
+            f'row 2: "1{LONG[:79]}" .. is no time'),
     Refusal(["bus-summary"], "8 49 frame 108300fde5\n57\u00a098 idle\n".encode(),
             'line 2 is no line of `port1 list`: "57\\u00a098 idle"'),
-    Refusal(["bus-summary"], b"8 49 frame 108300fde5\n57 98 idle\r\n", 'line 2 is no line of `port1 list`: "57 98 idle\\r"'),
+    Refusal(["bus-summary"], b"8 49 frame 108300fde5\n57 98 idle\r\n",
+            'line 2 is no line of `port1 list`: "57 98 idle\\r"'),
     Refusal(["bus-summary"], f"8 49 {LONG}\n".encode(), f'line 1 is no line of `port1 list`: "8 49 {LONG[:75]}" ..'),
-    Refusal(["dictionary-to-lua"], b"version = 2 # \xe4\n", "standard input is no text in UTF-8 or UTF-16: save it as UTF-8"),
+    Refusal(["dictionary-to-lua"], b"version = 2 # \xe4\n",
+            "standard input is no text in UTF-8 or UTF-16: save it as UTF-8"),
 ]
 
 

@@ -275,7 +275,7 @@ Read = Tuple["np.ndarray", Setting, int]
 def taken(samples: "np.ndarray", setting: Setting, rate: int) -> Dict[str, Any]:
     """The facts of a recording, and its listing, each as the programs write it."""
     bit = rate / cabinet.RATE
-    options = ["--facts", f"--hold={int(bit / 16)}", f"--jump={max(3, int(bit / 13))}", *setting.words()]
+    options = ["--facts", f"--hold={int(bit / 16)}", f"--jump={max(3, int(1e-6 * rate) + 2)}", *setting.words()]
     how: Dict[str, Any] = {"capture_output": True, "check": True, "timeout": SECONDS}
     got = subprocess.run([sampler(), *options], input=samples.tobytes(), **how)
     words = [os.environ["PORT1"], "list", "--bits", "--arrivals", "--dict", cabinet.DICTIONARY]

@@ -1,6 +1,7 @@
 import { ABORT, ANSWERED, DAMAGED, FRAME, LATE, MISSING, OVERLONG, SPOILT, STRAY } from "../listing/kinds.js";
 import { UNKNOWN, WRONG_LENGTH } from "../listing/listing.js";
 import { ANSWER } from "../port1.js";
+import { Beside } from "../statistics/beside.js";
 import { lengthOf } from "../statistics/causes.js";
 import { judgedBus } from "../statistics/wrong.js";
 import { Gaps, Rows } from "./seekers.js";
@@ -118,6 +119,25 @@ function findingOf({ sort, level, text, shown = text, kind = null }, { places, c
   };
 }
 
+/**
+ * The rows that lie beside what the recording lacks, which are no sentence's.
+ * @param {Listing} listing
+ * @param {import("../statistics/beside.js").Stretch[]} stretches
+ */
+function rowsBeside(listing, stretches) {
+  /** @type {Set<number>} */
+  const found = new Set();
+  if (stretches.length === 0) return found;
+  const beside = new Beside(stretches);
+  let [at, past] = [0, 0];
+  for (const row of listing.rows()) {
+    past = Math.max(past, row.past);
+    if (beside.takes(row, past)) found.add(at);
+    at += 1;
+  }
+  return found;
+}
+
 /** @param {number[]} counts */
 const sumOf = (counts) => counts.reduce((sum, count) => sum + count, 0);
 
@@ -130,10 +150,12 @@ const sumOf = (counts) => counts.reduce((sum, count) => sum + count, 0);
  */
 export function findingsOf(bus, listing, known) {
   const { sentences, gaps: holes } = judgedBus(bus, known);
-  const gaps = new Gaps(listing, holes);
-  const rows = sentences.map(
-    (sentence) => new Rows(listing, KINDS_OF[sentence.sort] ?? [], agreesOf(listing, sentence)),
-  );
+  const gaps = new Gaps(listing, holes, bus.beside);
+  const others = rowsBeside(listing, bus.beside.stretches);
+  const rows = sentences.map((sentence) => {
+    const agrees = agreesOf(listing, sentence);
+    return new Rows(listing, KINDS_OF[sentence.sort] ?? [], (at) => agrees(at) && !others.has(at));
+  });
   survey(listing, [gaps, ...rows]);
   /** @param {Judged} sentence @param {number} at */
   const whereOf = ({ hole, places, count = 0 }, at) => {

@@ -40,9 +40,10 @@ export class Rows {
 
 /** The times between commands of some kinds that are longer than the limit of each. */
 export class Gaps {
-  /** @param {Listing} listing @param {Hole[]} holes */
-  constructor(listing, holes) {
+  /** @param {Listing} listing @param {Hole[]} holes @param {import("../statistics/beside.js").Beside} beside */
+  constructor(listing, holes, beside) {
     this.listing = listing;
+    this.beside = beside;
     this.kinds = [FRAME];
     /** @type {Map<number, { limit: number, before: number, found: Place[], rows: Map<number, number> }>} */
     this.byKind = new Map();
@@ -59,7 +60,8 @@ export class Gaps {
     const own = types[at] < 0 || lines[at] === 2 ? undefined : this.byKind.get(256 * stations[at] + types[at]);
     if (own === undefined) return;
     if (own.rows.has(firsts[at])) own.rows.set(firsts[at], at);
-    if (own.before >= 0 && firsts[at] - firsts[own.before] > own.limit && own.found.length < MOST_PLACES) {
+    const isLong = own.before >= 0 && firsts[at] - firsts[own.before] > own.limit;
+    if (isLong && own.found.length < MOST_PLACES && !this.beside.isNear(firsts[own.before], firsts[at])) {
       own.found.push({ row: own.before, first: firsts[own.before], past: firsts[at] });
     }
     own.before = at;

@@ -100,8 +100,9 @@ const PLACED = new Set(["samples", "piece", "checksum"]);
 
 /** @type {[string, RegExp][]} */
 const PATTERNS = Object.entries(TEXTS).map(([sort, textOf]) => {
-  const text = textOf("\0", "\x01").replace(/[()?]/g, "\\$&").replace("\0", "(?<name>.+?)").replace("\x01", "(?<other>.+?)");
-  return [sort, new RegExp(`^${text.replaceAll(/[\0\x01]/g, ".+?")}$`)];
+  const text = textOf("\0", "\x01").replace(/[()?]/g, "\\$&");
+  const named = text.replace("\0", "(?<name>.+?)").replace("\x01", "(?<other>.+?)");
+  return [sort, new RegExp(`^${named.replaceAll(/[\0\x01]/g, ".+?")}$`)];
 });
 
 /**

@@ -88,7 +88,8 @@ export async function recordingOf(pieces, wanted) {
     const wires = wiresOf([...channels.keys()]);
     const whole = { hasRuns: true, width: 8, wires, names, ticks: known === null ? null : known / unit };
     const all = { ...whole, begin: () => runs.begin };
-    return watched(all, closing(source, runs.of(changes)), () => faults().map((seam) => ({ ...seam, from: seam.from / unit })));
+    const inSamples = () => faults().map((seam) => ({ ...seam, from: seam.from / unit }));
+    return watched(all, closing(source, runs.of(changes)), inSamples);
   }
   const source = new Source(pieces);
   if (samples === undefined) throw new Fault("what the samples are is not known");

@@ -104,8 +104,10 @@ export function besideSeams({ beside }) {
  * Where the recording is unsure.
  * @param {import("./beside.js").Beside} beside
  */
-const placesOf = ({ stretches }) =>
-  stretches.filter(({ past }) => past < Infinity).map(({ first, past }) => ({ row: -1, first, past: Math.max(past, first + 1) }));
+function placesOf({ stretches }) {
+  const known = stretches.filter(({ past }) => past < Infinity);
+  return known.map(({ first, past }) => ({ row: -1, first, past: Math.max(past, first + 1) }));
+}
 
 /** What damage makes. */
 const OF_DAMAGE = new Set(["damage", "spoilt"]);

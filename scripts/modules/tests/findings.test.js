@@ -3,6 +3,7 @@
 import assert from "node:assert/strict";
 import { test } from "node:test";
 import { findingsOf } from "../findings/findings.js";
+import { Bus } from "../statistics/bus.js";
 import { verdictOf } from "../statistics/verdict.js";
 import { RATE, Talk } from "./support/bus_traffic.js";
 
@@ -238,6 +239,33 @@ test("all gaps are counted, also those that have no sentence, and a common one o
   const quiet = talk(80, times(["round 20", "round 21", "round 22", "round 60", "round 61", "round 62"], null));
   assert.equal(judged({ talk: quiet }).found.gapCount, 2);
 });
+
+/** Rounds with damage and a missing answer in the third, at 220 and 226 ms, and the same in the eighth. */
+function faulty() {
+  const made = talk(12, { "2 2": missing, "2 7": missing });
+  return made.damaged(2, 226).damaged(2, 726);
+}
+
+/** Stretches of milliseconds of which the recording is not sure, and the findings. */
+const UNSURE = [
+  [[], ["missing", "damage"], [2, 2]],
+  [[[221, 221]], ["missing", "beside", "damage"], [1, 2, 1]],
+  [[[221, 221], [700, 760]], ["beside"], [4]],
+  [[[0, Infinity]], ["beside"], [4]],
+  [[[400, 400]], ["missing", "damage"], [2, 2]],
+];
+
+for (const [stretches, sorts, counts] of UNSURE) {
+  test(`a recording that lacks samples at ${JSON.stringify(stretches)} ms`, () => {
+    const { listing } = faulty();
+    const places = stretches.map((times) => times.map((time) => (time * RATE) / 1000));
+    const bus = new Bus(RATE, null, places.map(([first, past]) => ({ first, past })));
+    bus.takeAll(listing.rows());
+    const { findings } = findingsOf(bus, listing, { end: null, entries: WITH_WINDOW });
+    assert.deepEqual(findings.map(({ sort }) => sort), sorts);
+    assert.deepEqual(findings.map(({ count }) => count), counts);
+  });
+}
 
 test("sentences beyond the first of a sort are as grave as these", () => {
   const kinds = Array.from({ length: 9 }, (_, type) => type);

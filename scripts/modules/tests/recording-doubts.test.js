@@ -154,6 +154,45 @@ for (const name of HARD_NAMES) {
   });
 }
 
+/** What is lacking or wrong in a recording, the warning, and whether others are told beside it. */
+const SEAMS = [
+  [
+    { sort: "samples", name: "TXC", from: 70, count: 1, stretches: [{ first: 17, past: 17 }] },
+    "the analyser lost samples: TXC is out of step from place 17 on (at sample 70)",
+  ],
+  [
+    { sort: "samples", name: "TXC", from: 70, count: 2, stretches: [{ first: 17, past: 17 }, { first: 40, past: 40 }] },
+    "the analyser lost samples: TXC is out of step from places 17, 40 on (2 times, first at sample 70)",
+  ],
+  [
+    { sort: "samples", name: "TXC", from: 70, count: 99, stretches: [{ first: 17, past: 900 }] },
+    "the analyser lost samples: TXC is out of step from places 17 to 900 on (99 times, first at sample 70)",
+  ],
+  [
+    { sort: "piece", name: "logic-1-2", from: 70, count: 1, stretches: [{ first: 17, past: 17 }] },
+    "the recording lacks logic-1-2: samples were lost at place 17 (at sample 70)",
+  ],
+  [
+    { sort: "checksum", name: "logic-1-2", from: 70, count: 1, stretches: [{ first: 17, past: 90 }] },
+    "the checksum of logic-1-2 is wrong: samples are damaged from places 17 to 90 (at sample 70)",
+  ],
+];
+
+for (const [seam, text] of SEAMS) {
+  test(`a recording with a seam: ${text}`, () => {
+    const how = { rising: true, when: new Moments(null), seams: [seam] };
+    const [found, ...more] = doubtsOf(factsWith({ "first-jumps": "2 70 76" }), NAMES, how);
+    assert.deepEqual([found.text, found.stretches, more], [text, seam.stretches, []]);
+    assert.deepEqual(warningOf(text), { ...found, second: null });
+  });
+}
+
+test("glitches beside samples that were lost", () => {
+  const how = { rising: true, when: new Moments(null), seams: [SEAMS[0][0]] };
+  const sorts = doubtsOf(factsWith({ "first-jumps": "3 70 900" }), NAMES, how).map(({ sort }) => sort);
+  assert.deepEqual(sorts, ["samples", "lost"]);
+});
+
 test("a text that is no warning", () => {
   assert.deepEqual(warningOf("it rained"), { sort: "other", name: "", count: 1, second: null, text: "it rained" });
 });
