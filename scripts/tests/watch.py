@@ -326,7 +326,7 @@ def problems_of_loss(folder: Path, is_killed: bool) -> List[str]:
     times = [datetime.fromisoformat(record["wall"].replace("Z", "+00:00")) for record in cabinet.incidents]
     causes = [list(record["causes"]) for record in cabinet.incidents]
     apart = (times[1] - times[0]).total_seconds() if causes == [["missing 2/1"], ["missing 1/1"]] else 0
-    return [] if abs(apart - 5.5) < 0.1 else [f"{is_killed}, {cabinet.log}"]
+    return [] if abs(apart - 5.5) < 0.3 else [f"{is_killed}, {cabinet.log}"]
 
 
 TESTS = [

@@ -33,6 +33,7 @@ from tests.watched import (
     SIMULATOR,
     Cabinet,
     Fault,
+    Record,
     Watched,
     disk_of,
     judged,
@@ -63,14 +64,14 @@ LIVE = [
 ]
 LIVE_ENDS = [40, 21]
 
-# When the disk is full in the last run, and for how long, in seconds: the bits of the incident after it have a hole.
-LIVE_FULL = (5.5, 2.0)
+# For how many seconds the disk is full after the first incident of the last run.
+LIVE_FULL = 2.0
 
 # How many seconds of bits a power cut may take in real time.
 MOST_LOST = 11
 
 # How far times of day may be from those of the bus, in seconds.
-NEAR = 0.2
+NEAR = 0.4
 
 # How many folders are compared with the bus, frame by frame.
 COMPARED = 150
@@ -84,10 +85,12 @@ node {simulator} 7 $1 $2 plan {speed} {form} 2>> told; exit 3
 
 
 class End(NamedTuple):
-    """When a run of the watch is ended, in seconds, and whether by a power cut or by kill -9."""
+    """When a run of the watch is ended, in seconds, and whether by a power cut or by kill -9; or once so many incidents
+    have begun."""
 
     seconds: float
     is_cut: bool
+    begun: int = 0
 
 
 class Plan(NamedTuple):
@@ -159,12 +162,20 @@ def size_of(path: Path) -> int:
         return 0
 
 
+def last_records(folder: Path) -> List[Record]:
+    lines = read(folder / "incidents.jsonl").splitlines()[-60:]
+    return [json.loads(line) for line in lines if line.endswith("}")]
+
+
+def begun_of(folder: Path, run: int) -> List[str]:
+    """The last incidents that a run has begun."""
+    return [record["id"] for record in last_records(folder) if record["event"] == "begun" and record["run"] == run]
+
+
 def is_open(folder: Path, run: int) -> bool:
     """Whether an incident of a run has begun that is not saved yet."""
-    records = [json.loads(line) for line in read(folder / "incidents.jsonl").splitlines()[-40:] if line.endswith("}")]
-    saved = {record["id"] for record in records if record["event"] == "incident"}
-    begun = [record["id"] for record in records if record["event"] == "begun" and record["run"] == run]
-    return any(number not in saved for number in begun)
+    saved = {record["id"] for record in last_records(folder) if record["event"] == "incident"}
+    return any(number not in saved for number in begun_of(folder, run))
 
 
 def children(pid: int) -> List[str]:
@@ -230,6 +241,21 @@ class Week:
             time.sleep(0.01)
         fill(self.folder / "watch", seconds)
         self.has_hole = True
+
+    def fill_live(self) -> None:
+        """Keeps the disk full after the first incident of a run in real time, until bits are missed."""
+        self.wait_for(1)
+        said = (self.folder / "said").stat().st_size
+        for _ in range(10):
+            fill(self.folder / "watch", LIVE_FULL)
+            if b"the ring: " in (self.folder / "said").read_bytes()[said:]:
+                break
+
+    def wait_for(self, count: int, watch: "Optional[subprocess.Popen[bytes]]" = None) -> None:
+        """Waits until a run has begun so many incidents."""
+        run = len(self.runs) + 1
+        while len(begun_of(self.folder / "watch", run)) < count and (watch is None or watch.poll() is None):
+            time.sleep(0.02)
 
     def words_of(self, begin: int, is_live: bool) -> List[object]:
         date = time.strftime("%Y-%m-%dT%H:%M:%SZ", time.gmtime(BEGIN + begin / RATE))
@@ -299,6 +325,8 @@ class Week:
         gauge.start()
         if past - begin > LONG_RUN:
             self.second(watch)
+        if end and end.begun:
+            self.wait_for(end.begun, watch)
         try:
             watch.wait(end.seconds if end else None)
         except subprocess.TimeoutExpired:
@@ -338,16 +366,20 @@ class Week:
             own = [Fault(begin + int(at * RATE), begin + int(to * RATE), kind, n) for at, to, kind, n in faults]
             self.plan = self.plan._replace(faults=[*self.plan.faults, *own], deaths=[])
             last = faults[-1]
-            end = End(last[0] + 0.2, True) if seconds > last[1] + 10 else None
+            end = End(0, True, sum(kind != "lose" for _, _, kind, _ in faults)) if seconds > last[1] + 10 else None
             self.live.append(len(self.runs) + 1)
             if end is None:
-                at, length = LIVE_FULL
-                threading.Timer(at, fill, (self.folder / "watch", length)).start()
+                threading.Thread(target=self.fill_live, daemon=True).start()
             begin = self.run(begin, begin + seconds * RATE, end, True) + 30 * RATE
 
     def problems_of_live(self) -> Iterator[str]:
-        """What is wrong with the times of day in a run in real time: they are as far apart as on the bus."""
+        """What is wrong with the times of day in a run in real time: they are as far apart as on the bus. Where input
+        stalled the computer had other things to do, and times are not judged."""
+        stalled = {record["run"] for record in self.cabinet.log if record["event"] == "input stalled"}
         for number in self.live:
+            if number in stalled:
+                print(f"times of run {number} are not judged: input stalled", flush=True)
+                continue
             own = [record for record in self.cabinet.incidents if record["run"] == number]
             run = self.runs[number - 1]
             apart = [
@@ -357,6 +389,21 @@ class Week:
             ]
             if len(own) < 2 or max(apart) - min(apart) > NEAR:
                 yield f"times of run {number}: {[round(one - apart[0], 3) for one in apart]} of {own}"
+
+    def problems_of_holes(self) -> Iterator[str]:
+        """What is wrong with what the disk did not take: it is told, and marked at each incident beside it."""
+        told = [record for record in self.cabinet.log if record["event"] == "bits not kept"]
+        runs = {record["run"] for record in told}
+        if self.live[-1] not in runs or self.has_hole and len(runs) < 2:
+            yield f"holes are told of runs {runs} alone"
+        for record in self.cabinet.incidents:
+            after = 1 if record["run"] in self.live else 10
+            first, past = record["place"] - 10 * RATE, record["place"] + (min(120, record["seconds"]) + after) * RATE
+            for hole in told:
+                end = hole["place"] + hole["seconds"] * RATE
+                is_beside = hole["run"] == record["run"] and min(past, end) - max(first, hole["place"]) > RATE / 2
+                if is_beside and "holes" not in record:
+                    yield f"no hole: {record}, {hole}"
 
     def problems_of_bits(self) -> Iterator[str]:
         """What is wrong with saved bits, in so many folders."""
@@ -379,8 +426,7 @@ class Week:
 
 def last_run(folder: Path) -> int:
     """The number of the last run that the log has."""
-    lines = read(folder / "incidents.jsonl").splitlines()[-40:]
-    return max((json.loads(line)["run"] for line in lines if line.endswith("}")), default=0)
+    return max((record["run"] for record in last_records(folder)), default=0)
 
 
 def problems_of_days(
@@ -398,11 +444,8 @@ def problems_of_days(
         print(f"status of each run {[run.status for run in week.runs]}; said {said}", flush=True)
         problems = (problem for problem in judged(week.cabinet, week.runs) if not problem.startswith("not saved"))
         problems = (problem for problem in problems if not problem.endswith("is not there"))  # old folders go
-        told = [record["run"] for record in week.cabinet.log if record["event"] == "bits not kept"]
-        holes = [record["run"] for record in week.cabinet.incidents if "holes" in record]
-        is_told = len(told) > week.has_hole and week.live[-1] in told and week.live[-1] in holes
-        hole = [] if is_told else [f"holes: told in runs {told}, in incidents of runs {holes}"]
-        return [*week.problems, *hole, *problems, *week.problems_of_live(), *week.problems_of_bits()]
+        own = [*week.problems, *week.problems_of_holes(), *week.problems_of_live(), *week.problems_of_bits()]
+        return [*problems, *own]
 
 
 def an_hour_of_all(folder: Path) -> List[str]:
