@@ -238,9 +238,9 @@ fn types_that_ask(rt: HostRuntime) {
     same(&rt, asks, [true, false, false], "types 0, 128 and 7");
 }
 
-/// What the README says of memory, in octets.
+/// What RATTLE says of memory, in octets.
 #[test]
 fn sizes(rt: HostRuntime) {
     assert_eq!(rt; size_of::<LineDecoder<OctetCheck>>(), 360);
-    assert_eq!(rt; size_of::<Analyser<OctetCheck>>(), 10816);
+    assert_eq!(rt; size_of::<Analyser<OctetCheck>>(), 10824);
 }
