@@ -7,7 +7,7 @@ import { Bus } from "../statistics/bus.js";
 import { verdictOf } from "../statistics/verdict.js";
 import { RATE, Talk } from "./support/bus_traffic.js";
 
-const WITH_WINDOW = [{ type: 0, name: "t0", length: 0, answered: true, window: 1536 }];
+const WITH_WINDOW = [{ type: 0, name: "t0", length: 0, answered: true, window: 1536, bits: [] }];
 const WITHOUT_WINDOW = [{ ...WITH_WINDOW[0], window: 0 }];
 
 /**

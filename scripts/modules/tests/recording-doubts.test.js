@@ -154,7 +154,10 @@ for (const name of HARD_NAMES) {
   });
 }
 
-/** What is lacking or wrong in a recording, the warning, and whether others are told beside it. */
+/**
+ * What is lacking or wrong in a recording, and the warning.
+ * @type {[import("../recording/seams.js").Seam, string][]}
+ */
 const SEAMS = [
   [
     { sort: "samples", name: "TXC", from: 70, count: 1, stretches: [{ first: 17, past: 17 }] },

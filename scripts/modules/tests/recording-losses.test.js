@@ -59,7 +59,8 @@ for (const [seed, clock] of CLOCKS.entries()) {
     const lost = Math.round((rate / RATE) * (random.below(100) + random.between(20, 80) / 100));
     const { count, last } = followed(without(edges, from, lost), rate);
     assert.equal(count, 1);
-    assert.ok(Math.abs(last.sample - from) < (NEAR * rate) / RATE, `${last.sample}, not ${from}`);
+    const sample = last?.sample ?? NaN;
+    assert.ok(Math.abs(sample - from) < (NEAR * rate) / RATE, `${sample}, not ${from}`);
   });
 }
 
