@@ -52,40 +52,6 @@ RESTS = [
     for name, rest, lines in RESTED
 ]
 
-def calls_and_replies(paused: int, behind: str) -> bytes:
-    """A call and its reply, with a pause behind each octet of it, bits behind it and 60 ones: all of it twice."""
-    call, reply = (FLAG + frame.replace(" ", "") + FLAG for frame in (CALL, REPLY))
-    marks = ["1" * (paused if at > 8 and at % 8 == 0 else 1) + "oi"[int(bit)] for at, bit in enumerate(reply + behind)]
-    return (2 * (call + "".join(marks) + 60 * "1")).encode()
-
-
-# The listing of the first call and its reply, and that of the second, which comes so many bits later.
-BEHIND = """1 {0} {1} frame 108300fde5 station 16 type 0 call
-1 {2} {3} idle
-2 {4} {5} frame 108380f561 station 16 type 128 reply
-1 {0} {1} answered station 16 type 0
-2 {6} {7} abort
-2 {8} {9} idle
-"""
-
-BY_PLACES = [
-    Case(
-        "three bits behind each reply, after which its clock stops",
-        [*BY_CALLS, "--rest", "40"],
-        calls_and_replies(1, "010"),
-        "".join(
-            BEHIND.format(*(place + begin for place in (8, 49, 57, 72, 65, 106, 114, 117, 156, 157)))
-            for begin in (0, 177)
-        ),
-    ),
-    Case(
-        "sixteen places behind each octet of a reply",
-        [*BY_CALLS, "--rest", "40", "--kind", "answered"],
-        calls_and_replies(16, ""),
-        "1 8 49 answered station 16 type 0\n1 272 313 answered station 16 type 0\n",
-    ),
-]
-
 # How often a frame and a flag are sent on each line, 49 bits, behind a flag.
 FRAMES = 60
 
@@ -167,7 +133,6 @@ ARRIVALS = [
     ],
     Case("with space", BY_CALLS, b" \t\r\n".join(bytes([mark]) for mark in GATED), GATED_LINES),
     *RESTS,
-    *BY_PLACES,
     *DRIFTS,
     *FAULTS,
     Case("check", ["check", *BY_CALLS[1:]], GATED, CHECKED),
