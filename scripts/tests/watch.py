@@ -26,6 +26,7 @@ from tests.watched import (
     judged,
     read_until,
     schedule,
+    wait_until_idle,
     watched_with_kills,
 )
 
@@ -84,7 +85,7 @@ def holes(folder: Path) -> List[str]:
                 (disk / "ballast").unlink()
             watch.stdin.write(bits)
             watch.stdin.flush()
-            time.sleep(2)
+            wait_until_idle(watch)
         watch.stdin.close()
         watch.wait(timeout=SECONDS)
         whole, _ = cabinet.simulator(0, 240 * RATE).communicate(timeout=SECONDS)

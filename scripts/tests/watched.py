@@ -69,6 +69,21 @@ def schedule(seed: int, seconds: int, count: int) -> List[Fault]:
     return [fault_of(generator, begin, min(3600, 0.5 * step)) for begin in begins]
 
 
+def used_by(process: int) -> int:
+    """How much of a processor it has used, in ticks of the clock."""
+    words = Path(f"/proc/{process}/stat").read_text().rpartition(")")[2].split()
+    return int(words[11]) + int(words[12])
+
+
+def wait_until_idle(watch: "subprocess.Popen[bytes]") -> None:
+    """Waits until a watch has used next to nothing of a processor for two seconds."""
+    end = time.monotonic() + SECONDS
+    now, before = used_by(watch.pid), -100
+    while now > before + 5 and time.monotonic() < end:
+        time.sleep(2)
+        now, before = used_by(watch.pid), now
+
+
 def child_of(watch: "subprocess.Popen[bytes]") -> int:
     """The `port1` of a watch."""
     for _ in range(200):
