@@ -4,4 +4,5 @@ pub mod FrameCheckLemmas
 pub mod LawsLemmas
 pub mod RegisterLemmas
 pub mod TableLemmas
+pub mod FoldLemmas
 mod Examples

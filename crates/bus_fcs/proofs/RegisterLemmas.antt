@@ -5,7 +5,7 @@ use Rattle.std.proofs.Common.{arith, append_assoc, length-append, bit_xor, inl, 
 use Rattle.std.proofs.lemmas.List.{append-nil, length-replicate, length-map, take-append-drop, length-take, length-drop}
 use Rattle.std.proofs.lemmas.List.{replicate-append-replicate}
 use Rattle.std.proofs.Math.Nat.{pow-suc, mul_assoc, add-zero}
-use Rattle.std.proofs.lemmas.Nat.{pow_pos, mod_below, shr_split}
+use Rattle.std.proofs.lemmas.Nat.{pow_pos, mod_below, mod-pow-add, shr_split}
 use Rattle.std.specs.Int.Bits.{xor_block, xor_comm, xor_assoc, xor_self, xor_zero_r, xor_shr, xor_mod, xor_shifted}
 use Rattle.bus_bits.proofs.OctetLemmas.{number-push, same_number, length-bits, number-bits, number-append}
 use Rattle.bus_bits.proofs.OctetLemmas.{length-bits_of_octets, bits_of_octets-push}
@@ -291,6 +291,16 @@ turns_shift (suc n) h =
     ap (λ (k : ℕ). h * k) (pow-suc 2 n) ∙ sym (mul_assoc h (2 ^ n) 2) ∙ sym (add-zero (h * 2 ^ n * 2)) in
     rw (doubled, turn_even (h * 2 ^ n)) (turns_shift n h)
 
+-- steps one after the other
+steps-sum : (m n s : ℕ) → crc_steps (m + n) s ≡ crc_steps n (crc_steps m s)
+unfolding crc_steps
+steps-sum zero n s = let same : zero + n ≡ n = omega arith in rw same refl
+steps-sum (suc m) n s = let next : suc m + n ≡ suc (m + n) = omega arith in rw next (steps-sum m n (crc_step_of s))
+
+-- zeros in front only take steps
+steps-past : (k m h : ℕ) → crc_steps (k + m) (h * 2 ^ k) ≡ crc_steps m h
+steps-past k m h = steps-sum k m (h * 2 ^ k) ∙ ap (crc_steps m) (turns_shift k h)
+
 -- the lowest bits apart, which alone take the steps
 split : (n s : ℕ) → bit_xor (s / 2 ^ n * 2 ^ n) (s % 2 ^ n) ≡ s
 split n s = xor_shifted (s / 2 ^ n) n (s % 2 ^ n) (mod_below s (2 ^ n) (pow_pos n)) ∙ shr_split s n
@@ -316,3 +326,49 @@ turns_more (suc n) s = let next : suc n + 1 ≡ suc (n + 1) = omega arith in rw 
 pub turns_none : (s : ℕ) → crc_steps 0 s ≡ s
 unfolding crc_steps
 turns_none s = refl
+
+-- ---- eight octets at once
+
+-- the highest octet of some, where those below it are known
+higher : (k m n z : ℕ) → crc_steps (k + m) (n % 2 ^ k) ≡ z
+    → crc_steps (k + m) (n % 2 ^ (8 + k)) ≡ bit_xor z (crc_steps m (n / 2 ^ k % 256))
+higher k m n z below =
+    let o : ℕ = n / 2 ^ k % 256 in
+    let apart : n % 2 ^ (8 + k) ≡ bit_xor (n % 2 ^ k) (o * 2 ^ k) =
+    mod-pow-add n 8 k ∙ sym (xor_shifted o k (n % 2 ^ k) (mod_below n (2 ^ k) (pow_pos k)))
+    ∙ xor_comm (o * 2 ^ k) (n % 2 ^ k) in
+    rw (apart, crc_steps-xor (k + m) (n % 2 ^ k) (o * 2 ^ k), below, steps-past k m o) refl
+
+-- each of eight octets takes its own steps and those of the octets that follow it
+pub eight-octets : (n : ℕ) → n < 2 ^ 64 → crc_steps 64 n
+    ≡ (let two = bit_xor (crc_steps 64 (n % 256)) (crc_steps 56 (n / 2 ^ 8 % 256)) in
+    let four = bit_xor (bit_xor two (crc_steps 48 (n / 2 ^ 16 % 256))) (crc_steps 40 (n / 2 ^ 24 % 256)) in
+    let six = bit_xor (bit_xor four (crc_steps 32 (n / 2 ^ 32 % 256))) (crc_steps 24 (n / 2 ^ 40 % 256)) in
+    bit_xor (bit_xor six (crc_steps 16 (n / 2 ^ 48 % 256))) (crc_steps 8 (n / 2 ^ 56)))
+eight-octets n small =
+    let four = higher 24 40 n _ (higher 16 48 n _ (higher 8 56 n _ refl)) in
+    let all = higher 56 8 n _ (higher 48 16 n _ (higher 40 24 n _ (higher 32 32 n _ four))) in
+    let whole : n % 2 ^ 64 ≡ n = omega (arith, small) in
+    let high : n / 2 ^ 56 % 256 ≡ n / 2 ^ 56 = omega (arith, small) in
+    ap (crc_steps 64) (sym whole) ∙ (rw high at all)
+
+pub four-octets : (n : ℕ) → n < 2 ^ 32 → crc_steps 32 n
+    ≡ (let two = bit_xor (crc_steps 32 (n % 256)) (crc_steps 24 (n / 2 ^ 8 % 256)) in
+    bit_xor (bit_xor two (crc_steps 16 (n / 2 ^ 16 % 256))) (crc_steps 8 (n / 2 ^ 24)))
+four-octets n small =
+    let all = higher 24 8 n _ (higher 16 16 n _ (higher 8 24 n _ refl)) in
+    let whole : n % 2 ^ 32 ≡ n = omega (arith, small) in
+    let high : n / 2 ^ 24 % 256 ≡ n / 2 ^ 24 = omega (arith, small) in
+    ap (crc_steps 32) (sym whole) ∙ (rw high at all)
+
+-- one octet more, and a word of those that follow it
+pub octet-first : (n s o w : ℕ) → o < 256
+    → crc_steps (8 * suc n) (bit_xor s (w * 256 + o)) ≡ crc_steps (8 * n) (bit_xor (crc_steps 8 (bit_xor s o)) w)
+octet-first n s o w small =
+    let after : ℕ = crc_steps 8 (bit_xor s o) in
+    let whole : 8 * suc n ≡ 8 + 8 * n = omega arith in
+    let apart : bit_xor s (w * 256 + o) ≡ bit_xor (bit_xor s o) (w * 256) =
+    ap (bit_xor s) (sym (xor_shifted w 8 o small) ∙ xor_comm (w * 256) o) ∙ sym (xor_assoc s o (w * 256)) in
+    ap (λ (j : ℕ). crc_steps j (bit_xor s (w * 256 + o))) whole ∙ steps-sum 8 (8 * n) (bit_xor s (w * 256 + o))
+    ∙ ap (λ (j : ℕ). crc_steps (8 * n) (crc_steps 8 j)) apart
+    ∙ ap (crc_steps (8 * n)) (crc_steps-xor 8 (bit_xor s o) (w * 256) ∙ ap (bit_xor after) (turns_shift 8 w))

@@ -1,14 +1,14 @@
-//! The frame check by a table.
+//! The frame check by tables.
 
 ghost use Rattle.std.specs.Prelude.{◌≡◌, ◌+◌, ◌-◌, ◌*◌, ◌%◌, ◌^◌, ◌≤◌, ℕ, List, [], ◌∷◌, ◌++◌, bit_xor};
 ghost use Rattle.bus_fcs.specs.Folded.{by_tables};
 ghost use Rattle.bus_fcs.specs.Internal.Register.{IsStateAfter, crc_steps};
 
 use crate::check::Check;
-use crate::register::{INITIAL, crc_octet, is_residue, trailer_of};
+use crate::register::{INITIAL, crc_eight, crc_four, crc_octet, is_residue, trailer_of};
 use bus_bits::Spent;
 
-/// Works by a table of 256 values: one unit of work an octet.
+/// Works by tables of 256 values: one unit of work an octet.
 #[derive(Drop)]
 pub struct OctetCheck {
     state: u16,
@@ -36,7 +36,7 @@ fn state_after(state: u16, octet: u8) -> u16
     ensures { (octets : List ℕ) → IsStateAfter state octets → IsStateAfter result (octets ++ octet ∷ []) }
 {
     let place = (state ^ octet as u16) & 0xff;
-    (state >> 8) ^ crc_octet(place as u8)
+    (state >> 8) ^ crc_octet(u64::from(place), 0)
 }
 
 impl Check for OctetCheck {
@@ -56,6 +56,18 @@ impl Check for OctetCheck {
     fn fold(&mut self, octet: u8, spent: &mut Spent) {
         self.state = state_after(self.state, octet);
         spent.tick_folded();
+    }
+
+    #[inline(always)]
+    fn fold_eight(&mut self, octets: &[u8; 8], spent: &mut Spent) {
+        self.state = crc_eight(u64::from_le_bytes(*octets) ^ u64::from(self.state));
+        spent.folded += 8;
+    }
+
+    #[inline(always)]
+    fn fold_four(&mut self, octets: &[u8; 4], spent: &mut Spent) {
+        self.state = crc_four(u32::from_le_bytes(*octets) ^ u32::from(self.state));
+        spent.folded += 4;
     }
 
     fn is_good(&self) -> bool {

@@ -5,7 +5,7 @@ ghost use Rattle.bus_bits.specs.Octet.{bits_of_octets};
 ghost use Rattle.bus_fcs.specs.FrameCheck.{Good, fcs};
 ghost use Rattle.bus_fcs.specs.Internal.Register.{crc_step_of, crc_steps, IsStateAfter};
 
-use crate::table::TABLE;
+use crate::table::TABLES;
 
 /// The register before the first octet.
 pub(crate) const INITIAL: u16 = 0xffff;
@@ -28,13 +28,42 @@ pub(crate) fn crc_step(state: u16) -> u16
     }
 }
 
-/// What eight steps make of an octet.
+/// What the steps for an octet, and for some octets that follow it, make of it.
 #[inline(always)]
 #[tactic(auto, using(crate::proofs::TableLemmas::table_at))]
-pub(crate) fn crc_octet(octet: u8) -> u16
-    ensures { result ≡ crc_steps 8 octet }
+pub(crate) fn crc_octet(octet: u64, following: usize) -> u16
+    requires octet { octet < 256 }
+    requires few { following ≤ 7 }
+    ensures { result ≡ crc_steps (8 * following + 8) octet }
 {
-    TABLE[octet as usize]
+    TABLES[256 * following + octet as usize]
+}
+
+/// What 64 steps make of eight octets, the first the lowest, each looked up in the table of its place: no look-up
+/// waits for another.
+#[inline(always)]
+pub(crate) fn crc_eight(octets: u64) -> u16
+    ensures { result ≡ crc_steps 64 octets }
+{
+    crc_octet(octets & 255, 7)
+        ^ crc_octet(octets >> 8 & 255, 6)
+        ^ crc_octet(octets >> 16 & 255, 5)
+        ^ crc_octet(octets >> 24 & 255, 4)
+        ^ crc_octet(octets >> 32 & 255, 3)
+        ^ crc_octet(octets >> 40 & 255, 2)
+        ^ crc_octet(octets >> 48 & 255, 1)
+        ^ crc_octet(octets >> 56, 0)
+}
+
+/// What 32 steps make of four octets.
+#[inline(always)]
+pub(crate) fn crc_four(octets: u32) -> u16
+    ensures { result ≡ crc_steps 32 octets }
+{
+    crc_octet(u64::from(octets & 255), 3)
+        ^ crc_octet(u64::from(octets >> 8 & 255), 2)
+        ^ crc_octet(u64::from(octets >> 16 & 255), 1)
+        ^ crc_octet(u64::from(octets >> 24), 0)
 }
 
 /// Whether the octets that left this state are good.

@@ -17,10 +17,10 @@ use Rattle.bus_line.specs.Due.{current, placed}
 use Rattle.bus_line.specs.After.{AdvancesWith, After, DecideNothing, Decides, due_of}
 use Rattle.bus_line.specs.LineState.{LineState}
 use Rattle.bus_line.specs.Internal.AdvancesTo.{ConsumesBits, DecidesLast, AdvancesTo, AdvancesToStop}
-use Rattle.bus_line.specs.Internal.Settled.{HasNoStop}
+use Rattle.bus_line.specs.Internal.Settled.{HasNoStop, IsStop, IsWord}
 use Rattle.bus_line.specs.Internal.Tracks.{HasTaken, Tracks}
 use Rattle.bus_line.proofs.DueMoreLemmas.{placed-more}
-use Rattle.bus_line.proofs.AdvanceLemmas.{no_stop-after, no_stop-before, no_stop-placed, tracks-last}
+use Rattle.bus_line.proofs.AdvanceLemmas.{no_stop-after, no_stop-before, no_stop-placed, tracks-last, word-joined}
 use Rattle.bus_line.proofs.TimeFillLemmas.{last-bits-small, no-stop, word-behind, word-is, word_of}
 use Rattle.bus_line.proofs.DecidesLemmas.{decide-more, decides-on, joins, last-bit}
 
@@ -116,6 +116,30 @@ strode {C} {view} {old} x n is_stop some few before none consumed =
     subst (λ (k : ℕ). HasNoStop b (bits_of n x) (k - 1)) (sym long)
     (no_stop-turn old x (n - 1) n b stands.has_taken (λ i earlier. before i (omega (arith, earlier)))
     (omega (arith, few)) (omega arith)))
+
+-- a word's bits up to the first after six ones or fourteen, or all without a stop
+pub worded : {C : Type 0} {view : CheckView C} {old new : LineState C} (x m n : ℕ) (is_stop : Bool) → 1 ≤ n → n ≤ m →
+    m ≤ 48 → x < 2 ^ m →
+    ((i : ℕ) → i + 1 < n → IsStop (bit_or old.last_bits (x * 65536 % 18446744073709551616)) i → ⊥) →
+    (is_stop ≡ false → (n ≡ m) × ((i : ℕ) → i < m →
+    IsStop (bit_or old.last_bits (x * 65536 % 18446744073709551616)) i → ⊥)) →
+    ConsumesBits view old (bits_of n x) new → AdvancesToStop view old (bits_of n x) is_stop new
+worded {C} {view} {old} x m n is_stop some within few small before none consumed =
+    let long = length-bits n x in
+    let all = length-bits m x in
+    let word : (b : List Bool) → After view old b → IsWord _ b (bits_of m x) = λ b stands.
+    word-joined old m x b stands.has_taken few small in
+    ran-to consumed is_stop (omega (arith, long, some))
+    (λ going b stands.
+    let quiet = none going in
+    subst (HasNoStop b (bits_of n x)) (sym long)
+    (no_stop-front b x m n n (no_stop-before _ n b (bits_of m x) (word b stands) (omega (arith, all, within))
+    (λ i earlier. quiet.1 i (omega (arith, earlier, quiet.0)))) within (omega arith)))
+    (λ b stands.
+    subst (λ (k : ℕ). HasNoStop b (bits_of n x) (k - 1)) (sym long)
+    (no_stop-front b x m n (n - 1) (no_stop-before _ (n - 1) b (bits_of m x) (word b stands)
+    (omega (arith, all, within)) (λ i earlier. before i (omega (arith, earlier)))) (omega (arith, within))
+    (omega arith)))
 
 -- ---- what the last of them decides
 

@@ -17,6 +17,7 @@ use Rattle.bus_line.specs.Report.{Frame, Damaged, Overlong, class_of_data}
 use Rattle.bus_line.specs.declared.cause.Cause.TheVariants.{Unstuffed, Short, Unaligned, Fcs}
 use Rattle.bus_line.specs.Due.{FlagAt, current, class_of, class_of_read}
 use Rattle.bus_line.specs.LineState.{LineState}
+use Rattle.bus_line.specs.Internal.Settled.{HoldsOctets}
 use Rattle.bus_line.specs.Internal.Tracks.{settled_data, Holds, HoldsFor, Tracks}
 use Rattle.bus_line.proofs.RunLemmas.{IsLow, low-unspelled, ones_after-more}
 use Rattle.bus_line.proofs.MarkLemmas.{stands-bit, last_mark-flag}
@@ -117,24 +118,25 @@ data-unaligned longest d most least odd =
     rw (fits, long, is) refl
 
 -- all octets of the data are held
-pub all-held : {C : Type 0} (folded : C → List ℕ → Type 0) (d : LineState C) (bits : List Bool) → Holds folded d bits →
-    32 ≤ length bits → length bits ≤ 8 * (d.longest + 2)
+all-held : {C : Type 0} (folded : C → List ℕ → Type 0) (d : LineState C) (bits : List Bool) →
+    HoldsOctets folded (d.longest + 2) d (octets bits) → 32 ≤ length bits → length bits ≤ 8 * (d.longest + 2)
     → (d.octets ≡ octets bits) × folded d.check (octets bits) × (4 ≤ length (octets bits))
 all-held folded d bits holds least most =
     let size : length (octets bits) ≡ length bits / 8 = length-octets (length bits / 8) bits refl in
     let whole : take (d.longest + 2) (octets bits) ≡ octets bits =
     take_all (d.longest + 2) (octets bits) (omega (arith, size)) in (
-      holds.held (omega arith) ∙ whole,
-      subst (λ (os : List ℕ). folded d.check os) whole (holds.checked (omega arith)),
+      holds.held ∙ whole,
+      subst (λ (os : List ℕ). folded d.check os) whole holds.checked,
       omega (arith, size),
     )
 
 -- data that were checked
-pub class-checked : {C : Type 0} {folded : C → List ℕ → Type 0} {d : LineState C} {bits : List Bool} (good : Bool) →
-    Holds folded d bits → 32 ≤ length bits → length bits ≤ 8 * (d.longest + 2) → length bits % 8 ≡ 0
+pub class-checked : {C : Type 0} {folded : C → List ℕ → Type 0} {d : LineState C} (bits : List Bool) (good : Bool) →
+    HoldsOctets folded (d.longest + 2) d (octets bits) → 32 ≤ length bits → length bits ≤ 8 * (d.longest + 2) →
+    length bits % 8 ≡ 0
     → ((os : List ℕ) → folded d.check os → 4 ≤ length os → (IsTrue good ↔ Good (bits_of_octets os))) →
     class_of_data d.longest bits ≡ (if good then Frame d.octets else Damaged Fcs)
-class-checked {C} {folded} {d} {bits} good holds least most whole test =
+class-checked {C} {folded} {d} bits good holds least most whole test =
     let held = all-held folded d bits holds least most in
     let same : good ≡ is_good (bits_of_octets (octets bits)) =
     same_test good (bits_of_octets (octets bits)) (test (octets bits) held.1 held.2) in

@@ -180,7 +180,7 @@ flag-after view d b place shifted ends stands at =
       has_taken = record { place = at ∙ omega (arith, here, size); last_bits = sym (flag-last-bits b ends) };
       first = ap Some (at ∙ omega (arith, here));
       piece = rw none (holds-none empty.count (empty.partial ∙ none_number));
-      counts = moved-counts refl refl (flag-counts view.cost d b ends stands.counts 8 (omega arith));
+      counts = moved-counts refl refl refl (flag-counts view.cost d b ends stands.counts 8 (omega arith));
     })
 
 -- many of them

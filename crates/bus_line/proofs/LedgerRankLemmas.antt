@@ -3,7 +3,7 @@ use Rattle.std.proofs.Common.{◌≡◌, ℕ, zero, suc, ◌+◌, ◌-◌, ◌*�
 use Rattle.std.proofs.Common.{if◌then◌else◌, List, [], ◌∷◌, ◌++◌, length, get_or, refl, sym, ap, ◌∙◌, ◌⊎◌}
 use Rattle.std.proofs.Common.{inl, inr, arith, nat_le, nat_lt, ◌/◌, min, Some, None}
 use Rattle.std.specs.List.{slice_range, count_by}
-use Rattle.std.proofs.lemmas.List.{length_push, length-take}
+use Rattle.std.proofs.lemmas.List.{length_push}
 use Rattle.std.proofs.lemmas.Bool.{cases_lt, cases_Bool, leb-true, le-leb, lt-leb, lt-ltb, and_left, and_right}
 use Rattle.std.proofs.lemmas.Bool.{and_from, and_parts, eqb-true}
 use Rattle.std.proofs.Math.Bool.{and_assoc}
@@ -20,12 +20,10 @@ use Rattle.bus_line.proofs.SpellingRawLemmas.{inserted-raw}
 use Rattle.bus_line.proofs.DueMoreLemmas.{range-step, range-none}
 use Rattle.std.specs.Prelude.{nat_le, nat_lt, if◌then◌else◌}
 use Rattle.std.proofs.lemmas.Bool.Decides.{nat_tests}
-use Rattle.bus_bits.specs.Octet.{octets}
 use Rattle.bus_fcs.specs.Check.{CheckView}
-use Rattle.bus_line.specs.LineState.{LineState}
+use Rattle.bus_line.specs.LineState.{LineState, stored_of}
 use Rattle.bus_line.specs.Internal.Tracks.{settled_data, HoldsFor}
 use Rattle.bus_line.specs.After.{After}
-use Rattle.bus_line.proofs.WholeLemmas.{length-octets}
 
 -- a flag that is the last mark is so before each place after it
 pub flag-stays : (b : List Bool) (p m n : ℕ) → last_mark b n ≡ FlagAt p → p < m → m ≤ n → last_mark b m ≡ FlagAt p
@@ -233,27 +231,14 @@ stored-behind-flag longest b p e = ap (λ m. stored_behind longest b (begun_by m
     open_if true h = refl
     open_if false h = sym (none-behind longest b p (grind (arith, nat_tests)))
 
--- before the first octet none is stored
-pub none-stored : {C : Type 0} (view : CheckView C) (d : LineState C) (b : List Bool) →
-    After view d b → d.data_bits < 8 → 0 ≡ stored_open d.longest b
-none-stored view d b h l = by_mark (current b) refl h.piece
-  where
-    by_mark : (m : Mark) → current b ≡ m → HoldsFor view.folded d b m → 0 ≡ stored_open d.longest b
-    by_mark NoMark e k = sym (ap (λ m. stored_behind d.longest b (begun_by m (length b))) e)
-    by_mark (AbortAt a) e k = sym (ap (λ m. stored_behind d.longest b (begun_by m (length b))) e)
-    by_mark (FlagAt p) e k = omega (arith, stored-behind-flag d.longest b p e, k.count, l)
-
--- from then on those that are held
-pub held-stored : {C : Type 0} (view : CheckView C) (d : LineState C) (b : List Bool) (first : ℕ) →
-    After view d b → d.first ≡ Some first → 8 ≤ d.data_bits → length d.octets ≡ stored_open d.longest b
-held-stored view d b first h f l = by_mark (current b) refl h.piece (sym h.first ∙ f)
+-- by the count of its data bits
+pub open-stored : {C : Type 0} (view : CheckView C) (d : LineState C) (b : List Bool) (first : ℕ) →
+    After view d b → d.first ≡ Some first → stored_of d.longest d.data_bits ≡ stored_open d.longest b
+unfolding stored_of
+open-stored view d b first h f = by_mark (current b) refl h.piece (sym h.first ∙ f)
   where
     by_mark : (m : Mark) → current b ≡ m → HoldsFor view.folded d b m → first_of d.origin m ≡ Some first →
-        length d.octets ≡ stored_open d.longest b
+        stored_of d.longest d.data_bits ≡ stored_open d.longest b
     by_mark NoMark e k g = absurd (cc)
     by_mark (AbortAt a) e k g = absurd (cc)
-    by_mark (FlagAt p) e k g =
-        let bits = settled_data b p in
-        let n : length (octets bits) ≡ length bits / 8 = length-octets (length bits / 8) bits refl in
-        let kept = ap length (k.held (omega (arith, k.count, l))) ∙ length-take (d.longest + 2) (octets bits) in
-        omega (arith, stored-behind-flag d.longest b p e, n, kept)
+    by_mark (FlagAt p) e k g = omega (arith, stored-behind-flag d.longest b p e, k.count)

@@ -3,14 +3,13 @@ use Rattle.std.proofs.Common.{◌≡◌, ℕ, zero, suc, ◌+◌, ◌-◌, ◌*�
 use Rattle.std.proofs.Common.{cond, List, [], ◌∷◌, ◌++◌, length, take, get_or, Option, Some, None, refl, sym, ap, ◌∙◌}
 use Rattle.std.proofs.Common.{subst, arith, if◌then◌else◌, inl, inr, length-append, min}
 use Rattle.std.specs.Prelude.{nat_le}
-use Rattle.std.proofs.Math.Nat.{mul-add, mul-zero, add-zero}
+use Rattle.std.proofs.Math.Nat.{mul-add, mul-zero}
 use Rattle.std.proofs.lemmas.Nat.{shr-shr}
 use Rattle.std.proofs.Math.Seq.{take-suc}
 use Rattle.std.proofs.lemmas.List.{length_push, append_assoc, append-nil}
 use Rattle.std.proofs.lemmas.Bool.{cases_Bool, cases_lt, false_from_ne_true, eqb-true}
 use Rattle.std.proofs.lemmas.Bool.Decides.{nat_tests}
 use Rattle.bus_bits.specs.Octet.{bits_of}
-use Rattle.bus_bits.specs.declared.spent.Spent.{Spent}
 use Rattle.bus_fcs.specs.Check.{CheckView}
 use Rattle.bus_line.specs.Due.{FlagAt, current, first_of}
 use Rattle.bus_line.specs.Ledger.{is_settled, is_inserted, assembled, stored}
@@ -198,12 +197,11 @@ tracks-settled {C} {view} {p} {d} {e} {b} {bits} {gained} lags mark settles appe
     let longest = ap (λ (x : LineState C). x.longest) kept in
     let origin = ap (λ (x : LineState C). x.origin) kept in
     let held = subst (HoldsFor view.folded d b) mark lags.piece in
-    let spent = appends.spent (settled_data b p) held in
-    let n = octets_more d.longest (length (settled_data b p)) (length gained) in
+    let n = octets_more d.longest d.data_bits (length gained) in
     let more : length (settled_data (b ++ bits) p) ≡ length (settled_data b p) + length gained =
     ap length settles.more ∙ length-append (settled_data b p) gained in
     let full : stored d.longest (b ++ bits) ≡ stored d.longest b
-    + octets_more d.longest (length (settled_data b p)) (length gained) = omega (arith, settles.filled, more) in
+    + octets_more d.longest d.data_bits (length gained) = omega (arith, settles.filled, more, held.count) in
     record {
       has_taken = stands-same d e (b ++ bits) (ap (λ (x : LineState C). x.place) kept) origin
           (ap (λ (x : LineState C). x.last_bits) kept) lags.has_taken;
@@ -211,33 +209,26 @@ tracks-settled {C} {view} {p} {d} {e} {b} {bits} {gained} lags mark settles appe
       piece = subst (HoldsFor view.folded e (b ++ bits)) (sym mark)
           (rw settles.more (appends.holds (settled_data b p) held));
       counts = rw longest (record {
-        settled = ap (λ (x : Spent). x.assembled) spent ∙ omega (arith, lags.counts.settled, settles.settled);
-        filled = ap (λ (x : Spent). x.stored) spent ∙ (ap (λ (m : ℕ). m + n) lags.counts.filled ∙ sym full);
-        paid = ap (λ (x : Spent). x.folded) spent
+        settled = appends.settled ∙ omega (arith, lags.counts.settled, settles.settled);
+        filled = appends.filled ∙ (ap (λ (m : ℕ). m + n) lags.counts.filled ∙ sym full);
+        paid = appends.paid (settled_data b p) held
             ∙ (ap (λ (m : ℕ). m + view.cost * n) lags.counts.paid
             ∙ (sym (mul-add view.cost (stored d.longest b) n) ∙ ap (λ (m : ℕ). view.cost * m) (sym full)));
-        copied = ap (λ (x : Spent). x.copied) spent ∙ lags.counts.copied;
-        handled = ap (λ (x : Spent). x.handled) spent ∙ lags.counts.handled;
+        copied = ap (λ (x : LineState C). x.spent.copied) kept ∙ lags.counts.copied;
+        handled = ap (λ (x : LineState C). x.spent.handled) kept ∙ lags.counts.handled;
       });
     }
-
--- no data leave the counters
-spent-none : (s : Spent) (cost longest n : ℕ) →
-    s ≡ record s {
-      assembled = s.assembled + 0;
-      stored = s.stored + octets_more longest n 0;
-      folded = s.folded + cost * octets_more longest n 0;
-    }
-spent-none s cost longest n =
-    let none : octets_more longest n 0 ≡ 0 = omega arith in
-    rw (none, mul-zero cost, add-zero s.assembled, add-zero s.stored, add-zero s.folded) refl
 
 -- no data
 pub appends-none : {C : Type 0} {view : CheckView C} (d : LineState C) → AppendsBits view d [] d
 appends-none {C} {view} d = record {
   none = λ early. refl;
   holds = λ bits held. rw (append-nil bits) held;
-  spent = λ bits held. spent-none d.spent view.cost d.longest (length bits);
+  settled = omega arith;
+  filled = omega arith;
+  paid = λ bits held.
+      let none : octets_more d.longest d.data_bits 0 ≡ 0 = omega arith in
+      rw none (omega (arith, mul-zero view.cost));
   kept = refl;
 }
 
@@ -265,7 +256,7 @@ shifted-word {C} {view} d b bits w t place last_bits shifted stands word within 
     first = stands.first;
     piece =
         moved-holds view.folded d b place last_bits (record d.spent { shifted = shifted }) (current b) stands.piece;
-    counts = moved-counts refl refl stands.counts;
+    counts = moved-counts refl refl refl stands.counts;
   };
 }
 

@@ -14,7 +14,9 @@ use Rattle.bus_fcs.specs.Check.{CheckView}
 use Rattle.bus_line.specs.Run.{ones_at_end, data_so_far, ones_after}
 use Rattle.bus_line.specs.Due.{Mark, NoMark, FlagAt, AbortAt, current, piece_report, first_of}
 use Rattle.bus_line.specs.Ledger.{is_settled, belongs, is_inserted, assembled, stored}
-use Rattle.bus_line.specs.LineState.{LineState}
+use Rattle.bus_line.specs.LineState.{LineState, stored_of, held_of, waiting}
+use Rattle.bus_line.specs.Words.{first_in, fresh_words, state}
+use Rattle.bus_line.specs.declared.decoder_words.DecoderWords.{DecoderWords}
 use Rattle.bus_line.specs.Internal.AdvancesTo.{closed_piece}
 use Rattle.bus_line.specs.Internal.LineView.{settles_from}
 use Rattle.bus_line.specs.Internal.Tracks.{settled_data, padded, Holds, HoldsFor, Counts, HasTaken, Tracks}
@@ -147,11 +149,12 @@ moved-holds folded d b place last_bits spent (FlagAt p) held =
 
 -- what no counter but `shifted` changed
 pub moved-counts : {C : Type 0} {cost : ℕ} {d e : LineState C} {b : List Bool} → e.longest ≡ d.longest →
-    e.spent ≡ record d.spent { shifted = e.spent.shifted } → Counts cost d b → Counts cost e b
-moved-counts {C} {cost} {d} {e} {b} longest spent c = record {
+    e.data_bits ≡ d.data_bits → e.spent ≡ record d.spent { shifted = e.spent.shifted } → Counts cost d b →
+    Counts cost e b
+moved-counts {C} {cost} {d} {e} {b} longest same spent c = record {
   settled = ap (λ (s : Spent). s.assembled) spent ∙ c.settled;
   filled = ap (λ (s : Spent). s.stored) spent ∙ rw longest c.filled;
-  paid = ap (λ (s : Spent). s.folded) spent ∙ rw longest c.paid;
+  paid = rw (longest, same, ap (λ (s : Spent). s.folded) spent) c.paid;
   copied = ap (λ (s : Spent). s.copied) spent ∙ c.copied;
   handled = ap (λ (s : Spent). s.handled) spent ∙ c.handled;
 }
@@ -161,22 +164,24 @@ unfolding number
 none_last_bits = refl
 
 -- before the first bit
-pub fresh-tracks : {C : Type 0} (view : CheckView C) (shifted : ℕ) (d : LineState C) →
-    d.place ≡ d.origin → d.last_bits ≡ 0 → d.first ≡ None →
-    d.spent ≡ record { shifted = shifted; assembled = 0; folded = 0; stored = 0; copied = 0; handled = 0 } →
-    Tracks view d [] NoMark
-fresh-tracks view shifted d place last first spent = record {
-  has_taken = record { place = omega (arith, place); last_bits = last ∙ sym none_last_bits };
-  first = first;
-  piece = tt;
-  counts = record {
-    settled = ap (λ (t : Spent). t.assembled) spent;
-    filled = ap (λ (t : Spent). t.stored) spent;
-    paid = ap (λ (t : Spent). t.folded) spent ∙ sym (mul-zero view.cost);
-    copied = ap (λ (t : Spent). t.copied) spent;
-    handled = ap (λ (t : Spent). t.handled) spent;
-  };
-}
+pub fresh-tracks : {C : Type 0} (view : CheckView C) (longest origin : ℕ) (check : C) (octets : List ℕ) →
+    Tracks view (state (fresh_words longest origin) check octets) [] NoMark
+unfolding stored_of held_of waiting
+fresh-tracks view longest origin check octets =
+    let none : stored_of longest 0 ≡ 0 = omega arith in
+    let nothing : waiting longest 0 ≡ 0 = omega arith in
+    record {
+      has_taken = record { place = omega arith; last_bits = sym none_last_bits };
+      first = refl;
+      piece = tt;
+      counts = record {
+        settled = refl;
+        filled = rw none refl;
+        paid = rw nothing (omega (arith, mul-zero view.cost));
+        copied = refl;
+        handled = refl;
+      };
+    }
 
 pub stands-same : {C : Type 0} (d e : LineState C) (b : List Bool) → e.place ≡ d.place → e.origin ≡ d.origin →
     e.last_bits ≡ d.last_bits → HasTaken d b → HasTaken e b
@@ -220,18 +225,35 @@ holds-none count partial = record {
   checked = λ full. absurd (omega (arith, full));
 }
 
--- a flag has come: nothing of its piece is there yet
-pub tracks-flag : {C : Type 0} {view : CheckView C} {d : LineState C} {c : List Bool} {mark : Mark} {p : ℕ}
-    → Tracks view d c mark → p + 8 ≡ length c
-    → Tracks view (record d { first = Some d.place; data_bits = 0; partial = 0 }) c (FlagAt p)
-tracks-flag {C} {view} {d} {c} {mark} {p} tracks end =
-    let none : settled_data c p ≡ [] = data-start c p (omega (arith, end)) in
-    record {
+-- a flag has come: nothing of its piece is there yet, and the piece before it is counted
+pub tracks-flag : {C : Type 0} {view : CheckView C} (w v : DecoderWords) (check e : C) (octets os : List ℕ)
+    {c : List Bool} {mark : Mark} {p : ℕ} → Tracks view (state w check octets) c mark → p + 8 ≡ length c
+    → v ≡ record w {
+      settles_at = v.settles_at;
+      folded = w.folded + view.cost * waiting w.longest w.data_bits;
+      stored = w.stored + stored_of w.longest w.data_bits;
+      assembled = w.assembled + w.data_bits;
+      data_bits = 0;
+      partial = 0;
+    } → first_in v.settles_at ≡ Some w.place → Tracks view (state v e os) c (FlagAt p)
+unfolding stored_of held_of waiting
+tracks-flag {C} {view} w v check e octets os {c} {mark} {p} tracks end is begins =
+    let empty : settled_data c p ≡ [] = data-start c p (omega (arith, end)) in
+    let none : stored_of w.longest 0 ≡ 0 = omega arith in
+    let nothing : waiting w.longest 0 ≡ 0 = omega arith in
+    let counts = tracks.counts in
+    rw is (record {
       has_taken = record { place = tracks.has_taken.place; last_bits = tracks.has_taken.last_bits };
-      first = ap Some (tracks.has_taken.place ∙ ap (λ n. d.origin + n) (sym end));
-      piece = rw none (holds-none refl refl);
-      counts = moved-counts refl refl tracks.counts;
-    }
+      first = begins ∙ ap Some (tracks.has_taken.place ∙ ap (λ n. w.origin + n) (sym end));
+      piece = rw empty (holds-none refl refl);
+      counts = record {
+        settled = omega (arith, counts.settled);
+        filled = rw none (omega (arith, counts.filled));
+        paid = rw nothing (omega (arith, mul-zero view.cost, counts.paid));
+        copied = refl;
+        handled = refl;
+      };
+    })
 
 -- an abort has come: no piece is open
 pub tracks-abort : {C : Type 0} {view : CheckView C} {d : LineState C} {c : List Bool} {mark : Mark} (a : ℕ)
@@ -240,7 +262,7 @@ tracks-abort a tracks = record {
   has_taken = record { place = tracks.has_taken.place; last_bits = tracks.has_taken.last_bits };
   first = refl;
   piece = tt;
-  counts = moved-counts refl refl tracks.counts;
+  counts = moved-counts refl refl refl tracks.counts;
 }
 
 -- no run is longer than the list

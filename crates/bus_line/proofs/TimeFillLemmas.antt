@@ -6,7 +6,7 @@ use Rattle.std.specs.Int.{bit_at, trailing_zeros, w64}
 use Rattle.std.specs.Int.Bits.{or_shifted_r}
 use Rattle.std.proofs.lemmas.Nat.{and_le_r, shr-shr, field_of}
 use Rattle.std.proofs.Math.Pow.{mod-mod-pow}
-use Rattle.std.proofs.lemmas.List.{append-nil, append_assoc, replicate-append-replicate}
+use Rattle.std.proofs.lemmas.List.{append-nil, append_assoc, replicate-append-replicate, take-replicate}
 use Rattle.bus_bits.specs.Bits.{bits_from}
 use Rattle.bus_bits.proofs.BitLemmas.{bits-more, bits-taken}
 use Rattle.std.proofs.lemmas.Nat.Bits.{bit_at_and, bit_at-zero, bit_at_mask_inside, bit_at_mask_above}
@@ -167,15 +167,29 @@ unfolding bits_of
 ones-shown x ones = let low : x % 2 ^ 56 ≡ 72057594037927935 =
     omega (arith, ones) in sym (bits-low 56 x) ∙ ap (bits_of 56) low
 
-pub ones-more : (os : List ℕ) (from at x : ℕ) → from ≤ at → bits_from os from (at - from) ≡ replicate (at - from) true →
-    bits_of 56 x ≡ bits_from os at 56 → x * 256 % 18446744073709551616 ≡ 18446744073709551360
-    → bits_from os from (at + 56 - from) ≡ replicate (at + 56 - from) true
-ones-more os from at x begun before next ones =
-    let size : (at - from) + 56 ≡ at + 56 - from = omega (arith, begun) in
-    from-more os from at 56 begun
-    ∙ (ap (λ (z : List Bool). z ++ bits_from os at 56) before
-    ∙ (ap (λ (z : List Bool). replicate (at - from) true ++ z) (sym next ∙ ones-shown x ones)
-    ∙ (replicate-append-replicate (at - from) 56 true ∙ ap (λ (j : ℕ). replicate j true) size)))
+-- the first of 56
+pub ones-front : (os : List ℕ) (from x n : ℕ) → bits_of 56 x ≡ bits_from os from 56 →
+    x * 256 % 18446744073709551616 ≡ 18446744073709551360 → n ≤ 56 → bits_from os from n ≡ replicate n true
+ones-front os from x n same ones few =
+    sym (turn-bits os from x n same few)
+    ∙ (sym (bits-front n 56 x few) ∙ (ap (take n) (ones-shown x ones) ∙ take-replicate n 56 true few))
+
+all-ones : bits_of 64 18446744073709551615 ≡ replicate 64 true
+unfolding bits_of
+all-ones = refl
+
+-- and eight octets of them more
+pub ones-octets : (os : List ℕ) (from at x : ℕ) → from ≤ at → at ≡ 8 * (at / 8) →
+    bits_from os from (at - from) ≡ replicate (at - from) true → bits_of 64 x ≡ bits_from os (8 * (at / 8)) 64 →
+    x ≡ 18446744073709551615 → bits_from os from (at + 64 - from) ≡ replicate (at + 64 - from) true
+ones-octets os from at x begun whole before next ones =
+    let size : (at - from) + 64 ≡ at + 64 - from = omega (arith, begun) in
+    let here : bits_from os at 64 ≡ replicate 64 true =
+    ap (λ (j : ℕ). bits_from os j 64) whole ∙ (sym next ∙ (ap (bits_of 64) ones ∙ all-ones)) in
+    from-more os from at 64 begun
+    ∙ (ap (λ (z : List Bool). z ++ bits_from os at 64) before
+    ∙ (ap (λ (z : List Bool). replicate (at - from) true ++ z) here
+    ∙ (replicate-append-replicate (at - from) 64 true ∙ ap (λ (j : ℕ). replicate j true) size)))
 
 -- flags
 pub flags-shown : (x : ℕ) → x * 256 % 18446744073709551616 ≡ 9114861777597660672 → bits_of 56 x ≡ flags 7

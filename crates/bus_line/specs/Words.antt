@@ -1,7 +1,7 @@
 -- A decoder's words, and the decoder that they make with a check and octets beside them.
-use Rattle.std.specs.Prelude.{◌≢◌, ◌==◌, ℕ, ◌+◌, ◌-◌, ◌*◌, ◌≤◌, ◌<◌, ◌^◌, List, length, Option, Some, None}
+use Rattle.std.specs.Prelude.{◌≢◌, ◌==◌, ℕ, ◌+◌, ◌-◌, ◌*◌, ◌/◌, ◌≤◌, ◌<◌, ◌^◌, List, length, Option, Some, None}
 use Rattle.std.specs.Prelude.{if◌then◌else◌}
-pub use Rattle.bus_line.specs.LineState.{LineState}
+pub use Rattle.bus_line.specs.LineState.{LineState, stored_of}
 use Rattle.bus_bits.specs.Limits.{most_places}
 use Rattle.bus_line.specs.declared.decoder_words.DecoderWords.{DecoderWords}
 
@@ -23,9 +23,9 @@ state w check octets = record {
   check = check;
   spent = record {
     shifted = w.place - w.origin;
-    assembled = w.assembled;
+    assembled = w.assembled + w.data_bits;
     folded = w.folded;
-    stored = w.stored;
+    stored = w.stored + stored_of w.longest w.data_bits;
     copied = 0;
     handled = 0;
   };
@@ -54,10 +54,9 @@ pub record AreDecoderWords (w : DecoderWords) : Type 0 where
   pub begins : w.origin ≤ w.place
   pub settles_late : 8 ≤ w.settles_at
   pub settles : w.settles_at ≢ 2 ^ 62 → w.settles_at ≤ w.place + 8
-  pub data_bits_fit : w.data_bits ≤ w.assembled
-  pub settled : w.assembled ≤ w.place - w.origin
+  pub settled : w.assembled + w.data_bits ≤ w.place - w.origin
   pub filled : w.stored ≤ w.assembled
-  pub paid : w.folded ≤ 8 * w.stored
+  pub paid : w.folded ≤ 8 * w.assembled + 64 * (w.data_bits / 64)
 
 -- and there is room for these octets of a piece
 pub record IsDecoder (w : DecoderWords) (octets : List ℕ) : Type 0 where

@@ -44,7 +44,7 @@ pub struct LineDecoder<C: Check> {
     words: DecoderWords,
     /// The check of the octets.
     check: C,
-    /// The octets of the piece, or of the frame before it until the first octet is full.
+    /// The octets of whole words of the piece, or of the frame before it until the first word is full.
     frame: ArrayVec<u8, 258>,
 }
 
@@ -62,7 +62,7 @@ impl<C: Check> Model for LineDecoder<C> {
 
 impl<C: Check> LineDecoder<C> {
     ghost use Rattle.bus_line.specs.contracts.decoder.LineDecoder.{the_row};
-    ghost use Rattle.bus_line.specs.LineState.{LineState};
+    ghost use Rattle.bus_line.specs.LineState.{LineState, waiting};
     ghost use Rattle.bus_line.specs.After.{AddsReport, AdvancesWith, After, Pushed, ShowsHeld, FitsFrame, due_of};
     ghost use Rattle.bus_line.specs.Shown.{report_option, reported};
 
@@ -174,8 +174,9 @@ impl<C: Check> LineDecoder<C> {
         self.frame.as_slice()
     }
 
-    /// How many octets of the open piece are in the frame buffer: at most the longest frame and two,
-    /// and 0 where no piece is open.
+    /// How many octets of the open piece are stored, or wait to be: at most the longest frame and two, and 0 where
+    /// no piece is open.
+    #[tactic(auto, unfolding(crate::specs::LineState::stored_of))]
     pub fn buffered(&self) -> usize
         ensures bound { result ≤ self.now.longest + 2 }
         ensures stored { (b : List Bool) → After C.check self.now b →
@@ -184,10 +185,7 @@ impl<C: Check> LineDecoder<C> {
         if self.words.settles_at == NEVER {
             return 0;
         }
-        if self.words.data_bits < 8 {
-            return 0;
-        }
-        self.frame.len()
+        self.words.stored_of_piece() as usize
     }
 
     /// The place of the next bit: the origin and the bits so far.
@@ -200,16 +198,19 @@ impl<C: Check> LineDecoder<C> {
     }
 
     /// The steps so far.
+    #[tactic(auto, unfolding(crate::specs::LineState::stored_of, crate::specs::LineState::held_of, crate::specs::LineState::waiting))]
     pub fn spent(&self) -> Spent
-        ensures value { result ≡ self.now.spent }
+        ensures value { result ≡ record self.now.spent {
+          folded = self.now.spent.folded + C.check.cost * waiting self.now.longest self.now.data_bits;
+        } }
         ensures ledger { (b : List Bool) → After C.check self.now b →
             IsLedger C.check.cost self.now.longest b result }
     {
         Spent {
             shifted: self.words.place - self.words.origin,
-            assembled: self.words.assembled,
-            folded: self.words.folded,
-            stored: self.words.stored,
+            assembled: self.words.assembled + self.words.data_bits,
+            folded: self.words.folded + C::COST * self.words.waiting(),
+            stored: self.words.stored + self.words.stored_of_piece(),
             ..Spent::zero()
         }
     }

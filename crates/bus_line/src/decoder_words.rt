@@ -1,12 +1,15 @@
 //! What a decoder holds but for octets.
 
-ghost use Rattle.std.specs.Prelude.{◌≡◌, ◌+◌, ◌-◌, ◌≤◌, ◌<◌, ◌↔◌, ◌⊎◌, List, Bool, IfOk, IsTrue, length};
+ghost use Rattle.std.specs.Prelude.{◌≡◌, ◌+◌, ◌-◌, ◌*◌, ◌≤◌, ◌<◌, ◌↔◌, ◌⊎◌, List, Bool, IfOk, IsTrue, length};
 ghost use Rattle.std.specs.Option.{option_map};
 ghost use Rattle.bus_bits.specs.Limits.{most_places};
 ghost use Rattle.bus_line.specs.Due.{begun, current, first_of};
+ghost use Rattle.bus_line.specs.LineState.{stored_of, waiting};
 ghost use Rattle.bus_line.specs.Words.{first_in, fresh_words, AreDecoderWords};
 
 use crate::fault::LineFault;
+use bus_fcs::Check;
+use std::cmp::min;
 
 /// The first place that no bit can have.
 pub(crate) const PLACES: u64 = 1 << 60;
@@ -28,15 +31,15 @@ pub struct DecoderWords {
     /// From the first place after this one on, each bit settles one bit of the open piece: eight past its
     /// beginning, or a place that is never reached where no piece is open.
     pub settles_at: u64,
-    /// Units of work of the frame check.
+    /// Units of work of the frame check, without those of octets of the newest piece that fill no word of eight.
     pub folded: u64,
-    /// Octets stored.
+    /// Octets stored, of the pieces before the newest.
     pub stored: u64,
-    /// Data bits settled, of all pieces.
+    /// Data bits settled, of the pieces before the newest.
     pub assembled: u64,
-    /// How many of them are of the piece from `settles_at` on.
+    /// Data bits settled, of the newest piece.
     pub data_bits: u64,
-    /// Those of them that fill no octet yet, the first lowest.
+    /// Those of them that fill no word of 64 yet, the first lowest.
     pub partial: u64,
     /// The last sixteen bits, the oldest lowest, with 0s before the first.
     pub last_bits: u64,
@@ -84,10 +87,53 @@ impl DecoderWords {
             && self.place <= PLACES
             && self.origin <= self.place
             && (self.settles_at.wrapping_sub(8) <= self.place || self.settles_at == NEVER)
-            && self.data_bits <= self.assembled
-            && self.assembled <= self.place - self.origin
+            && self.data_bits <= self.place - self.origin
+            && self.assembled <= self.place - self.origin - self.data_bits
             && self.stored <= self.assembled
-            && self.folded <= 8 * self.stored
+            && self.folded <= 8 * self.assembled + self.data_bits / 64 * 64
+    }
+
+    /// The octets of the newest piece that are stored, or wait to be.
+    #[inline(always)]
+    #[tactic(auto, unfolding(crate::specs::LineState::stored_of))]
+    pub(crate) fn stored_of_piece(&self) -> u64
+        requires { AreDecoderWords self.now }
+        ensures { result ≡ stored_of self.now.longest self.now.data_bits }
+    {
+        min(self.data_bits / 8, self.longest + 2)
+    }
+
+    /// Those of them that wait.
+    #[inline(always)]
+    #[tactic(auto, unfolding(crate::specs::LineState::stored_of, crate::specs::LineState::held_of, crate::specs::LineState::waiting))]
+    pub(crate) fn waiting(&self) -> u64
+        requires { AreDecoderWords self.now }
+        ensures { result ≡ waiting self.now.longest self.now.data_bits }
+    {
+        self.stored_of_piece() - 8 * min(self.data_bits / 64, (self.longest + 2) / 8)
+    }
+
+    /// Counts the octets of the newest piece, which has ended, among those of earlier ones.
+    #[inline(always)]
+    #[tactic(auto, unfolding(crate::specs::LineState::stored_of, crate::specs::LineState::held_of, crate::specs::LineState::waiting))]
+    pub(crate) fn count_piece<C: Check>(&mut self)
+        requires { AreDecoderWords self.old }
+        ensures counts { self.new ≡ record self.old {
+          folded = self.old.folded + C.check.cost * waiting self.old.longest self.old.data_bits;
+          stored = self.old.stored + stored_of self.old.longest self.old.data_bits;
+          assembled = self.old.assembled + self.old.data_bits;
+          data_bits = 0;
+          partial = 0;
+        } }
+        ensures within { AreDecoderWords self.new }
+    {
+        let units = C::COST * self.waiting();
+        let stored = self.stored_of_piece();
+        self.folded += units;
+        self.stored += stored;
+        self.assembled += self.data_bits;
+        self.data_bits = 0;
+        self.partial = 0;
     }
 
     /// The first place of the open piece, and past all places where the last mark is no flag.

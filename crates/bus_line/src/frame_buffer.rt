@@ -1,6 +1,6 @@
 //! Where the octets of a piece are kept.
 
-ghost use Rattle.std.specs.Prelude.{◌≡◌, ◌≤◌, ◌<◌, ℕ, List, [], ◌∷◌, ◌++◌, length};
+ghost use Rattle.std.specs.Prelude.{◌≡◌, ◌+◌, ◌≤◌, ◌<◌, ℕ, List, [], ◌∷◌, ◌++◌, length};
 ghost use Rattle.bus_line.specs.Limits.{most_octets};
 
 use arrayvec::ArrayVec;
@@ -23,6 +23,16 @@ pub trait FrameBuffer {
     fn push(&mut self, octet: u8)
         requires { length (octets self.old) < most_octets }
         ensures { octets self.new ≡ octets self.old ++ octet ∷ [] };
+
+    /// Appends four octets.
+    fn push_four(&mut self, four: &[u8; 4])
+        requires { length (octets self.old) + 4 ≤ most_octets }
+        ensures { octets self.new ≡ octets self.old ++ four.now };
+
+    /// Appends eight octets.
+    fn push_eight(&mut self, word: &[u8; 8])
+        requires { length (octets self.old) + 8 ≤ most_octets }
+        ensures { octets self.new ≡ octets self.old ++ word.now };
 }
 
 impl FrameBuffer for ArrayVec<u8, 258> {
@@ -41,5 +51,19 @@ impl FrameBuffer for ArrayVec<u8, 258> {
     #[inline(always)]
     fn push(&mut self, octet: u8) {
         ArrayVec::push(self, octet);
+    }
+
+    #[inline(always)]
+    fn push_four(&mut self, four: &[u8; 4]) {
+        if self.try_extend_from_slice(four).is_err() {
+            unreachable!();
+        }
+    }
+
+    #[inline(always)]
+    fn push_eight(&mut self, word: &[u8; 8]) {
+        if self.try_extend_from_slice(word).is_err() {
+            unreachable!();
+        }
     }
 }

@@ -59,19 +59,20 @@ abbrev pub closed_piece : ℕ → List Bool → Bool → Option Report
 closed_piece longest b bit =
     piece_report (λ p. class_of longest (slice_range (b ++ bit ∷ []) (p + 8) (length b - 7))) (current b) (length b - 7)
 
--- the event is the piece, if it is not empty, that a flag at place `past` closes with the last bit
-abbrev pub Closes : {C : Type 0} → CheckView C → LineState C → ℕ → Option Event → Type 0
-Closes view d past event =
+-- the event is the piece, if it is not empty, that a flag at place `past` closes with the last bit; if that is a frame,
+-- these are its octets
+abbrev pub Closes : {C : Type 0} → CheckView C → LineState C → List ℕ → ℕ → Option Event → Type 0
+Closes view d octets past event =
     (b : List Bool) (bit : Bool) → Tracks view d (b ++ bit ∷ []) (current b) → 7 ≤ length b
     → past ≡ d.origin + (length b - 7)
-    → option_map (reported d.octets) event ≡ option_map (moved d.origin) (closed_piece d.longest b bit)
+    → option_map (reported octets) event ≡ option_map (moved d.origin) (closed_piece d.longest b bit)
 
 -- and this is what that piece is
-abbrev pub ClosesAs : {C : Type 0} → CheckView C → LineState C → EventKind → Type 0
-ClosesAs view d kind =
+abbrev pub ClosesAs : {C : Type 0} → CheckView C → LineState C → List ℕ → EventKind → Type 0
+ClosesAs view d octets kind =
     (b : List Bool) (bit : Bool) (p : ℕ) → Tracks view d (b ++ bit ∷ []) (current b) → current b ≡ FlagAt p
     → p + 15 < length b
-    → kind_with d.octets kind ≡ class_of d.longest (slice_range (b ++ bit ∷ []) (p + 8) (length b - 7))
+    → kind_with octets kind ≡ class_of d.longest (slice_range (b ++ bit ∷ []) (p + 8) (length b - 7))
 
 -- the event is the piece, if there is one and it is not empty, that an abort mark at place `past` ends
 abbrev pub Aborts : DecoderWords → ℕ → Option Event → Type 0

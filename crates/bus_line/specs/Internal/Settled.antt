@@ -5,9 +5,9 @@ use Rattle.bus_bits.specs.Octet.{number}
 use Rattle.bus_fcs.specs.Check.{CheckView}
 use Rattle.bus_line.specs.Run.{ones_at_end}
 use Rattle.bus_line.specs.Due.{current, first_of}
-use Rattle.bus_line.specs.LineState.{LineState}
+use Rattle.bus_line.specs.LineState.{LineState, waiting}
 use Rattle.bus_line.specs.Internal.LineView.{settles_from}
-use Rattle.bus_line.specs.Internal.Tracks.{HasTaken, Holds, HoldsFor, Counts, padded}
+use Rattle.bus_line.specs.Internal.Tracks.{HasTaken, Holds, HoldsFor, Counts, padded, words_room}
 
 -- none of the first `n` bits stands after exactly six ones or exactly fourteen
 abbrev pub HasNoStop : List Bool → List Bool → ℕ → Type 0
@@ -54,37 +54,39 @@ low_octets zero n = []
 low_octets (suc k) n = low_octets k n ++ (n / 2 ^ (8 * k) % 256) ∷ []
 
 -- the buffer has the first of these octets, and their check
-pub record HoldsOctets {C : Type 0} (folded : C → List ℕ → Type 0) (d : LineState C) (os : List ℕ) : Type 0 where
-  pub held : d.octets ≡ take (d.longest + 2) os
-  pub checked : folded d.check (take (d.longest + 2) os)
+pub record HoldsOctets {C : Type 0} (folded : C → List ℕ → Type 0) (limit : ℕ) (d : LineState C) (os : List ℕ) : Type 0
+  where
+    pub held : d.octets ≡ take limit os
+    pub checked : folded d.check (take limit os)
 
--- octets of a piece were stored and folded, as many as there is room for, and counted
-pub record StoresOctets {C : Type 0} (view : CheckView C) (old : LineState C) (more : List ℕ)
-    (new : LineState C) : Type 0 where
-  pub keeps : (os : List ℕ) → HoldsOctets view.folded old os → HoldsOctets view.folded new (os ++ more)
-  pub spent : (os : List ℕ) → HoldsOctets view.folded old os
-      → new.spent ≡ record old.spent {
-        stored = old.spent.stored + more_within (old.longest + 2) (length os) (length more);
-        folded = old.spent.folded + view.cost * more_within (old.longest + 2) (length os) (length more);
-      }
-  pub kept : new ≡ record old { octets = new.octets; check = new.check; spent = new.spent }
+-- eight octets of a piece were stored and folded, at this cost, if there is room for all of them
+pub record StoresWord {C : Type 0} (view : CheckView C) (old : LineState C) (word cost : ℕ) (new : LineState C) : Type 0
+  where
+    pub keeps : (os : List ℕ) → length os % 8 ≡ 0 → HoldsOctets view.folded (words_room old.longest) old os
+        → HoldsOctets view.folded (words_room old.longest) new (os ++ low_octets 8 word)
+    pub paid : (os : List ℕ) → length os % 8 ≡ 0 → HoldsOctets view.folded (words_room old.longest) old os
+        → cost ≡ view.cost * more_within (words_room old.longest) (length os) 8
 
 -- data bits were appended to the piece, and counted; before one is settled nothing changed
 pub record AppendsBits {C : Type 0} (view : CheckView C) (old : LineState C) (more : List Bool)
     (new : LineState C) : Type 0 where
   pub none : old.place ≤ settles_from old.first → new ≡ old
   pub holds : (bits : List Bool) → Holds view.folded old bits → Holds view.folded new (bits ++ more)
-  pub spent : (bits : List Bool) → Holds view.folded old bits
-      → new.spent ≡ record old.spent {
-        assembled = old.spent.assembled + length more;
-        stored = old.spent.stored + octets_more old.longest (length bits) (length more);
-        folded = old.spent.folded + view.cost * octets_more old.longest (length bits) (length more);
-      }
+  pub settled : new.spent.assembled ≡ old.spent.assembled + length more
+  pub filled : new.spent.stored ≡ old.spent.stored + octets_more old.longest old.data_bits (length more)
+  pub paid : (bits : List Bool) → Holds view.folded old bits
+      → new.spent.folded + view.cost * waiting old.longest new.data_bits
+      ≡ old.spent.folded + view.cost * waiting old.longest old.data_bits
+      + view.cost * octets_more old.longest old.data_bits (length more)
   pub kept : new
       ≡ record old {
         data_bits = new.data_bits;
         partial = new.partial;
         octets = new.octets;
         check = new.check;
-        spent = new.spent;
+        spent = record old.spent {
+          assembled = new.spent.assembled;
+          folded = new.spent.folded;
+          stored = new.spent.stored;
+        };
       }

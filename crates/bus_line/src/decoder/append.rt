@@ -2,6 +2,8 @@
 
 ghost use Rattle.std.specs.Prelude.{◌≡◌, ◌+◌, ◌-◌, ◌*◌, ◌/◌, ◌≤◌, ◌<◌, ◌^◌, List, Bool, ◌++◌, length, ℕ};
 ghost use Rattle.bus_bits.specs.Octet.{bits_of, octets};
+ghost use Rattle.bus_line.specs.Limits.{most_octets};
+ghost use Rattle.bus_line.specs.Internal.Settled.{low_octets};
 
 use crate::decoder::marked::Bits;
 use crate::decoder_words::DecoderWords;
@@ -12,11 +14,11 @@ use std::cmp::min;
 
 impl DecoderWords {
     ghost use Rattle.bus_line.specs.Words.{IsDecoder, state};
-    ghost use Rattle.bus_line.specs.Internal.Tracks.{Holds};
-    ghost use Rattle.bus_line.specs.Internal.Settled.{AppendsBits, HoldsOctets};
+    ghost use Rattle.bus_line.specs.Internal.Tracks.{Holds, in_words, words_room};
+    ghost use Rattle.bus_line.specs.Internal.Settled.{AppendsBits, HoldsOctets, StoresWord};
 
-    /// Appends data bits to the piece, and stores and folds the octets that they fill, as many as there is room for.
-    /// The first bits of a piece empty the frame buffer.
+    /// Appends data bits to the piece. When they fill a word of eight octets, it is stored and folded, if there is
+    /// room for all of it.
     #[inline(always)]
     pub(crate) fn append<C: Check, F: FrameBuffer>(
         &mut self,
@@ -26,51 +28,103 @@ impl DecoderWords {
     )
         requires sound { IsDecoder self.old (F.octets frame.old) }
         requires early { self.old.place ≤ self.old.settles_at → more.count ≡ 0 }
-        requires room { self.old.assembled + more.count ≤ self.old.place - self.old.origin }
+        requires room { self.old.assembled + self.old.data_bits + more.count ≤ self.old.place - self.old.origin }
         ensures appends { AppendsBits C.check (state self.old check.old (F.octets frame.old))
             (bits_of more.count more.bits) (state self.new check.new (F.octets frame.new)) }
         ensures sound { IsDecoder self.new (F.octets frame.new) }
     {
-        // No bit of a piece is settled yet, as `shift` found: one test serves both.
-        if self.place <= self.settles_at {
+        let held = self.data_bits % 64;
+        let joined = self.partial | more.bits << held;
+        if held + more.count < 64 {
+            self.data_bits += more.count;
+            self.partial = joined;
             return;
         }
-        let held = self.data_bits % 8;
-        let count = (held + more.count) / 8;
-        let joined = self.partial | more.bits << held;
         self.begin(check, frame);
-        self.assembled += more.count;
+        self.folded += self.store(check, frame, joined);
         self.data_bits += more.count;
-        self.partial = joined >> (8 * count);
-        let room = self.longest + 2 - frame.len() as u64;
-        let stored = min(count, room);
-        let mut spent = Spent {
-            folded: self.folded,
-            ..Spent::zero()
-        };
-        let mut rest = joined;
-        for _ in 0..stored {
-            let octet = (rest & 0xff) as u8;
-            frame.push(octet);
-            check.fold(octet, &mut spent);
-            rest >>= 8;
-        }
-        self.folded = spent.folded;
-        self.stored += stored;
+        self.partial = more.bits >> (64 - held);
     }
 
-    /// Empties the frame buffer, and begins its check, where no octet of the piece is there yet.
+    /// Empties the frame buffer, and begins its check, where no word of the piece is there yet.
     #[inline(always)]
     fn begin<C: Check, F: FrameBuffer>(&self, check: &mut C, frame: &mut F)
         requires sound { IsDecoder self.now (F.octets frame.old) }
         ensures keeps { (bits : List Bool) → Holds C.check.folded (state self.now check.old (F.octets frame.old)) bits →
-            HoldsOctets C.check.folded (state self.now check.new (F.octets frame.new)) (octets bits) }
+            HoldsOctets C.check.folded (words_room self.now.longest) (state self.now check.new (F.octets frame.new))
+            (octets (in_words bits)) }
         ensures sound { IsDecoder self.now (F.octets frame.new) }
     {
-        if self.data_bits >= 8 {
+        if self.data_bits >= 64 {
             return;
         }
         frame.clear();
         *check = C::fresh();
     }
+
+    /// Stores and folds the eight octets of a word, if there is room for all of them. Returns the units of work of the
+    /// check.
+    #[inline(always)]
+    fn store<C: Check, F: FrameBuffer>(&self, check: &mut C, frame: &mut F, word: u64) -> u64
+        requires sound { IsDecoder self.now (F.octets frame.old) }
+        ensures stores { StoresWord C.check (state self.now check.old (F.octets frame.old)) word result
+            (state self.now check.new (F.octets frame.new)) }
+        ensures few { result ≤ 64 }
+        ensures sound { IsDecoder self.now (F.octets frame.new) }
+    {
+        if frame.len() as u64 + 8 > self.longest + 2 {
+            return 0;
+        }
+        let octets = word.to_le_bytes();
+        let mut spent = Spent::zero();
+        frame.push_eight(&octets);
+        check.fold_eight(&octets, &mut spent);
+        spent.folded
+    }
+
+    /// Stores and folds the last octets of the piece, which fill no word. They are counted where it ends.
+    #[inline(always)]
+    pub(crate) fn store_last<C: Check, F: FrameBuffer>(&self, check: &mut C, frame: &mut F)
+        requires sound { IsDecoder self.now (F.octets frame.old) }
+        ensures holds { (bits : List Bool) → Holds C.check.folded (state self.now check.old (F.octets frame.old)) bits →
+            length bits ≤ 8 * (self.now.longest + 2) →
+            HoldsOctets C.check.folded (self.now.longest + 2) (state self.now check.new (F.octets frame.new))
+            (octets bits) }
+        ensures sound { IsDecoder self.now (F.octets frame.new) }
+    {
+        self.begin(check, frame);
+        let room = self.longest + 2 - frame.len() as u64;
+        let stored = min(self.data_bits / 8 % 8, room);
+        let first = store_four(check, frame, self.partial, stored);
+        let mut rest = self.partial >> (8 * first);
+        for _ in first..stored {
+            let octet = (rest & 0xff) as u8;
+            frame.push(octet);
+            check.fold(octet, &mut Spent::zero());
+            rest >>= 8;
+        }
+    }
+}
+
+/// Stores and folds the four lowest octets of a number, if `count` is as many. Returns how many it stored.
+#[inline(always)]
+fn store_four<C: Check, F: FrameBuffer>(
+    check: &mut C,
+    frame: &mut F,
+    octets: u64,
+    count: u64,
+) -> u64
+    requires { length (F.octets frame.old) + count ≤ most_octets }
+    ensures few { (result ≤ count) × (result ≤ 4) }
+    ensures stored { F.octets frame.new ≡ F.octets frame.old ++ low_octets result octets }
+    ensures folded { (before : List ℕ) → C.check.folded check.old before →
+        C.check.folded check.new (before ++ low_octets result octets) }
+{
+    if count < 4 {
+        return 0;
+    }
+    let four = ((octets & 0xffff_ffff) as u32).to_le_bytes();
+    frame.push_four(&four);
+    check.fold_four(&four, &mut Spent::zero());
+    4
 }

@@ -1,11 +1,12 @@
 //! What a bit after six ones or fourteen decides.
 
-ghost use Rattle.std.specs.Prelude.{◌≤◌, ◌<◌, ◌-◌, ◌≡◌, List, ℕ};
+ghost use Rattle.std.specs.Prelude.{◌≤◌, ◌<◌, ◌+◌, ◌-◌, ◌*◌, ◌≡◌, List, ℕ};
 
 use crate::cause::Cause;
 use crate::decoder::ended_mark::{EndedMark, ended_mark};
 use crate::decoder_words::{DecoderWords, NEVER};
 use crate::event::{Event, EventKind};
+use crate::frame_buffer::FrameBuffer;
 use bus_bits::Span;
 use bus_fcs::Check;
 
@@ -16,21 +17,24 @@ impl DecoderWords {
     /// Finds whether the newest bit ends a flag, or is the seventh or the fifteenth one of a run, and
     /// returns what that decides.
     #[inline(always)]
-    pub(crate) fn decide<C: Check>(&mut self, check: &C) -> Option<Event>
-        requires within { AreDecoderWords self.old }
+    pub(crate) fn decide<C: Check, F: FrameBuffer>(
+        &mut self,
+        check: &mut C,
+        frame: &mut F,
+    ) -> Option<Event>
+        requires sound { IsDecoder self.old (F.octets frame.old) }
         requires some { self.old.origin < self.old.place }
-        ensures decides { (octets : List ℕ) →
-            DecidesLast C.check (state self.old check.now octets) result (state self.new check.now octets) }
-        ensures sound { (octets : List ℕ) → IsDecoder self.old octets → IsDecoder self.new octets }
+        ensures decides { DecidesLast C.check (state self.old check.old (F.octets frame.old)) result
+            (state self.new check.new (F.octets frame.new)) }
+        ensures sound { IsDecoder self.new (F.octets frame.new) }
     {
         // All bits of the mark have been taken, so no subtraction saturates.
         let place = self.place;
         match ended_mark(self.last_bits, place - 1 - self.origin) {
             EndedMark::FlagMark => {
-                let event = self.closed(check, place - 8);
+                let event = self.closed(check, frame, place - 8);
+                self.count_piece::<C>();
                 self.settles_at = place + 8;
-                self.data_bits = 0;
-                self.partial = 0;
                 event
             }
             EndedMark::AbortMark => {
@@ -49,17 +53,25 @@ impl DecoderWords {
         }
     }
 
-    /// The piece that a flag at `past` closes, if it is not empty.
-    fn closed<C: Check>(&self, check: &C, past: u64) -> Option<Event>
-        requires { AreDecoderWords self.now }
-        ensures { (octets : List ℕ) → Closes C.check (state self.now check.now octets) past result }
+    /// The piece that a flag at `past` closes, if it is not empty. The last octets of a frame are stored.
+    #[inline(always)]
+    fn closed<C: Check, F: FrameBuffer>(
+        &self,
+        check: &mut C,
+        frame: &mut F,
+        past: u64,
+    ) -> Option<Event>
+        requires sound { IsDecoder self.now (F.octets frame.old) }
+        ensures closes { Closes C.check (state self.now check.old (F.octets frame.old)) (F.octets frame.new) past
+            result }
+        ensures sound { IsDecoder self.now (F.octets frame.new) }
     {
         let first = self.first_or_never();
         if first >= past {
             return None;
         }
         Some(Event {
-            kind: self.class(check),
+            kind: self.class(check, frame),
             span: Span { first, past },
         })
     }
@@ -81,9 +93,11 @@ impl DecoderWords {
     }
 
     /// What the piece between the last flag and the one that the newest bit ends is, the first that fits.
-    fn class<C: Check>(&self, check: &C) -> EventKind
-        requires { AreDecoderWords self.now }
-        ensures { (octets : List ℕ) → ClosesAs C.check (state self.now check.now octets) result }
+    #[inline(always)]
+    fn class<C: Check, F: FrameBuffer>(&self, check: &mut C, frame: &mut F) -> EventKind
+        requires sound { IsDecoder self.now (F.octets frame.old) }
+        ensures closes { ClosesAs C.check (state self.now check.old (F.octets frame.old)) (F.octets frame.new) result }
+        ensures sound { IsDecoder self.now (F.octets frame.new) }
     {
         if (self.last_bits >> 3) & 0x1f == 0x1f {
             return EventKind::Damaged(Cause::Unstuffed);
@@ -97,6 +111,7 @@ impl DecoderWords {
         if self.data_bits % 8 != 0 {
             return EventKind::Damaged(Cause::Unaligned);
         }
+        self.store_last(check, frame);
         if !check.is_good() {
             return EventKind::Damaged(Cause::Fcs);
         }

@@ -61,7 +61,7 @@ impl DecoderWords {
             if !run.is_stop {
                 continue;
             }
-            let event = self.decide(check);
+            let event = self.decide(check, frame);
             if event.is_some() {
                 return Ok(Consumed {
                     count: reached - at,
@@ -72,8 +72,8 @@ impl DecoderWords {
         Ok(Consumed { count, event: None })
     }
 
-    /// Takes time fill as far as it goes, and else up to 48 bits, or those of them up to the first that may decide a
-    /// report.
+    /// Takes time fill as far as it goes, and else bits up to the first that may decide a report, 48 at most where a
+    /// piece is open.
     #[inline(always)]
     pub(crate) fn run_fill<C: Check, F: FrameBuffer>(
         &mut self,
@@ -85,6 +85,7 @@ impl DecoderWords {
     ) -> Stopped
         requires sound { IsDecoder self.old (F.octets frame.old) }
         requires bits { HasBits self.old octets.now from end }
+        requires enough { from + 64 ≤ end }
         ensures count { (1 ≤ result.count) × (result.count ≤ end - from) }
         ensures reaches { AdvancesToStop C.check (state self.old check.old (F.octets frame.old))
             (bits_from octets.now from result.count) result.is_stop (state self.new check.new (F.octets frame.new)) }
@@ -92,12 +93,36 @@ impl DecoderWords {
     {
         let past = self.skip_time_fill::<C>(octets, from, end);
         if past == from {
-            return self.run_word(check, frame, word_at(octets, from, end));
+            return self.run_bits(check, frame, octets, from, end);
         }
         Stopped {
             count: past - from,
             is_stop: false,
         }
+    }
+
+    /// Takes bits up to the first that may decide a report, 48 at most where a piece is open.
+    #[inline(always)]
+    fn run_bits<C: Check, F: FrameBuffer>(
+        &mut self,
+        check: &mut C,
+        frame: &mut F,
+        octets: &[u8],
+        from: usize,
+        end: usize,
+    ) -> Stopped
+        requires sound { IsDecoder self.old (F.octets frame.old) }
+        requires bits { HasBits self.old octets.now from end }
+        requires enough { from + 64 ≤ end }
+        ensures count { (1 ≤ result.count) × (result.count ≤ end - from) }
+        ensures reaches { AdvancesToStop C.check (state self.old check.old (F.octets frame.old))
+            (bits_from octets.now from result.count) result.is_stop (state self.new check.new (F.octets frame.new)) }
+        ensures sound { IsDecoder self.new (F.octets frame.new) }
+    {
+        if self.settles_at == NEVER {
+            return self.run_quiet::<C>(octets, from, end);
+        }
+        self.run_word(check, frame, word_at(octets, from, end))
     }
 
     /// Whether the last mark is a flag that no other follows directly. Between two such flags there is no piece

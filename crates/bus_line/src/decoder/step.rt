@@ -63,7 +63,7 @@ impl DecoderWords {
         }
         let due = self.shift::<C>(u64::from(bit), 1);
         self.append(check, frame, due);
-        Ok(self.decide(check))
+        Ok(self.decide(check, frame))
     }
 
     /// Takes the bits of a word up to the first after exactly six ones or exactly fourteen, or all of them.
@@ -99,7 +99,8 @@ impl DecoderWords {
             AppendsBits C.check (state self.new check octets) (bits_of result.count result.bits) new →
             ConsumesBits C.check (state self.old check octets) (bits_of count bits) new }
         ensures early { self.new.place ≤ self.new.settles_at → result.count ≡ 0 }
-        ensures room { self.new.assembled + result.count ≤ self.new.place - self.new.origin }
+        ensures same { self.new ≡ record self.old { place = self.old.place + count; last_bits = self.new.last_bits } }
+        ensures room { self.new.assembled + self.new.data_bits + result.count ≤ self.new.place - self.new.origin }
         ensures sound { (octets : List ℕ) → IsDecoder self.old octets → IsDecoder self.new octets }
     {
         let word = self.last_bits | bits << 16;

@@ -1,4 +1,4 @@
-//! Bits that decide nothing, 56 at a time.
+//! Bits that decide nothing, many at a time.
 
 ghost use Rattle.std.specs.Prelude.{◌≡◌, ◌+◌, ◌-◌, ◌*◌, ◌/◌, ◌%◌, ◌≤◌, ◌<◌, ◌^◌, true, length};
 ghost use Rattle.std.specs.Prelude.{replicate};
@@ -7,7 +7,7 @@ ghost use Rattle.bus_bits.specs.Octet.{bits_of};
 ghost use Rattle.bus_line.specs.Internal.Flags.{flags};
 ghost use Rattle.bus_line.specs.Internal.TimeFill.{AreFlags};
 
-use bus_bits::seven_octets_at;
+use bus_bits::{eight_at, seven_octets_at};
 use std::cmp::min;
 
 /// 56 ones after eight 0s.
@@ -16,8 +16,8 @@ const ONES: u64 = 0xffff_ffff_ffff_ff00;
 /// Seven flags in a row, after eight 0s.
 const SEVEN_FLAGS: u64 = 0x7e7e_7e7e_7e7e_7e00;
 
-/// Where ones end that are looked for 56 at a time, and not in the last 63 bits. A call for each row
-/// of them costs nothing beside it, and its caller stays small enough to be inlined.
+/// Where ones end that are looked for in 56 bits, then by eight octets at a time, and not in the last 63 bits. A call
+/// for each row of them costs nothing beside it, and its caller stays small enough to be inlined.
 #[inline(never)]
 pub(crate) fn ones_end(octets: &[u8], from: usize, end: usize) -> usize
     requires some { from ≤ end }
@@ -25,12 +25,19 @@ pub(crate) fn ones_end(octets: &[u8], from: usize, end: usize) -> usize
     ensures within { (from ≤ result) × (result ≤ end) }
     ensures ones { bits_from octets.now from (result - from) ≡ replicate (result - from) true }
 {
-    let mut at = from;
+    if end - from < 64 || seven_octets_at(octets, from) << 8 != ONES {
+        return from;
+    }
+    // These ones reach past the next octet's beginning.
+    let mut at = 8 * (from / 8 + 1);
     while end - at >= 64 {
-        if seven_octets_at(octets, at) << 8 != ONES {
+        if eight_at(octets, at / 8) != u64::MAX {
             break;
         }
-        at += 56;
+        at += 64;
+    }
+    if at < from + 56 {
+        return from + 56;
     }
     at
 }

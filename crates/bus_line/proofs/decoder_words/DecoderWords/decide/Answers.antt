@@ -1,10 +1,11 @@
-use Rattle.std.proofs.Common.{refl, ◌≡◌, ℕ, ◌+◌, ◌-◌, [], ◌∷◌, ◌++◌, Option, Some, length, sym, ap, ◌∙◌, subst, arith}
+use Rattle.std.proofs.Common.{refl, ◌≡◌, ℕ, ◌+◌, ◌-◌, [], ◌∷◌, ◌++◌, Some, length, sym, ap, ◌∙◌, subst, arith}
 use Rattle.std.specs.Option.{option_map}
 use Rattle.std.proofs.lemmas.List.{length_push}
 use Rattle.bus_line.specs.Report.{Idle, moved}
-use Rattle.bus_line.specs.Due.{FlagAt, current}
+use Rattle.bus_line.specs.Due.{current}
 use Rattle.bus_line.specs.Words.{state}
 use Rattle.bus_line.specs.Internal.Tracks.{Tracks}
+use Rattle.bus_line.specs.declared.decoder_words.DecoderWords.{DecoderWords}
 use Rattle.bus_line.specs.declared.decoder.ended_mark.EndedMark.TheVariants.{FlagMark, AbortMark, IdleMark, Other}
 use Rattle.bus_line.proofs.StepLemmas.{closing, seven, fifteen, other, tracks-flag, tracks-abort, ones_within}
 use Rattle.bus_line.proofs.StepLemmas.{found-here}
@@ -12,27 +13,30 @@ use Rattle.bus_line.proofs.WordsLemmas.{first-at}
 use Rattle.bus_line.proofs.decoder_words.DecoderWords.decide.Goals as goal
 
 pub returns-in-FlagMark-clause-decides : goal.returns-in-FlagMark-clause-decides
-returns-in-FlagMark-clause-decides g c = λ octets.
+returns-in-FlagMark-clause-decides g c =
+    let octets = g.F.FrameBuffer.octets c.args.frame.now in
     let d = state c.args.self.now c.args.check.now octets in
     record {
-      longest = refl;
-      origin = refl;
-      place = refl;
+      longest = ap (λ (w : DecoderWords). w.longest) c.count_piece.ensures.counts;
+      origin = ap (λ (w : DecoderWords). w.origin) c.count_piece.ensures.counts;
+      place = ap (λ (w : DecoderWords). w.place) c.count_piece.ensures.counts;
       answer = λ b bit tracks.
           let found = found-here b bit tracks.has_taken FlagMark c.in-FlagMark.ensures.found in
-          c.closed-event.ensures octets b bit tracks (omega (arith, found.2))
+          c.closed-event.ensures.closes b bit tracks (omega (arith, found.2))
           (omega (arith, tracks.has_taken.place, length_push b bit, found.2))
           ∙ sym (ap (option_map (moved d.origin)) (closing d.longest b bit found).answers);
       after = λ b bit tracks.
           let found = found-here b bit tracks.has_taken FlagMark c.in-FlagMark.ensures.found in
           subst (Tracks g.C.Check.check _ (b ++ bit ∷ [])) (sym (closing 3 b bit found).leaves)
-          (subst (λ (o : Option ℕ). Tracks g.C.Check.check (record d { first = o; data_bits = 0; partial = 0 })
-          (b ++ bit ∷ []) (FlagAt (length b - 7))) (sym (first-at d.place c.requires.within.place_fits))
-          (tracks-flag tracks (omega (arith, length_push b bit, found.2))));
+          (tracks-flag c.args.self.now _ c.args.check.now c.closed-event.new.check octets
+          (g.F.FrameBuffer.octets c.closed-event.new.frame) tracks (omega (arith, length_push b bit, found.2))
+          (ap (λ (w : DecoderWords). record w { settles_at = d.place + 8 }) c.count_piece.ensures.counts)
+          (first-at d.place c.requires.sound.within.place_fits));
     }
 
 pub returns-in-AbortMark-clause-decides : goal.returns-in-AbortMark-clause-decides
-returns-in-AbortMark-clause-decides g c = λ octets.
+returns-in-AbortMark-clause-decides g c =
+    let octets = g.F.FrameBuffer.octets c.args.frame.now in
     let d = state c.args.self.now c.args.check.now octets in
     record {
       longest = refl;
@@ -51,7 +55,8 @@ returns-in-AbortMark-clause-decides g c = λ octets.
     }
 
 pub returns-in-IdleMark-clause-decides : goal.returns-in-IdleMark-clause-decides
-returns-in-IdleMark-clause-decides g c = λ octets.
+returns-in-IdleMark-clause-decides g c =
+    let octets = g.F.FrameBuffer.octets c.args.frame.now in
     let d = state c.args.self.now c.args.check.now octets in
     record {
       longest = refl;
@@ -72,7 +77,8 @@ returns-in-IdleMark-clause-decides g c = λ octets.
     }
 
 pub returns-in-Other-clause-decides : goal.returns-in-Other-clause-decides
-returns-in-Other-clause-decides g c = λ octets.
+returns-in-Other-clause-decides g c =
+    let octets = g.F.FrameBuffer.octets c.args.frame.now in
     let d = state c.args.self.now c.args.check.now octets in
     record {
       longest = refl;

@@ -24,4 +24,4 @@ returns-clause-advances g c =
     let consumed = subst (λ (z : List Bool). ConsumesBits g.C.Check.check old z new) one
     (c.shift-due.ensures.consumes c.args.check.now before new c.append.ensures.appends) in
     decided (ran-last consumed (omega arith) (λ b stands i before. absurd (omega (arith, before))))
-    (c.decide.ensures.decides octets)
+    c.decide.ensures.decides

@@ -52,7 +52,7 @@ returns-then-is_some-clause-advances g c =
     let run = c.run-run in
     decided-on c.args.octets.now now.begun now.decides run.result.count
     (c.loop-reached.reached + run.result.count - c.args.at) (omega (arith, now.begun)) run.result.is_stop
-    c.if-not-run.false run.ensures.reaches (c.decide-event.ensures.decides (g.F.FrameBuffer.octets run.new.frame))
+    c.if-not-run.false run.ensures.reaches c.decide-event.ensures.decides
 
 pub loop-reached-preserved-then-not-run : goal.loop-reached-preserved-then-not-run
 loop-reached-preserved-then-not-run g c =
@@ -76,21 +76,21 @@ pub loop-reached-preserved : goal.loop-reached-preserved
 loop-reached-preserved g c =
     let now = c.loop-reached.invariant in
     let run = c.run-run in
-    let octets = g.F.FrameBuffer.octets run.new.frame in
+    let octets = g.F.FrameBuffer.octets c.decide-event.new.frame in
     let n = c.loop-reached.reached + run.result.count - c.args.at in
     let old = state c.args.self.now c.args.check.now (g.F.FrameBuffer.octets c.args.frame.now) in
-    let new = state c.decide-event.new.self run.new.check octets in
+    let new = state c.decide-event.new.self c.decide-event.new.check octets in
     let none : c.decide-event.result ≡ None =
     is-none c.decide-event.result (sym c.is_some.ensures ∙ c.if-is_some.false) in
     let advances = decided-on c.args.octets.now now.begun now.decides run.result.count n (omega (arith, now.begun))
-    run.result.is_stop c.if-not-run.false run.ensures.reaches (c.decide-event.ensures.decides octets) in
+    run.result.is_stop c.if-not-run.false run.ensures.reaches c.decide-event.ensures.decides in
     record {
       begun = omega (arith, now.begun);
       ends = omega (arith, now.ends, run.ensures.count);
       decides = subst (λ (r : Option Report).
           Decides g.C.Check.check old (bits_from c.args.octets.now c.args.at n) r new)
           (ap (option_map (reported octets)) none) advances.decides;
-      sound = c.decide-event.ensures.sound octets run.ensures.sound;
+      sound = c.decide-event.ensures.sound;
     }
 
 pub returns-clause-advances : goal.returns-clause-advances
