@@ -8,7 +8,7 @@ mod rows;
 
 use crate::request::Request;
 use crate::table::with_arguments;
-use bus_text::{Kind, Options};
+use bus_text::{Kind, Lines, Options};
 use clap::{ArgMatches, Command, Error};
 use std::alloc::Global;
 
@@ -85,8 +85,7 @@ fn plain_listing<'a>() -> Options<'a>
     Options {
         dictionary: None,
         text: true,
-        two: false,
-        arrivals: false,
+        lines: Lines::One,
         rest: REST,
         origin: 0,
         depth: LISTED_DEPTH,
@@ -94,6 +93,16 @@ fn plain_listing<'a>() -> Options<'a>
         ftype: None,
         kind: None,
         reads: READS,
+    }
+}
+
+fn lines_of(found: &ArgMatches<'_>) -> Lines {
+    if found.get_flag("arrivals") {
+        Lines::Arrivals
+    } else if found.get_flag("two") {
+        Lines::Two
+    } else {
+        Lines::One
     }
 }
 
@@ -107,8 +116,7 @@ fn list_options<'a>(found: &ArgMatches<'a>) -> Result<Options<'a>, Refusal>
     Ok(Options {
         dictionary: found.get_str("dict"),
         text: found.get_flag("bits"),
-        two: found.get_flag("two"),
-        arrivals: found.get_flag("arrivals"),
+        lines: lines_of(found),
         rest: found.get_one("rest").unwrap_or(REST),
         origin: found.get_one("origin").unwrap_or(0),
         station: found.get_one("station"),
@@ -124,8 +132,7 @@ fn check_options<'a>(found: &ArgMatches<'a>) -> Options<'a>
     Options {
         dictionary: found.get_str("dict"),
         text: found.get_flag("bits"),
-        two: found.get_flag("two"),
-        arrivals: found.get_flag("arrivals"),
+        lines: lines_of(found),
         rest: found.get_one("rest").unwrap_or(REST),
         origin: found.get_one("origin").unwrap_or(0),
         depth: found.get_one("depth").unwrap_or(CHECKED_DEPTH),

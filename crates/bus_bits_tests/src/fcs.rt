@@ -71,15 +71,55 @@ fn registers(rt: HostRuntime) {
     }
 }
 
-/// Every octet after another.
+/// Eight octets folded at once.
+fn folded_at_once<C: Check>(octets: &[u8; 8]) -> C {
+    let mut check = C::fresh();
+    let mut spent = Spent::zero();
+    check.fold_eight(octets, &mut spent);
+    check
+}
+
+/// Eight octets folded by fours.
+fn folded_by_fours<C: Check>(octets: &[u8; 8]) -> C {
+    let [a, b, c, d, e, f, g, h] = *octets;
+    let mut check = C::fresh();
+    let mut spent = Spent::zero();
+    check.fold_four(&[a, b, c, d], &mut spent);
+    let mut spent = Spent::zero();
+    check.fold_four(&[e, f, g, h], &mut spent);
+    check
+}
+
+/// Every octet at each of eight places, folded one by one, by fours and all at once.
 #[test]
-fn each_octet(rt: HostRuntime) {
-    for octet in 0..=255u8 {
-        let octets = [0x10, octet];
-        let want = (!register_of(&octets)).to_le_bytes();
-        let case = format_args!("{octet}");
-        same(&rt, folded::<BitCheck>(&octets).trailer(), want, &case);
-        same(&rt, folded::<OctetCheck>(&octets).trailer(), want, &case);
+fn each_octet_at_each_place(rt: HostRuntime) {
+    for place in 0..8usize {
+        for octet in 0..=255u8 {
+            let mut octets = [0x10; 8];
+            octets[place] = octet;
+            let want = (!register_of(&octets)).to_le_bytes();
+            let case = format_args!("{octet} at {place}");
+            same(&rt, folded::<BitCheck>(&octets).trailer(), want, &case);
+            same(&rt, folded::<OctetCheck>(&octets).trailer(), want, &case);
+            same(
+                &rt,
+                folded_by_fours::<OctetCheck>(&octets).trailer(),
+                want,
+                &case,
+            );
+            same(
+                &rt,
+                folded_at_once::<BitCheck>(&octets).trailer(),
+                want,
+                &case,
+            );
+            same(
+                &rt,
+                folded_at_once::<OctetCheck>(&octets).trailer(),
+                want,
+                &case,
+            );
+        }
     }
 }
 
@@ -95,7 +135,15 @@ fn cost_of<C: Check>(count: usize) -> u64 {
     sum
 }
 
-/// An octet costs eight units of work by bits, and one by the table.
+/// The work of folding eight octets at once.
+fn cost_of_eight<C: Check>() -> u64 {
+    let mut check = C::fresh();
+    let mut spent = Spent::zero();
+    check.fold_eight(&[0x55; 8], &mut spent);
+    spent.folded
+}
+
+/// An octet costs eight units of work by bits, and one by tables.
 #[test]
 fn costs(rt: HostRuntime) {
     for (count, by_bits, by_octets) in [(0, 0, 0), (1, 8, 1), (7, 56, 7)] {
@@ -107,6 +155,11 @@ fn costs(rt: HostRuntime) {
             "units by octets",
         );
     }
+    same(&rt, cost_of_eight::<BitCheck>(), 64, "units by bits");
+    same(&rt, cost_of_eight::<OctetCheck>(), 8, "units by octets");
+    let mut four = Spent::zero();
+    OctetCheck::fresh().fold_four(&[0x55; 4], &mut four);
+    same(&rt, four.folded, 4, "units by octets");
 }
 
 /// A frame is good, and with the octets of its check exchanged it is not.

@@ -77,6 +77,5 @@ module _ {R X : Type 0} (f : Form R X) where
 abbrev pub Checks : Options → Option (List ℕ) → Option (List ℕ) → Option (List ℕ) → List ℕ → Result Summary ToolFault
     → Type 0
 Checks o after start now xs r =
-    by_lines o.arrivals
-    (by_lines o.two (ChecksBy form_of_one o after start now xs r) (ChecksBy form_of_two o after start now xs r))
+    by_lines o.lines (ChecksBy form_of_one o after start now xs r) (ChecksBy form_of_two o after start now xs r)
     (ChecksBy form_of_arrivals o after start now xs r)

@@ -96,13 +96,11 @@ module _ {R X : Type 0} (f : Form R X) where
 -- and which led its writer from `start` to `now`.
 abbrev pub ListsKnown : Options → Option (List ℕ) → Option (List ℕ) → List ℕ → Result Summary ToolFault → Type 0
 ListsKnown o start now all r =
-    by_lines o.arrivals
-    (by_lines o.two (ListsKnownBy form_of_one o start now all r) (ListsKnownBy form_of_two o start now all r))
+    by_lines o.lines (ListsKnownBy form_of_one o start now all r) (ListsKnownBy form_of_two o start now all r)
     (ListsKnownBy form_of_arrivals o start now all r)
 
 -- What the check of one answered.
 abbrev pub ChecksKnown : Options → Option (List ℕ) → Option (List ℕ) → List ℕ → Result Summary ToolFault → Type 0
 ChecksKnown o start now all r =
-    by_lines o.arrivals
-    (by_lines o.two (ChecksKnownBy form_of_one o start now all r) (ChecksKnownBy form_of_two o start now all r))
+    by_lines o.lines (ChecksKnownBy form_of_one o start now all r) (ChecksKnownBy form_of_two o start now all r)
     (ChecksKnownBy form_of_arrivals o start now all r)

@@ -13,6 +13,8 @@ use Rattle.bus_text.specs.Listing.{listing, ending_text}
 use Rattle.bus_text.specs.Summary.{summary_of}
 use Rattle.bus_text.specs.Put.{TextStopsAt}
 use Rattle.bus_calls.specs.Begins.{Begins, Refuses}
+use Rattle.bus_text.specs.declared.options.Lines.{Lines}
+use Rattle.bus_text.specs.declared.options.Lines.TheVariants.{One, Two, Arrivals}
 use Rattle.bus_text.specs.declared.options.Options.{Options}
 use Rattle.bus_text.specs.declared.summary.Summary.{Summary}
 use Rattle.bus_text.specs.declared.fault.ToolFault.{ToolFault}
@@ -96,16 +98,16 @@ module _ {R X : Type 0} (f : Form R X) where
   ListsBy o after start now xs (Err fault) =
       (d : List FrameType) × Begins o d × ListsToFault o d after start now xs fault
 
--- as it is by an option, or without it
-abbrev pub by_lines : Bool → Type 0 → Type 0 → Type 0
-by_lines false one two = one
-by_lines true one two = two
+-- as it is of one line, of two, or of arrivals
+abbrev pub by_lines : Lines → Type 0 → Type 0 → Type 0 → Type 0
+by_lines One one two arrivals = one
+by_lines Two one two arrivals = two
+by_lines Arrivals one two arrivals = arrivals
 
 -- What the call answered that lists a capture of one line, of two, or of arrivals: it read the octets xs, leaves its
 -- reader with `after`, and led its writer from `start` to `now`.
 abbrev pub Lists : Options → Option (List ℕ) → Option (List ℕ) → Option (List ℕ) → List ℕ → Result Summary ToolFault
     → Type 0
 Lists o after start now xs r =
-    by_lines o.arrivals
-    (by_lines o.two (ListsBy form_of_one o after start now xs r) (ListsBy form_of_two o after start now xs r))
+    by_lines o.lines (ListsBy form_of_one o after start now xs r) (ListsBy form_of_two o after start now xs r)
     (ListsBy form_of_arrivals o after start now xs r)

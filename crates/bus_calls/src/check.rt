@@ -9,7 +9,7 @@ use crate::arrivals::ClockAnalyser;
 use crate::capture_kind::CaptureKind;
 use crate::reader::CaptureReader;
 use bus_fcs::OctetCheck;
-use bus_text::{Options, Summary, ToolFault};
+use bus_text::{Lines, Options, Summary, ToolFault};
 use bus_watch::{Analyser, PairAnalyser};
 use std::alloc::Global;
 use std::io::{Read, Write};
@@ -36,12 +36,10 @@ pub fn check_capture<R: Read, W: Write>(
     ensures known { IfSome (R.remaining r.old)
         (λ all. ChecksKnown o.now (W.contents w.old) (W.contents w.new) all result) }
 {
-    if o.arrivals {
-        check_with::<ClockAnalyser<OctetCheck>, R, W>(alloc, o, r, w)
-    } else if o.two {
-        check_with::<PairAnalyser<OctetCheck>, R, W>(alloc, o, r, w)
-    } else {
-        check_with::<Analyser<OctetCheck>, R, W>(alloc, o, r, w)
+    match o.lines {
+        Lines::One => check_with::<Analyser<OctetCheck>, R, W>(alloc, o, r, w),
+        Lines::Two => check_with::<PairAnalyser<OctetCheck>, R, W>(alloc, o, r, w),
+        Lines::Arrivals => check_with::<ClockAnalyser<OctetCheck>, R, W>(alloc, o, r, w),
     }
 }
 

@@ -11,7 +11,7 @@ use crate::arrivals::ClockAnalyser;
 use crate::capture_kind::CaptureKind;
 use crate::reader::CaptureReader;
 use bus_fcs::OctetCheck;
-use bus_text::{Options, Page, Printer, Summary, ToolFault};
+use bus_text::{Lines, Options, Page, Printer, Summary, ToolFault};
 use bus_watch::{Analyser, PairAnalyser};
 use std::alloc::Global;
 use std::io::{Read, Write};
@@ -46,12 +46,10 @@ pub fn list_capture<R: Read, W: Write>(
     ensures known { IfSome (R.remaining r.old)
         (λ all. ListsKnown o.now (W.contents w.old) (W.contents w.new) all result) }
 {
-    if o.arrivals {
-        list_with::<ClockAnalyser<OctetCheck>, R, W>(alloc, o, r, w)
-    } else if o.two {
-        list_with::<PairAnalyser<OctetCheck>, R, W>(alloc, o, r, w)
-    } else {
-        list_with::<Analyser<OctetCheck>, R, W>(alloc, o, r, w)
+    match o.lines {
+        Lines::One => list_with::<Analyser<OctetCheck>, R, W>(alloc, o, r, w),
+        Lines::Two => list_with::<PairAnalyser<OctetCheck>, R, W>(alloc, o, r, w),
+        Lines::Arrivals => list_with::<ClockAnalyser<OctetCheck>, R, W>(alloc, o, r, w),
     }
 }
 

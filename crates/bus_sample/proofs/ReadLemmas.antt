@@ -1,6 +1,6 @@
 -- A recording, with octets more.
 use Rattle.std.proofs.Common.{◌≡◌, ℕ, ◌+◌, ◌-◌, ◌<◌, ◌≤◌, List, [], ◌∷◌, ◌++◌, length, replicate, take, drop, refl, sym}
-use Rattle.std.proofs.Common.{ap, ◌∙◌, arith, subst, append_assoc, length-append, Option, Result, Ok, Err, get_or}
+use Rattle.std.proofs.Common.{ap, ◌∙◌, arith, subst, append_assoc, Option, Result, Ok, Err, get_or}
 use Rattle.std.proofs.Common.{inl, inr}
 use Rattle.std.specs.Prelude.{◌⊎◌, IfErr, MatchResult}
 use Rattle.bus_text.proofs.KnownBytesLemmas.{take_both}

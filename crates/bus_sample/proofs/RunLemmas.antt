@@ -1,13 +1,12 @@
 -- A tap, with a run of samples more.
-use Rattle.std.proofs.Common.{◌≡◌, ℕ, zero, suc, ◌+◌, ◌-◌, ◌≤◌, List, ◌∷◌, ◌++◌, length, map, replicate, refl, sym, ap}
-use Rattle.std.proofs.Common.{◌∙◌, arith, subst, length-append, append_assoc, append-nil, Option}
-use Rattle.std.proofs.lemmas.List.{map-append, length-replicate, length-map, replicate-append-replicate}
-use Rattle.bus_tap.specs.Arrival.{Arrival}
-use Rattle.bus_tap.specs.Sampled.{sampled}
+use Rattle.std.proofs.Common.{◌≡◌, ℕ, zero, suc, ◌+◌, ◌-◌, ◌≤◌, List, ◌∷◌, ◌++◌, map, replicate, refl, sym, ap}
+use Rattle.std.proofs.Common.{◌∙◌, arith, subst, append_assoc, append-nil, Option}
+use Rattle.std.proofs.lemmas.List.{map-append, replicate-append-replicate}
+use Rattle.bus_tap.specs.Sampled.{Timed, timed}
 use Rattle.bus_tap.specs.Tapped.{TapState, AdvancesTap, IsTapAfter, channels}
-use Rattle.bus_sample.specs.Recording.{levels, arrivals}
+use Rattle.bus_sample.specs.Recording.{levels}
 use Rattle.bus_sample.specs.Samples.{IsFrontOf}
-use Rattle.bus_sample.specs.Internal.Runs.{RunAfter, HasMarked}
+use Rattle.bus_sample.specs.Internal.Runs.{RunAfter, HasMarked, timed_levels}
 use Rattle.bus_sample.specs.declared.reader.SampleRun.{SampleRun}
 use Rattle.bus_sample.specs.declared.options.SampleOptions.{SampleOptions}
 
@@ -19,7 +18,7 @@ levels-run : (o : SampleOptions) (n s : ℕ) → levels o (replicate n s) ≡ re
 levels-run o n s = map-same (channels o.wires) n s
 
 -- with these samples
-module _ (o : SampleOptions) (old new : TapState) (ss more : List ℕ) (xs : List Arrival) (hold : old.hold ≡ o.hold)
+module _ (o : SampleOptions) (old new : TapState) (ss more : List ℕ) (xs : List Timed) (hold : old.hold ≡ o.hold)
     (advances : AdvancesTap old (levels o more) xs new) (after : IsTapAfter old (levels o ss)) where
   same-levels : levels o (ss ++ more) ≡ levels o ss ++ levels o more
   same-levels = map-append (channels o.wires) ss more
@@ -27,17 +26,18 @@ module _ (o : SampleOptions) (old new : TapState) (ss more : List ℕ) (xs : Lis
   tap-with : IsTapAfter new (levels o (ss ++ more))
   tap-with = subst (IsTapAfter new) (sym same-levels) (advances.after (levels o ss) after)
 
-  pub arrivals-with : arrivals o (ss ++ more) ≡ arrivals o ss ++ xs
+  pub arrivals-with : timed_levels o (ss ++ more) ≡ timed_levels o ss ++ xs
   arrivals-with =
-      ap (sampled o.hold) same-levels
-      ∙ subst (λ h. sampled h (levels o ss ++ levels o more) ≡ sampled h (levels o ss) ++ xs) hold
-      (advances.sampled (levels o ss) after)
+      ap (timed o.hold) same-levels
+      ∙ subst (λ h. timed h (levels o ss ++ levels o more) ≡ timed h (levels o ss) ++ xs) hold
+      (advances.timed (levels o ss) after)
 
 -- and the text that was put
-pub taken-with : (start before now : Option (List ℕ)) (run new : SampleRun) (ss more : List ℕ) (xs : List Arrival) →
+pub taken-with : (start before now : Option (List ℕ)) (run new : SampleRun) (ss more : List ℕ) (xs : List Timed) →
     run.tap.hold ≡ run.options.hold → AdvancesTap run.tap (levels run.options more) xs new.tap →
     RunAfter start before run ss → new.options ≡ run.options →
-    HasMarked start now new.marks (arrivals run.options ss ++ xs) → RunAfter start now new (ss ++ more)
+    HasMarked start now new.marks run.options.rest (timed_levels run.options ss ++ xs) →
+    RunAfter start now new (ss ++ more)
 taken-with start before now run new ss more xs hold advances taken same marked =
     rw same (record {
       tap = tap-with run.options run.tap new.tap ss more xs hold advances taken.tap;
@@ -45,7 +45,7 @@ taken-with start before now run new ss more xs hold advances taken same marked =
     })
 
 -- with samples that are the same
-module _ (o : SampleOptions) (old new : TapState) (n s l : ℕ) (xs : List Arrival) (is : l ≡ channels o.wires s)
+module _ (o : SampleOptions) (old new : TapState) (n s l : ℕ) (xs : List Timed) (is : l ≡ channels o.wires s)
     (advances : AdvancesTap old (replicate n l) xs new) where
   pub advances-run : AdvancesTap old (levels o (replicate n s)) xs new
   advances-run =

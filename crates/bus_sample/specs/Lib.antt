@@ -5,6 +5,5 @@ pub mod Facts
 pub mod Counted
 pub mod Samples
 pub mod Looks
-pub mod Executes
 pub mod Laws
 pub mod Internal

@@ -4,7 +4,8 @@ use Rattle.std.specs.List.{flat_map}
 use Rattle.bus_line.specs.Due.{places}
 use Rattle.bus_tap.specs.Arrival.{Arrival}
 use Rattle.bus_tap.specs.Recorded.{record_at}
-use Rattle.bus_tap.specs.Sampled.{sampled}
+use Rattle.bus_tap.specs.Sampled.{timed}
+use Rattle.bus_tap.specs.Stopped.{with_stops}
 use Rattle.bus_tap.specs.Tapped.{channels}
 use Rattle.bus_sample.specs.declared.options.Form.{Form}
 use Rattle.bus_sample.specs.declared.options.Form.TheVariants.{Samples, Runs}
@@ -33,6 +34,6 @@ cut_record form xs = drop (length xs / size_of form * size_of form) xs
 abbrev pub levels : SampleOptions → List ℕ → List ℕ
 levels o samples = map (channels o.wires) samples
 
--- the bits that arrive in them
+-- the bits that arrive in them, with those put in behind stops
 abbrev pub arrivals : SampleOptions → List ℕ → List Arrival
-arrivals o samples = sampled o.hold (levels o samples)
+arrivals o samples = with_stops o.rest (timed o.hold (levels o samples))

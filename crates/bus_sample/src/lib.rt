@@ -8,16 +8,12 @@ pub mod laws;
 mod marks;
 mod octets;
 mod options;
-mod program;
 mod reader;
 mod recording_reader;
-mod request;
 mod sample;
 
 pub use facts::put_facts;
 pub use fault::SampleFault;
 pub use options::{Form, SampleOptions};
-pub use program::execute;
 pub use recording_reader::{CountedReader, ReadFailed, RecordingReader};
-pub use request::Request;
 pub use sample::sample_recording;

@@ -39,6 +39,9 @@ pub struct SampleOptions {
     pub hold: u32,
     /// By how many samples two distances of bits may differ.
     pub jump: u64,
+    /// The longest distance of two bits of a line without a stop of its clock, in samples; 0 for any. A bit behind a
+    /// stop comes behind fifteen 1s.
+    pub rest: u64,
     /// Whether facts are told after each read.
     pub looks: bool,
     /// How often the reader may be called.

@@ -77,7 +77,7 @@ impl SampleRun {
             options: *options,
             levels: levels_of(&options.wires),
             tap: Tap::new(options.hold, options.jump),
-            marks: Marks::new(),
+            marks: Marks::new(options.rest),
             part: ArrayVec::new(),
             octets: 0,
         })
@@ -107,7 +107,8 @@ impl SampleRun {
         if taken.edges.is_none() {
             return Ok(taken.samples);
         }
-        match self.marks.put(taken.edges, w) {
+        let last = self.tap.samples() - 1;
+        match self.marks.put(last, taken.edges, w) {
             Ok(()) => Ok(taken.samples),
             Err(cut) => Err(SampleFault::Write(cut.sent)),
         }
@@ -297,8 +298,9 @@ impl SampleRun {
         ensures sound { IsSoundRun self.new }
     {
         let block = wires.block(octets);
+        let from = self.tap.samples();
         let edges = self.tap.consume_block(&block);
-        match self.marks.put_block(&edges, w) {
+        match self.marks.put_block(from, &edges, w) {
             Ok(()) => Ok(()),
             Err(cut) => Err(SampleFault::Write(cut.sent)),
         }

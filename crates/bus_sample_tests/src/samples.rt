@@ -2,7 +2,7 @@
 
 use crate::expect::same;
 use bus_rows::fakes::{Narrow, Pieces};
-use bus_sample_tool::{CountedReader, run};
+use bus_sample_tool::{CountedReader, FaultOutput, run};
 use std::alloc::Global;
 use std::process::Abort;
 
@@ -161,7 +161,7 @@ fn see(rt: &impl Abort, alloc: Global, row: &Run, piece: usize, fails_at: u64) {
         fails_at,
     });
     let mut out = Vec::new(alloc);
-    let mut err = Vec::new(alloc);
+    let mut err = FaultOutput::new(Vec::new(alloc));
     let status = run(alloc, row.words, &mut reader, &mut out, &mut err);
     let case = format_args!("{:?} by {piece}", row.words);
     same(
@@ -172,7 +172,7 @@ fn see(rt: &impl Abort, alloc: Global, row: &Run, piece: usize, fails_at: u64) {
     );
     same(
         rt,
-        std::str::from_utf8(err.as_slice()).ok(),
+        std::str::from_utf8(err.writer.as_slice()).ok(),
         Some(row.faults),
         &case,
     );
@@ -217,7 +217,7 @@ fn looks_at_samples(rt: HostRuntime) {
         fails_at: 0,
     });
     let mut out = Vec::new(rt.alloc());
-    let mut err = Narrow::new(rt.alloc(), 4096, false);
+    let mut err = FaultOutput::new(Narrow::new(rt.alloc(), 4096, false));
     let status = run(rt.alloc(), &LIVE, &mut reader, &mut out, &mut err);
     let case = format_args!("live");
     let mut wanted = Vec::new(rt.alloc());
@@ -226,7 +226,7 @@ fn looks_at_samples(rt: HostRuntime) {
             .extend_from_slice(facts.as_bytes())
             .expect(&rt, "memory");
     }
-    same(&rt, err.out.as_slice(), wanted.as_slice(), &case);
+    same(&rt, err.writer.out.as_slice(), wanted.as_slice(), &case);
     same(&rt, status, 0, &case);
 }
 
@@ -241,16 +241,17 @@ fn looks_without_room(rt: HostRuntime) {
             fails_at: 0,
         });
         let mut out = Vec::new(rt.alloc());
-        let mut err = Narrow::new(rt.alloc(), room, false);
+        let mut err = FaultOutput::new(Narrow::new(rt.alloc(), room, false));
         let status = run(rt.alloc(), &LIVE, &mut reader, &mut out, &mut err);
         let case = format_args!("room for {room}");
         same(&rt, out.as_slice(), text.as_bytes(), &case);
         same(
             &rt,
-            Some(err.out.as_slice()),
+            Some(err.writer.out.as_slice()),
             HALF.as_bytes().get(..room),
             &case,
         );
+        same(&rt, err.has_failed, true, &case);
         same(&rt, status, 2, &case);
     }
 }
@@ -278,17 +279,36 @@ fn narrow_writers_of_samples(rt: HostRuntime) {
     for room in 0..8 {
         let mut reader = CountedReader::new(SAMPLES);
         let mut writer = Narrow::new(rt.alloc(), room, false);
-        let mut err = Vec::new(rt.alloc());
+        let mut err = FaultOutput::new(Vec::new(rt.alloc()));
         let words = ["0", "1", "2", "3", "--hold", "0"];
         let status = run(rt.alloc(), &words, &mut reader, &mut writer, &mut err);
         let case = format_args!("room for {room}");
         same(&rt, writer.out.as_slice(), &TEXT.as_bytes()[..room], &case);
         same(
             &rt,
-            err.as_slice(),
+            err.writer.as_slice(),
             b"port1-sample: write failed\n".as_slice(),
             &case,
         );
         same(&rt, status, 2, &case);
     }
+}
+
+/// Help that finds no room is a fault, which is reported.
+#[test]
+fn help_without_room(rt: HostRuntime) {
+    let mut reader = CountedReader::new(SAMPLES);
+    let mut writer = Narrow::new(rt.alloc(), 9, false);
+    let mut err = FaultOutput::new(Vec::new(rt.alloc()));
+    let status = run(rt.alloc(), &["--help"], &mut reader, &mut writer, &mut err);
+    let case = format_args!("help");
+    same(&rt, writer.out.as_slice(), b"Takes the".as_slice(), &case);
+    same(
+        &rt,
+        err.writer.as_slice(),
+        b"port1-sample: write failed\n".as_slice(),
+        &case,
+    );
+    same(&rt, err.has_failed, false, &case);
+    same(&rt, status, 2, &case);
 }

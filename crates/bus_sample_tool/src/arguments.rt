@@ -2,8 +2,9 @@
 
 ghost use Rattle.std.specs.Prelude.{◌≡◌, ◌^◌, IfOk};
 
+use crate::request::Request;
 use bus_arguments::table::{ArgumentRow, FLAG, NUMBER, Takes, with_arguments};
-use bus_sample::{Form, Request, SampleOptions};
+use bus_sample::{Form, SampleOptions};
 use bus_tap::{Wire, Wires};
 use clap::{ArgMatches, Command, Error};
 use std::alloc::Global;
@@ -25,6 +26,9 @@ may have the same clock.
 
 A bit is taken where its clock rises: the level of its data just before. A glitch of one sample
 is left out. Recordings with fewer than four samples for a bit want `--hold 0`.
+
+A sender may stop its clock some bits behind a frame. With `--rest N` fifteen ones of the line
+come before its next bit, so that what stands before the stop does not run into the next frame.
 
 The bits are written in the order of arrival: 0 and 1 of the controller's line, o and i of the
 stations'. `port1 list --arrivals --bits` reads them or, of one line, `port1 list --bits`.
@@ -118,12 +122,18 @@ const WIRES: [ArgumentRow; 4] = [
 ];
 
 /// The options that say how levels are taken.
-const LEVELS: [ArgumentRow; 6] = [
+const LEVELS: [ArgumentRow; 7] = [
     ArgumentRow {
         name: "hold",
         takes: Takes::Number(0, 65535),
         defaults: &["1"],
         help: "A level counts once it stood in N + 1 samples",
+        ..NUMBER
+    },
+    ArgumentRow {
+        name: "rest",
+        defaults: &["0"],
+        help: "A clock that stands for more than N samples has stopped; 0: never",
         ..NUMBER
     },
     ArgumentRow {
@@ -247,6 +257,7 @@ pub fn read_arguments(alloc: Global, words: &[&str]) -> Result<Request, Refusal>
             wires,
             hold: found.get_one("hold").unwrap_or(HOLD),
             jump: found.get_one("jump").unwrap_or(JUMP),
+            rest: found.get_one("rest").unwrap_or(0),
             looks: found.get_flag("live"),
             reads: READS,
         },

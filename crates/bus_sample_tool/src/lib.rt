@@ -2,7 +2,13 @@
 #![tactic(auto)]
 
 mod arguments;
+mod faults;
 mod program;
+mod refuse;
+mod report;
+mod request;
 
 pub use bus_sample::CountedReader;
+pub use faults::{FaultOutput, FaultWriter};
 pub use program::run;
+pub use request::Request;

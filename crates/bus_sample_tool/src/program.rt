@@ -1,27 +1,23 @@
 //! The program.
 
 ghost use Rattle.std.specs.Prelude.{◌≡◌, ◌-◌, ◌<◌, ◌^◌, ◌⊎◌};
-ghost use Rattle.bus_sample.specs.Executes.{ExecutesSampling};
-ghost use Rattle.bus_sample.specs.declared.request.Request.{Request};
+ghost use Rattle.bus_sample_tool.specs.declared.request.Request.{Request};
+ghost use Rattle.bus_sample_tool.specs.Executes.{ExecutesSampling, RefusesWords, Tells};
 
-use crate::arguments::{Refusal, read_arguments};
-use bus_sample::{RecordingReader, execute};
-use bus_text::put_text;
-use clap::Error;
-use std::alloc::{AllocError, Global};
+use crate::arguments::read_arguments;
+use crate::faults::FaultWriter;
+use crate::refuse::refuse;
+use crate::report::{FINE, fail};
+use bus_sample::{RecordingReader, SampleFault, put_facts, sample_recording};
+use bus_tap::TapFacts;
+use std::alloc::Global;
 use std::io::Write;
 
-/// The status of a help text.
-const FINE: u8 = 0;
-
-/// The status of any fault.
-const FAULT: u8 = 2;
-
-/// Runs the program `port1-sample`, and returns its status: 0, or 2 for any fault.
+/// Runs the program `port1-sample`, and returns its status: 0, or 2 for any fault, which is reported.
 ///
 /// `words` are its arguments without its name. A recording is read from `r`. Its arrivals and help go to `w`, facts and
 /// faults to `e`; that `e` fails at a fault is ignored.
-pub fn run<R: RecordingReader, W: Write, E: Write>(
+pub fn run<R: RecordingReader, W: Write, E: FaultWriter>(
     alloc: Global,
     words: &[&str],
     r: &mut R,
@@ -32,49 +28,31 @@ pub fn run<R: RecordingReader, W: Write, E: Write>(
     ensures status { (result ≡ 0) ⊎ (result ≡ 2) }
     ensures executes { ((request : Request) × (request.options.reads ≡ 2 ^ 40)
         × ExecutesSampling request (R.remaining r.old) (R.remaining r.new) (R.failures r.old) (R.failures r.new)
-        (W.contents w.old) (W.contents w.new) (E.contents e.old) (E.contents e.new) result)
-        ⊎ ((R.remaining r.new ≡ R.remaining r.old) × (R.failures r.new ≡ R.failures r.old)) }
+        (W.contents w.old) (W.contents w.new) (E.contents e.old) (E.contents e.new) (E.has_failed e.new) result)
+        ⊎ ((R.remaining r.new ≡ R.remaining r.old) × (R.failures r.new ≡ R.failures r.old)
+        × RefusesWords (W.contents w.old) (W.contents w.new) (E.contents e.old) (E.contents e.new) (E.has_failed e.new)
+        result) }
 {
     match read_arguments(alloc, words) {
-        Ok(request) => execute(&request, r, w, e),
+        Ok(request) => {
+            let answer = sample_recording(&request.options, r, w, e);
+            tell(request.tells_facts, answer, e)
+        }
         Err(refusal) => refuse(alloc, &refusal, w, e),
     }
 }
 
-/// Reports what the words have wrong, or the help that they ask for.
-fn refuse<W: Write, E: Write>(alloc: Global, refusal: &Refusal, w: &mut W, e: &mut E) -> u8
-    ensures { (result ≡ 0) ⊎ (result ≡ 2) }
+/// Tells how a run ended, and returns its status.
+fn tell<E: FaultWriter>(tells_facts: bool, answer: Result<TapFacts, SampleFault>, e: &mut E) -> u8
+    ensures status { (result ≡ 0) ⊎ (result ≡ 2) }
+    ensures tells { Tells tells_facts answer (E.contents e.old) (E.contents e.new) (E.has_failed e.new) result }
 {
-    match refusal {
-        Refusal::Bit(number) => {
-            let _ = writeln!(e, "port1-sample: a sample has no bit {number}");
-            FAULT
-        }
-        Refusal::Arguments(error) => refuse_words(alloc, error, w, e),
+    match answer {
+        Err(fault) => fail(&fault, e),
+        Ok(_) if !tells_facts => FINE,
+        Ok(facts) => match put_facts(&facts, e) {
+            Ok(()) => FINE,
+            Err(_) => fail(&SampleFault::Facts, e),
+        },
     }
-}
-
-fn refuse_words<W: Write, E: Write>(alloc: Global, error: &Error, w: &mut W, e: &mut E) -> u8
-    ensures { (result ≡ 0) ⊎ (result ≡ 2) }
-{
-    let text = match text_of(alloc, error) {
-        Ok(text) => text,
-        Err(_) => {
-            let _ = writeln!(e, "port1-sample: no memory");
-            return FAULT;
-        }
-    };
-    if error.use_stderr() {
-        let _ = put_text(e, text.as_bytes());
-        return FAULT;
-    }
-    if put_text(w, text.as_bytes()).is_err() || w.flush().is_err() {
-        let _ = writeln!(e, "port1-sample: write failed");
-        return FAULT;
-    }
-    FINE
-}
-
-fn text_of(alloc: Global, error: &Error) -> Result<String, AllocError> {
-    format!(in alloc; "{error}")
 }

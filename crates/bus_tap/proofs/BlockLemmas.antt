@@ -12,12 +12,12 @@ use Rattle.std.proofs.lemmas.Nat.Bits.{bit_at-zero}
 use Rattle.bus_line.specs.Due.{places}
 use Rattle.bus_pairing.specs.declared.line.Line.{Line}
 use Rattle.bus_pairing.specs.declared.line.Line.TheVariants.{First, Second}
-use Rattle.bus_tap.specs.Blocks.{ArriveEach, has_bit, ones_in, bit_in, edges_in, block_arrivals}
+use Rattle.bus_tap.specs.Blocks.{has_bit, ones_in, bit_in, edges_in, block_arrivals}
 use Rattle.bus_tap.specs.Facts.{AreFacts, AreFactsOf, IsTallied, bit_samples, changes, changes_high, places_where}
 use Rattle.bus_tap.specs.Internal.Counts.{AreBitFacts, CountsLine, AreCounted, bit_between, clock_changed, clock_rose}
 use Rattle.bus_tap.specs.Internal.Counts.{data_changed, data_changed_high, marked}
 use Rattle.bus_tap.specs.Sampled.{Channel, bit_on, bits_of_edges, clock_of, counted_level, data_of, edge, rises}
-use Rattle.bus_tap.specs.Sampled.{sampled}
+use Rattle.bus_tap.specs.Sampled.{timed, with_sample}
 use Rattle.bus_tap.specs.declared.block.CountedBlock.{CountedBlock}
 use Rattle.bus_tap.specs.declared.block.CountedLine.{CountedLine}
 use Rattle.bus_tap.specs.declared.block.EdgeBlock.{EdgeBlock}
@@ -26,7 +26,7 @@ use Rattle.bus_tap.specs.declared.facts.Occurrences.{Occurrences}
 use Rattle.bus_tap.proofs.EachLemmas.{places-same, places-more}
 use Rattle.bus_tap.proofs.FactsLemmas.{last-more}
 use Rattle.bus_tap.proofs.OnesLemmas.{bit-or, lowest-first, no-bit, ones-count, ones-last, where-alone, where-none}
-use Rattle.bus_tap.proofs.SampledLemmas.{bit-if, counted-front, edge-front}
+use Rattle.bus_tap.proofs.SampledLemmas.{bit-if, counted-front, edges-front}
 
 -- what so many places more bring
 pub places-both : {Y : Type 0} (f g h : ℕ → List Y) (n m : ℕ) → ((i : ℕ) → i < n → f i ≡ g i) →
@@ -255,26 +255,17 @@ module _ (hold : ℕ) (ss more : List ℕ) (long : length more ≡ 64) where
         sym (bit-if line (clock_rose c i) (has_bit c.before.bits i)
         ∙ rw (counts.clock_before i inside, counts.clock_after i inside, counts.bits_before i inside) refl)
 
-  pub each-block : (c : CountedBlock) (e : EdgeBlock) → AreCounted hold ss more c →
-      ((i : ℕ) → i < 64 → bit_in e.first i ≡ bit_between c.first i) →
-      ((i : ℕ) → i < 64 → bit_in e.second i ≡ bit_between c.second i) → ArriveEach hold ss more e
-  each-block c e counts first second i inside = rw (
-    edge-block First c.first counts.0 i inside,
-    edge-block Second c.second counts.1 i inside,
-    first i inside,
-    second i inside,
-  ) refl
-
-  pub sampled-block : (c : CountedBlock) (e : EdgeBlock) → AreCounted hold ss more c →
+  pub timed-block : (c : CountedBlock) (e : EdgeBlock) → AreCounted hold ss more c →
       ((i : ℕ) → i < 64 → bit_in e.first i ≡ bit_between c.first i) →
       ((i : ℕ) → i < 64 → bit_in e.second i ≡ bit_between c.second i) →
-      sampled hold (ss ++ more) ≡ sampled hold ss ++ block_arrivals e
+      timed hold (ss ++ more) ≡ timed hold ss ++ block_arrivals (length ss) e
   unfolding block_arrivals
-  sampled-block c e counts first second =
-      ap (λ n. flat_map (λ i. edge hold all First i ++ edge hold all Second i) (places n)) size
-      ∙ places-both (λ i. edge hold all First i ++ edge hold all Second i)
-      (λ i. edge hold ss First i ++ edge hold ss Second i) (λ i. bits_of_edges (edges_in e i)) (length ss) 64
-      (λ i inside. rw (edge-front hold ss more First i inside, edge-front hold ss more Second i inside) refl)
+  timed-block c e counts first second =
+      ap (λ n. flat_map (λ i. with_sample i (edge hold all First i ++ edge hold all Second i)) (places n)) size
+      ∙ places-both (λ i. with_sample i (edge hold all First i ++ edge hold all Second i))
+      (λ i. with_sample i (edge hold ss First i ++ edge hold ss Second i))
+      (λ i. with_sample (length ss + i) (bits_of_edges (edges_in e i))) (length ss) 64
+      (λ i inside. ap (with_sample i) (edges-front hold ss more i inside))
       (λ i inside. rw (
         edge-block First c.first counts.0 i inside,
         edge-block Second c.second counts.1 i inside,
@@ -283,13 +274,15 @@ module _ (hold : ℕ) (ss more : List ℕ) (long : length more ≡ 64) where
       ) refl)
 
 -- what arrives in a block comes where a clock rises
-pub arrivals-ones : (e : EdgeBlock) → block_arrivals e
-    ≡ flat_map (λ i. bits_of_edges (edges_in e i)) (ones_in (bit_or e.first.rises e.second.rises))
+pub arrivals-ones : (from : ℕ) (e : EdgeBlock) → block_arrivals from e
+    ≡ flat_map (λ i. with_sample (from + i) (bits_of_edges (edges_in e i)))
+    (ones_in (bit_or e.first.rises e.second.rises))
 unfolding block_arrivals ones_in
-arrivals-ones e =
-    where-alone (λ i. bits_of_edges (edges_in e i)) (has_bit (bit_or e.first.rises e.second.rises)) 64
-    (λ i none. quiet i (has_bit e.first.rises i) (has_bit e.second.rises i) refl refl
-    (sym (bit-or e.first.rises e.second.rises i) ∙ none))
+arrivals-ones from e =
+    where-alone (λ i. with_sample (from + i) (bits_of_edges (edges_in e i)))
+    (has_bit (bit_or e.first.rises e.second.rises)) 64
+    (λ i none. ap (with_sample (from + i)) (quiet i (has_bit e.first.rises i) (has_bit e.second.rises i) refl refl
+    (sym (bit-or e.first.rises e.second.rises i) ∙ none)))
   where
     quiet : (i : ℕ) (a b : Bool) → has_bit e.first.rises i ≡ a → has_bit e.second.rises i ≡ b → (a || b) ≡ false →
         bits_of_edges (edges_in e i) ≡ []

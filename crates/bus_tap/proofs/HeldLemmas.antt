@@ -7,17 +7,17 @@ use Rattle.std.proofs.lemmas.Bool.{cases_lt}
 use Rattle.bus_pairing.specs.declared.line.Line.{Line}
 use Rattle.bus_pairing.specs.declared.line.Line.TheVariants.{First, Second}
 use Rattle.bus_tap.specs.Facts.{AreLevels}
-use Rattle.bus_tap.specs.Sampled.{Channel, clock_of, data_of, bit_on, bits_of_edges, edge, sampled}
+use Rattle.bus_tap.specs.Sampled.{Channel, clock_of, data_of, bit_on, bits_of_edges, edge, timed, with_sample}
 use Rattle.bus_tap.specs.Sampled.{SamplerState, HeldState, IsHeldAfter, IsAfterSamples}
-use Rattle.bus_tap.specs.Tapped.{TapState, AdvancesTap, BringNone}
+use Rattle.bus_tap.specs.Tapped.{TapState, AdvancesTap}
 use Rattle.bus_tap.specs.Internal.Held.{IsHeldAt, AreHeldAt, next_state, levels_in, bit_after, held_clock, held_data}
 use Rattle.bus_tap.specs.Internal.Tallies.{AdvancesFacts}
 use Rattle.bus_tap.specs.Internal.Taps.{HasHold, IsStill}
 use Rattle.bus_tap.specs.declared.facts.LineFacts.{LineFacts}
 use Rattle.bus_tap.specs.declared.sampler.Edges.{Edges}
 use Rattle.bus_tap.proofs.EachLemmas.{length-more}
-use Rattle.bus_tap.proofs.SampledLemmas.{held-more, edge-is, sampled-more}
-use Rattle.bus_tap.proofs.TapLemmas.{KeepsLevels, advances-nothing, advances-further, brings-none, passes-one}
+use Rattle.bus_tap.proofs.SampledLemmas.{held-more, edge-is, timed-more}
+use Rattle.bus_tap.proofs.TapLemmas.{KeepsLevels, advances-nothing, advances-further, passes-one}
 use Rattle.bus_tap.proofs.TapLemmas.{facts-more}
 use Rattle.bus_tap.proofs.TapLemmas.{replicate-last, replicate-more, levels-now, levels-before}
 
@@ -174,21 +174,12 @@ module _ (hold b s : ℕ) where
         wait-none (data_of Second) old.second_bits settled.second_bits,
       ) refl
 
--- until they count they bring none
-pub waits-quietly : (t : TapState) (o : Option SamplerState) (b s : ℕ) → t.sampler ≡ o → IsStill o b →
-    HasHold t.hold o → BringNone t (replicate t.hold s)
-waits-quietly t None b s is was of = absurd was
-waits-quietly t (Some old) b s is was of =
-    let start : t.sampler ≡ Some (waiting t.hold b s 0) = is ∙ ap Some (settled-waits t.hold b s old of was) in
-    brings-none t (record t { sampler = Some (waiting t.hold b s t.hold); samples = t.samples + t.hold })
-    (replicate t.hold s) (waits t.hold b s t start t.hold (omega arith))
-
 pub consumes-held : (t : TapState) (o : Option SamplerState) (new : SamplerState) (b s : ℕ) (first second : LineFacts)
     (e : Edges) → t.sampler ≡ o → IsStill o b → HasHold t.hold o → new.hold ≡ t.hold → AreHeldAt new s →
     AdvancesFacts t.jump t.first (t.samples + t.hold) (levels_in First b) (levels_in First s) first →
     AdvancesFacts t.jump t.second (t.samples + t.hold) (levels_in Second b) (levels_in Second s) second →
     e ≡ record { first = bit_after First b s; second = bit_after Second b s } →
-    AdvancesTap t (replicate (t.hold + 1) s) (bits_of_edges e)
+    AdvancesTap t (replicate (t.hold + 1) s) (with_sample (t.samples + t.hold) (bits_of_edges e))
     (record t { sampler = Some new; samples = t.samples + t.hold + 1; first = first; second = second })
 consumes-held t None new b s first second e is was of held settled one two edges = absurd was
 consumes-held t (Some old) new b s first second e is was of held settled one two edges =
@@ -197,7 +188,8 @@ consumes-held t (Some old) new b s first second e is was of held settled one two
     rw (replicate-more t.hold s)
     (advances-further t (record t { sampler = Some wait; samples = t.samples + t.hold })
     (record t { sampler = Some new; samples = t.samples + t.hold + 1; first = first; second = second })
-    (replicate t.hold s) (s ∷ []) [] (bits_of_edges e) (waits t.hold b s t start t.hold (omega arith)) (record {
+    (replicate t.hold s) (s ∷ []) [] (with_sample (t.samples + t.hold) (bits_of_edges e))
+    (waits t.hold b s t start t.hold (omega arith)) (record {
       hold = refl;
       jump = refl;
       samples = refl;
@@ -222,7 +214,7 @@ consumes-held t (Some old) new b s first second e is was of held settled one two
                 (sym (ap (λ (h : HeldState). h.level) settled.second_bits))))
                 (rw (after.samples) at (two _ _ _ _ after.second));
           };
-      sampled = λ ss after.
-          sampled-more t.hold ss s ∙ ap (λ xs. sampled t.hold ss ++ xs)
-          (sym (edges-are t.hold b s new held settled ss after.sampler.1) ∙ ap bits_of_edges (sym edges));
+      timed = λ ss after. rw (after.samples)
+          (timed-more t.hold ss s ∙ ap (λ xs. timed t.hold ss ++ with_sample (length ss) xs)
+          (sym (edges-are t.hold b s new held settled ss after.sampler.1) ∙ ap bits_of_edges (sym edges)));
     }))

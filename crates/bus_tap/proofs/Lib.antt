@@ -11,6 +11,7 @@ pub mod SampledLemmas
 pub mod SameSampleLemmas
 pub mod CountedLemmas
 pub mod FactsLemmas
+pub mod StopLemmas
 pub mod TapLemmas
 pub mod HeldLemmas
 pub mod OnesLemmas

@@ -7,7 +7,8 @@ use Rattle.std.proofs.Math.Seq.{get_or-append_seam}
 use Rattle.std.proofs.lemmas.Bool.{cases_lt, eqb-true, eqb-false}
 use Rattle.bus_pairing.specs.declared.line.Line.{Line}
 use Rattle.bus_pairing.specs.declared.line.Line.TheVariants.{First, Second}
-use Rattle.bus_tap.specs.Sampled.{Channel, clock_of, data_of, level, stood, counted_level, edge, sampled, bit_on}
+use Rattle.bus_tap.specs.Sampled.{Channel, clock_of, data_of, level, stood, counted_level, edge, bit_on}
+use Rattle.bus_tap.specs.Sampled.{timed, with_sample}
 use Rattle.bus_tap.specs.Sampled.{HeldState, IsHeldAfter}
 use Rattle.bus_tap.specs.Internal.Held.{next_state}
 use Rattle.bus_tap.proofs.EachLemmas.{each-more, length-more}
@@ -41,15 +42,18 @@ edge-front hold ss ts line i inside =
       counted-front (data_of line) ss ts hold (i - 1) (omega (arith, inside)),
     ) refl
 
-pub sampled-more : (hold : ℕ) (ss : List ℕ) (s : ℕ) → sampled hold (ss ++ s ∷ [])
-    ≡ sampled hold ss
-    ++ (edge hold (ss ++ s ∷ []) First (length ss) ++ edge hold (ss ++ s ∷ []) Second (length ss))
-sampled-more hold ss s =
-    each-more (λ i. edge hold (ss ++ s ∷ []) First i ++ edge hold (ss ++ s ∷ []) Second i)
-    (λ i. edge hold ss First i ++ edge hold ss Second i) ss s
-    (λ i inside.
-    ap (λ xs. xs ++ edge hold (ss ++ s ∷ []) Second i) (edge-front hold ss (s ∷ []) First i inside)
-    ∙ ap (λ xs. edge hold ss First i ++ xs) (edge-front hold ss (s ∷ []) Second i inside))
+pub edges-front : (hold : ℕ) (ss ts : List ℕ) (i : ℕ) → i < length ss →
+    edge hold (ss ++ ts) First i ++ edge hold (ss ++ ts) Second i ≡ edge hold ss First i ++ edge hold ss Second i
+edges-front hold ss ts i inside =
+    rw (edge-front hold ss ts First i inside, edge-front hold ss ts Second i inside) refl
+
+pub timed-more : (hold : ℕ) (ss : List ℕ) (s : ℕ) → timed hold (ss ++ s ∷ [])
+    ≡ timed hold ss ++ with_sample (length ss)
+    (edge hold (ss ++ s ∷ []) First (length ss) ++ edge hold (ss ++ s ∷ []) Second (length ss))
+timed-more hold ss s =
+    each-more (λ i. with_sample i (edge hold (ss ++ s ∷ []) First i ++ edge hold (ss ++ s ∷ []) Second i))
+    (λ i. with_sample i (edge hold ss First i ++ edge hold ss Second i)) ss s
+    (λ i inside. ap (with_sample i) (edges-front hold ss (s ∷ []) i inside))
 
 -- a level that stood, and one that did not
 beq-same : (x y : Bool) → x ≡ y → beq x y ≡ true

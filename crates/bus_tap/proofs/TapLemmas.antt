@@ -2,22 +2,20 @@
 use Rattle.std.proofs.Common.{◌≡◌, ℕ, zero, suc, ◌+◌, ◌-◌, ◌<◌, ◌&&◌, not, Bool, true, false, if◌then◌else◌, List, []}
 use Rattle.std.proofs.Common.{◌∷◌, ◌++◌, length, replicate, refl, sym, ap, ◌∙◌, arith, append-nil, append_assoc}
 use Rattle.std.proofs.Common.{length-append, subst, Some, None}
-use Rattle.std.proofs.lemmas.List.{append_cancel_left}
 use Rattle.std.specs.Bool.{beq}
 use Rattle.bus_pairing.specs.declared.line.Line.{Line}
 use Rattle.bus_pairing.specs.declared.line.Line.TheVariants.{First, Second}
 use Rattle.bus_tap.specs.Facts.{AreFacts, AreFactsOf, AreLevels, places_where, changes, changes_high, bit_samples}
-use Rattle.bus_tap.specs.Sampled.{Channel, clock_of, data_of, counted_level, rises, sampled}
+use Rattle.bus_tap.specs.Sampled.{Channel, Timed, clock_of, data_of, counted_level, rises, timed, with_sample}
 use Rattle.bus_tap.specs.Sampled.{SamplerState, HeldState, IsHeldAfter, IsAfterSamples, edge}
 use Rattle.bus_tap.specs.Internal.Tallies.{where_is}
 use Rattle.bus_tap.specs.Internal.Held.{IsHeldAt, AreHeldAt, next_state, held_clock, held_data}
 use Rattle.std.specs.Prelude.{Option, MatchOption}
-use Rattle.bus_tap.specs.Arrival.{Arrival}
-use Rattle.bus_tap.specs.Tapped.{TapState, AdvancesTap, BringNone}
+use Rattle.bus_tap.specs.Tapped.{TapState, AdvancesTap}
 use Rattle.bus_tap.specs.declared.facts.Levels.{Levels}
 use Rattle.bus_tap.specs.declared.facts.LineFacts.{LineFacts}
 use Rattle.bus_tap.proofs.EachLemmas.{each-more, length-more}
-use Rattle.bus_tap.proofs.SampledLemmas.{counted-front, held-more, sampled-more}
+use Rattle.bus_tap.proofs.SampledLemmas.{counted-front, held-more, timed-more}
 
 module _ (hold : ℕ) (ss : List ℕ) (s : ℕ) where
   abbrev more : List ℕ
@@ -85,19 +83,19 @@ advances-nothing t = record {
   jump = refl;
   samples = omega arith;
   after = λ ss after. rw (append-nil ss) after;
-  sampled = λ ss after. rw (append-nil ss) (sym (append-nil (sampled t.hold ss)));
+  timed = λ ss after. rw (append-nil ss) (sym (append-nil (timed t.hold ss)));
 }
 
-pub advances-further : (old mid new : TapState) (ss ts : List ℕ) (xs ys : List Arrival) →
+pub advances-further : (old mid new : TapState) (ss ts : List ℕ) (xs ys : List Timed) →
     AdvancesTap old ss xs mid → AdvancesTap mid ts ys new → AdvancesTap old (ss ++ ts) (xs ++ ys) new
 advances-further old mid new before behind xs ys one two = record {
   hold = two.hold ∙ one.hold;
   jump = two.jump ∙ one.jump;
   samples = omega (arith, one.samples, two.samples, length-append before behind);
   after = λ ss after. rw (← append_assoc) (two.after (ss ++ before) (one.after ss after));
-  sampled = λ ss after. rw (← append_assoc)
-      (rw (one.hold) at (two.sampled (ss ++ before) (one.after ss after))
-      ∙ ap (λ zs. zs ++ ys) (one.sampled ss after) ∙ append_assoc (sampled old.hold ss) xs ys);
+  timed = λ ss after. rw (← append_assoc)
+      (rw (one.hold) at (two.timed (ss ++ before) (one.after ss after))
+      ∙ ap (λ zs. zs ++ ys) (one.timed ss after) ∙ append_assoc (timed old.hold ss) xs ys);
 }
 
 pub replicate-more : (n s : ℕ) → replicate (n + 1) s ≡ replicate n s ++ s ∷ []
@@ -212,11 +210,11 @@ module _ (hold : ℕ) (old new : SamplerState) (s : ℕ) (of : old.hold ≡ hold
   no-edge : (line : Line) → edge hold (ss ++ s ∷ []) line (length ss) ≡ []
   no-edge line = rw (rise-self _ _ (clock-stays line)) refl
 
-  sampled-stays : sampled hold (ss ++ s ∷ []) ≡ sampled hold ss
-  sampled-stays =
-      sampled-more hold ss s ∙ (ap (λ xs. sampled hold ss ++ xs)
+  timed-stays : timed hold (ss ++ s ∷ []) ≡ timed hold ss
+  timed-stays =
+      timed-more hold ss s ∙ (ap (λ xs. timed hold ss ++ with_sample (length ss) xs)
       (ap (λ xs. xs ++ edge hold (ss ++ s ∷ []) Second (length ss)) (no-edge First) ∙ no-edge Second)
-      ∙ append-nil (sampled hold ss))
+      ∙ append-nil (timed hold ss))
 
 -- a tap with a sample more that changes no level
 pub passes-one : (t : TapState) (old new : SamplerState) (s : ℕ) → t.sampler ≡ Some old → KeepsLevels old new →
@@ -235,9 +233,9 @@ passes-one t old new s is keeps next o so n count = record {
         first = facts-stay t.hold old new s was.0 keeps ss was.1 now t.jump First t.first after.first;
         second = facts-stay t.hold old new s was.0 keeps ss was.1 now t.jump Second t.second after.second;
       };
-  sampled = λ ss after.
+  timed = λ ss after.
       let was = rw is at after.sampler in
-      sampled-stays t.hold old new s was.0 keeps ss was.1 (next ss was.1) ∙ sym (append-nil (sampled t.hold ss));
+      timed-stays t.hold old new s was.0 keeps ss was.1 (next ss was.1) ∙ sym (append-nil (timed t.hold ss));
 }
 
 pub replicate-last : (n s : ℕ) → replicate (suc n) s ≡ replicate n s ++ s ∷ []
@@ -283,50 +281,3 @@ levels-before sampler line ss s l after clock bits =
       clock = now.clock ∙ sym (counted-front (clock_of line) ss (s ∷ []) sampler.hold (length ss - 1) inside);
       bits = now.bits ∙ sym (counted-front (data_of line) ss (s ∷ []) sampler.hold (length ss - 1) inside);
     }
-
--- samples with which none arrives bring none
-pub brings-none : (t new : TapState) (more : List ℕ) → AdvancesTap t more [] new → BringNone t more
-brings-none t new more advances ss after = advances.sampled ss after ∙ append-nil (sampled t.hold ss)
-
--- what the last of some samples brings
-abbrev last-edges : ℕ → ℕ → List ℕ → ℕ → List Arrival
-last-edges hold s ss n =
-    edge hold ((ss ++ replicate n s) ++ s ∷ []) First (length (ss ++ replicate n s))
-    ++ edge hold ((ss ++ replicate n s) ++ s ∷ []) Second (length (ss ++ replicate n s))
-
-sampled-last : (hold s : ℕ) (ss : List ℕ) (n : ℕ) → sampled hold (ss ++ replicate (suc n) s)
-    ≡ sampled hold (ss ++ replicate n s) ++ last-edges hold s ss n
-sampled-last hold s ss n =
-    ap (sampled hold) (ap (λ xs. ss ++ xs) (replicate-last n s) ∙ sym (append_assoc ss (replicate n s) (s ∷ [])))
-    ∙ sampled-more hold (ss ++ replicate n s) s
-
--- with more samples only more bits arrive
-sampled-grows : (hold s : ℕ) (ss : List ℕ) (n : ℕ) → (rest : List Arrival)
-    × (sampled hold (ss ++ replicate n s) ≡ sampled hold ss ++ rest)
-sampled-grows hold s ss zero = ([], ap (sampled hold) (append-nil ss) ∙ sym (append-nil (sampled hold ss)))
-sampled-grows hold s ss (suc n) =
-    let before = sampled-grows hold s ss n in (
-      before.0 ++ last-edges hold s ss n,
-      sampled-last hold s ss n
-          ∙ (ap (λ xs. xs ++ last-edges hold s ss n) before.1
-          ∙ append_assoc (sampled hold ss) before.0 (last-edges hold s ss n)),
-    )
-
-none-of-both : (xs ys : List Arrival) → xs ++ ys ≡ [] → xs ≡ []
-none-of-both [] ys none = refl
-none-of-both (x ∷ xs) ys none = absurd (cc)
-
--- so without the last they bring none either
-pub brings-fewer : (t : TapState) (s n : ℕ) → BringNone t (replicate n s) → BringNone t (replicate (n - 1) s)
-brings-fewer t s zero none ss after = none ss after
-brings-fewer t s (suc n) none ss after =
-    let grown = sampled-grows t.hold s ss n in
-    let before = sampled t.hold ss in
-    let both : before ++ (grown.0 ++ last-edges t.hold s ss n) ≡ before ++ [] =
-    sym (append_assoc before grown.0 (last-edges t.hold s ss n))
-    ∙ (ap (λ xs. xs ++ last-edges t.hold s ss n) (sym grown.1)
-    ∙ (sym (sampled-last t.hold s ss n) ∙ (none ss after ∙ sym (append-nil before)))) in
-    let empty = none-of-both grown.0 (last-edges t.hold s ss n)
-    (append_cancel_left before (grown.0 ++ last-edges t.hold s ss n) [] both) in
-    let fewer : suc n - 1 ≡ n = omega arith in
-    rw fewer (grown.1 ∙ (ap (λ xs. before ++ xs) empty ∙ append-nil before))

@@ -5,9 +5,8 @@ use Rattle.std.specs.List.{flat_map}
 use Rattle.bus_bits.specs.Limits.{most_places}
 use Rattle.bus_line.specs.Due.{places}
 use Rattle.bus_pairing.specs.declared.line.Line.TheVariants.{First, Second}
-use Rattle.bus_tap.specs.Arrival.{Arrival}
 use Rattle.bus_tap.specs.Facts.{places_where}
-use Rattle.bus_tap.specs.Sampled.{Channel, clock_of, data_of, level, edge, bits_of_edges}
+use Rattle.bus_tap.specs.Sampled.{Channel, Timed, clock_of, data_of, level, bits_of_edges, with_sample}
 use Rattle.bus_tap.specs.Tapped.{TapState}
 use Rattle.bus_tap.specs.declared.block.LevelBlock.{LevelBlock}
 use Rattle.bus_tap.specs.declared.block.LineEdges.{LineEdges}
@@ -42,14 +41,9 @@ bit_in e i = if has_bit e.rises i then Some (has_bit e.bits i) else None
 abbrev pub edges_in : EdgeBlock → ℕ → Edges
 edges_in e i = record { first = bit_in e.first i; second = bit_in e.second i }
 
--- what arrives in a block
-unfoldable pub block_arrivals : EdgeBlock → List Arrival
-block_arrivals e = flat_map (λ i. bits_of_edges (edges_in e i)) (places 64)
-
--- each bit arrives with its sample, of these behind others
-abbrev pub ArriveEach : ℕ → List ℕ → List ℕ → EdgeBlock → Type 0
-ArriveEach hold ss more e = (i : ℕ) → i < 64 → bits_of_edges (edges_in e i)
-    ≡ edge hold (ss ++ more) First (length ss + i) ++ edge hold (ss ++ more) Second (length ss + i)
+-- what arrives in a block whose first sample is number `from`
+unfoldable pub block_arrivals : ℕ → EdgeBlock → List Timed
+block_arrivals from e = flat_map (λ i. with_sample (from + i) (bits_of_edges (edges_in e i))) (places 64)
 
 -- a tap had a sample, each level counts once it stood in two samples or at once, and it may take 64 samples more
 pub record TakesBlocks (t : TapState) : Type 0 where

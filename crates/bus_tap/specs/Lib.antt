@@ -5,6 +5,7 @@ pub mod Lines
 pub mod Laws
 pub mod Rested
 pub mod Sampled
+pub mod Stopped
 pub mod Facts
 pub mod Tapped
 pub mod Words

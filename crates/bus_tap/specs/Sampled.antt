@@ -3,7 +3,7 @@
 -- A sample is a number. Its bit 0 is the level of the first line's clock, bit 1 that of its data; bits 2 and 3 are
 -- those of the second line. Other bits say nothing.
 use Rattle.std.specs.Prelude.{◌≡◌, ℕ, zero, suc, ◌-◌, ◌<◌, ◌≤◌, ◌/◌, ◌%◌, ◌==◌, ◌&&◌, not, Bool, true, List, [], ◌∷◌}
-use Rattle.std.specs.Prelude.{◌++◌, length, if◌then◌else◌, Option, Some, None, slice_index}
+use Rattle.std.specs.Prelude.{◌++◌, length, map, if◌then◌else◌, Option, Some, None, slice_index}
 use Rattle.std.specs.List.{flat_map}
 use Rattle.std.specs.Bool.{beq}
 use Rattle.bus_line.specs.Due.{places}
@@ -63,6 +63,18 @@ edge hold ss line i =
 -- what arrives in these samples, of two bits in one sample the first line's first
 abbrev pub sampled : ℕ → List ℕ → List Arrival
 sampled hold ss = flat_map (λ i. edge hold ss First i ++ edge hold ss Second i) (places (length ss))
+
+-- a bit, with the number of its sample
+abbrev pub Timed : Type 0
+Timed = ℕ × Arrival
+
+abbrev pub with_sample : ℕ → List Arrival → List Timed
+with_sample i xs = map (λ x. (i, x)) xs
+
+-- what arrives in these samples, each bit with its own
+abbrev pub timed : ℕ → List ℕ → List Timed
+timed hold ss =
+    flat_map (λ i. with_sample i (edge hold ss First i ++ edge hold ss Second i)) (places (length ss))
 
 -- the bits of a sample, as they are handed out
 abbrev pub bit_on : Line → Option Bool → List Arrival

@@ -3,8 +3,7 @@ use Rattle.std.specs.Prelude.{◌≡◌, ℕ, ◌+◌, ◌/◌, ◌%◌, ◌^◌
 use Rattle.std.specs.Prelude.{if◌then◌else◌, Option, Some, None, MatchOption}
 use Rattle.std.specs.Bool.{beq}
 use Rattle.bus_pairing.specs.declared.line.Line.TheVariants.{First, Second}
-use Rattle.bus_tap.specs.Arrival.{Arrival}
-use Rattle.bus_tap.specs.Sampled.{SamplerState, IsAfterSamples, sampled}
+use Rattle.bus_tap.specs.Sampled.{SamplerState, IsAfterSamples, Timed, timed}
 use Rattle.bus_tap.specs.Facts.{AreFacts}
 use Rattle.bus_tap.specs.declared.facts.LineFacts.{LineFacts}
 use Rattle.bus_tap.specs.declared.wires.Wire.{Wire}
@@ -42,15 +41,10 @@ pub record IsTapAfter (t : TapState) (ss : List ℕ) : Type 0 where
   pub first : AreFacts t.hold t.jump First t.first ss
   pub second : AreFacts t.hold t.jump Second t.second ss
 
--- these samples bring no bit
-abbrev pub BringNone : TapState → List ℕ → Type 0
-BringNone old more = (ss : List ℕ) → IsTapAfter old ss → sampled old.hold (ss ++ more) ≡ sampled old.hold ss
-
 -- with more samples these bits arrive
-pub record AdvancesTap (old : TapState) (more : List ℕ) (xs : List Arrival) (new : TapState) : Type 0 where
+pub record AdvancesTap (old : TapState) (more : List ℕ) (ts : List Timed) (new : TapState) : Type 0 where
   pub hold : new.hold ≡ old.hold
   pub jump : new.jump ≡ old.jump
   pub samples : new.samples ≡ old.samples + length more
   pub after : (ss : List ℕ) → IsTapAfter old ss → IsTapAfter new (ss ++ more)
-  pub sampled : (ss : List ℕ) → IsTapAfter old ss
-      → sampled old.hold (ss ++ more) ≡ sampled old.hold ss ++ xs
+  pub timed : (ss : List ℕ) → IsTapAfter old ss → timed old.hold (ss ++ more) ≡ timed old.hold ss ++ ts

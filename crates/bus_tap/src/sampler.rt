@@ -7,7 +7,8 @@ ghost use Rattle.std.specs.Prelude.{IsTrue, ◌↔◌};
 ghost use Rattle.bus_tap.specs.Blocks.{HasLevels, IsBlockOf};
 ghost use Rattle.bus_tap.specs.Internal.Counts.{AreCounted, CountsLine, HadCounted, HasCounted};
 ghost use Rattle.bus_tap.specs.Internal.Held.{held_state, next_state, held_clock, held_data, AreHeldAt};
-ghost use Rattle.bus_tap.specs.Sampled.{Channel, IsAfterSamples, IsHeldAfter, sampled, bits_of_edges, no_edges};
+ghost use Rattle.bus_tap.specs.Sampled.{Channel, IsAfterSamples, IsHeldAfter, bits_of_edges, no_edges};
+ghost use Rattle.bus_tap.specs.Sampled.{timed, with_sample};
 ghost use Rattle.bus_tap.specs.Sampled.{clock_of, data_of};
 
 use crate::block::{CountedBlock, CountedLine, LevelBlock, LineBlock};
@@ -247,8 +248,8 @@ impl Sampler {
     /// The next sample. Returns the bits that arrive with it.
     #[inline(always)]
     pub fn sample(&mut self, sample: u8) -> Edges
-        ensures sampled { (ss : List ℕ) → IsAfterSamples self.old ss →
-            sampled self.old.hold (ss ++ sample ∷ []) ≡ sampled self.old.hold ss ++ bits_of_edges result }
+        ensures timed { (ss : List ℕ) → IsAfterSamples self.old ss → timed self.old.hold (ss ++ sample ∷ [])
+            ≡ timed self.old.hold ss ++ with_sample (length ss) (bits_of_edges result) }
         ensures after { (ss : List ℕ) → IsAfterSamples self.old ss → IsAfterSamples self.new (ss ++ sample ∷ []) }
         ensures hold { self.new.hold ≡ self.old.hold }
     {

@@ -4,9 +4,9 @@ ghost use Rattle.std.specs.Prelude.{◌≡◌, ◌+◌, ◌-◌, ◌<◌, ◌≤
 ghost use Rattle.std.specs.Prelude.{IfSome, MatchOption};
 ghost use Rattle.std.specs.Prelude.{replicate, length, Some, None};
 ghost use Rattle.bus_bits.specs.Limits.{most_places};
-ghost use Rattle.bus_tap.specs.Sampled.{sampled, bits_of_edges};
-ghost use Rattle.bus_tap.specs.Tapped.{AdvancesTap, BringNone, HasSampled, IsTapAfter};
-ghost use Rattle.bus_tap.specs.Blocks.{ArriveEach, IsBlockOf, TakesBlocks, block_arrivals};
+ghost use Rattle.bus_tap.specs.Sampled.{timed, bits_of_edges, with_sample};
+ghost use Rattle.bus_tap.specs.Tapped.{AdvancesTap, HasSampled, IsTapAfter};
+ghost use Rattle.bus_tap.specs.Blocks.{IsBlockOf, TakesBlocks, block_arrivals};
 ghost use Rattle.bus_tap.specs.Facts.{AreLevels, AreTapFacts};
 ghost use Rattle.bus_tap.specs.Internal.Counts.{AreCounted};
 ghost use Rattle.bus_tap.specs.Internal.Taps.{HasHold, IsSettledTap};
@@ -88,8 +88,8 @@ fn levels_of(sampler: &Option<Sampler>, line: Line) -> Levels
 #[inline(always)]
 fn step_sampler(sampler: &mut Option<Sampler>, hold: u32, sample: u8) -> Step
     ensures after { (ss : List ℕ) → HasSampled hold sampler.old ss → HasSampled hold sampler.new (ss ++ sample ∷ []) }
-    ensures sampled { (ss : List ℕ) → HasSampled hold sampler.old ss →
-        sampled hold (ss ++ sample ∷ []) ≡ sampled hold ss ++ bits_of_edges result.edges }
+    ensures timed { (ss : List ℕ) → HasSampled hold sampler.old ss → timed hold (ss ++ sample ∷ [])
+        ≡ timed hold ss ++ with_sample (length ss) (bits_of_edges result.edges) }
     ensures levels { (ss : List ℕ) → HasSampled hold sampler.old ss →
         AreLevels hold First (ss ++ sample ∷ []) (length ss - 1) result.first_before
         × AreLevels hold First (ss ++ sample ∷ []) (length ss) result.first_after
@@ -166,8 +166,8 @@ impl Tap {
         ensures unchanged { OnErr result (self.new ≡ self.old) }
         ensures fits { self.new.samples ≤ most_places }
         ensures taken { IfOk result (λ t. (t.samples ≤ count) × (1 ≤ count → 1 ≤ t.samples)
-            × AdvancesTap self.old (replicate t.samples sample) (bits_of_edges t.edges) self.new) }
-        ensures last { IfOk result (λ t. BringNone self.old (replicate (t.samples - 1) sample)) }
+            × AdvancesTap self.old (replicate t.samples sample)
+            (with_sample (self.old.samples + t.samples - 1) (bits_of_edges t.edges)) self.new) }
         ensures all { IfOk result (λ t. bits_of_edges t.edges ≡ [] → t.samples ≡ count) }
     {
         if count > MOST || self.samples > MOST - count {
@@ -204,8 +204,8 @@ impl Tap {
     fn consume_steps(&mut self, sample: u8, count: u64) -> ConsumedSamples
         requires { self.old.samples + count ≤ most_places }
         ensures some { (result.samples ≤ count) × (1 ≤ count → 1 ≤ result.samples) }
-        ensures taken { AdvancesTap self.old (replicate result.samples sample) (bits_of_edges result.edges) self.new }
-        ensures last { BringNone self.old (replicate (result.samples - 1) sample) }
+        ensures taken { AdvancesTap self.old (replicate result.samples sample)
+            (with_sample (self.old.samples + result.samples - 1) (bits_of_edges result.edges)) self.new }
         ensures all { bits_of_edges result.edges ≡ [] → result.samples ≡ count }
     {
         for taken in 0..count {
@@ -244,9 +244,7 @@ impl Tap {
     pub fn consume_block(&mut self, block: &LevelBlock) -> EdgeBlock
         requires { TakesBlocks self.old }
         ensures taken { (ss : List ℕ) → IsBlockOf block.now ss
-            → AdvancesTap self.old ss (block_arrivals result) self.new }
-        ensures each { (ss more : List ℕ) → IsBlockOf block.now more → IsTapAfter self.old ss
-            → ArriveEach self.old.hold ss more result }
+            → AdvancesTap self.old ss (block_arrivals self.old.samples result) self.new }
         ensures samples { self.new.samples ≡ self.old.samples + 64 }
     {
         let counted = take_block(&mut self.sampler, block);
@@ -298,8 +296,8 @@ impl Tap {
         requires settled { IsSettledTap self.old before }
         requires room { self.old.samples + self.old.hold < most_places }
         ensures settled { IsSettledTap self.new sample }
-        ensures taken { AdvancesTap self.old (replicate (self.old.hold + 1) sample) (bits_of_edges result) self.new }
-        ensures last { BringNone self.old (replicate self.old.hold sample) }
+        ensures taken { AdvancesTap self.old (replicate (self.old.hold + 1) sample)
+            (with_sample (self.old.samples + self.old.hold) (bits_of_edges result)) self.new }
     {
         let place = self.samples + u64::from(self.hold);
         self.sampler = Some(Sampler::new(self.hold, sample));
@@ -319,7 +317,7 @@ impl Tap {
     #[inline(always)]
     fn step(&mut self, sample: u8) -> Edges
         requires { self.old.samples < most_places }
-        ensures { AdvancesTap self.old (sample ∷ []) (bits_of_edges result) self.new }
+        ensures { AdvancesTap self.old (sample ∷ []) (with_sample self.old.samples (bits_of_edges result)) self.new }
     {
         let step = step_sampler(&mut self.sampler, self.hold, sample);
         let place = self.samples;
@@ -330,6 +328,14 @@ impl Tap {
             .note(place, step.second_before, step.second_after, self.jump);
         self.samples += 1;
         step.edges
+    }
+
+    /// How many samples there were.
+    #[inline(always)]
+    pub fn samples(&self) -> u64
+        ensures { result ≡ self.now.samples }
+    {
+        self.samples
     }
 
     /// What is counted in the samples so far.

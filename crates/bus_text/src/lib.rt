@@ -26,7 +26,7 @@ pub use digits::{is_hex, octets_of};
 pub use fault::ToolFault;
 pub use kind::Kind;
 pub use number::push_number;
-pub use options::Options;
+pub use options::{Lines, Options};
 pub use page::Page;
 pub use printer::Printer;
 pub use put::{ShortWrite, put_text};

@@ -2,6 +2,17 @@
 
 use crate::kind::Kind;
 
+/// Of which lines a capture has the bits.
+#[derive(Clone, Copy, Debug, PartialEq, Eq)]
+pub enum Lines {
+    /// One line.
+    One,
+    /// Two lines with one clock: a pair of bits at each place.
+    Two,
+    /// Two lines with a clock each, in the order of arrival.
+    Arrivals,
+}
+
 /// The input format, the analyser's limits and the output filters.
 #[derive(Clone, Copy, Debug)]
 pub struct Options<'a> {
@@ -9,10 +20,8 @@ pub struct Options<'a> {
     pub dictionary: Option<&'a str>,
     /// Whether the capture is text; otherwise it is packed.
     pub text: bool,
-    /// Whether it is of two lines; otherwise it is of one.
-    pub two: bool,
-    /// Whether it has the arrivals of two lines with a clock each, whatever `two` says.
-    pub arrivals: bool,
+    /// Of which lines it has the bits.
+    pub lines: Lines,
     /// After how many bits of the first line without one of the second this comes to rest; 0 for never. Only
     /// arrivals heed it.
     pub rest: u64,

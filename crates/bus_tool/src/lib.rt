@@ -5,5 +5,5 @@ mod program;
 mod statuses;
 
 pub use bus_calls::{check_capture, encode_frames, list_capture};
-pub use bus_text::{Kind, Options, Summary, ToolFault, show_frame};
+pub use bus_text::{Kind, Lines, Options, Summary, ToolFault, show_frame};
 pub use program::run;

@@ -5,7 +5,7 @@ use crate::worked::{
     CALL_ON_FIRST, REPLY_ON_SECOND, TWO_LINES_REPORT, TWO_LINES_TEXT, joined, of_text, run_over,
 };
 use bus_rows::CALLS;
-use bus_tool::Options;
+use bus_tool::{Lines, Options};
 use std::alloc::{AllocError, Global};
 
 /// The text of two lines whose bits arrive in turn, first one of the first line.
@@ -20,21 +20,16 @@ fn in_turn(alloc: Global, first: &[&str], second: &[&str]) -> Result<Vec<u8>, Al
     Ok(capture)
 }
 
-/// They are listed and checked as with one clock, whatever `two` says.
+/// They are listed and checked as with one clock.
 #[test]
 fn bits_in_turn(rt: HostRuntime) {
     let capture = in_turn(rt.alloc(), &CALL_ON_FIRST, &REPLY_ON_SECOND).expect(&rt, "memory");
-    for (checks, two, text) in [
-        (false, false, TWO_LINES_TEXT),
-        (false, true, TWO_LINES_TEXT),
-        (true, false, TWO_LINES_REPORT),
-    ] {
+    for (checks, text) in [(false, TWO_LINES_TEXT), (true, TWO_LINES_REPORT)] {
         let options = Options {
-            two,
-            arrivals: true,
+            lines: Lines::Arrivals,
             ..of_text(Some(CALLS))
         };
-        let case = format_args!("arrivals, two: {two}, checks: {checks}");
+        let case = format_args!("arrivals, checks: {checks}");
         let mut reader = capture.as_slice();
         let mut out = Vec::new(rt.alloc());
         let ending = run_over(checks, rt.alloc(), &options, &mut reader, &mut out);

@@ -8,7 +8,7 @@ use crate::worked::{
 use bus_dictionary::DictFault;
 use bus_rows::CALLS;
 use bus_rows::fakes::{Counted, Faltering, Fixed, Narrow, Pieces, Repeated};
-use bus_tool::{Options, Summary, ToolFault, check_capture, list_capture};
+use bus_tool::{Lines, Options, Summary, ToolFault, check_capture, list_capture};
 use std::alloc::{AllocError, Global};
 use std::fmt::Display;
 use std::process::Abort;
@@ -35,6 +35,10 @@ pub fn spaced(alloc: Global, capture: &[u8], spaces: usize) -> Result<Vec<u8>, A
     Ok(wide)
 }
 
+fn lines_of(two: bool) -> Lines {
+    if two { Lines::Two } else { Lines::One }
+}
+
 /// Lists or checks these octets without end: what is written when the reads are used up.
 fn check_endless(
     rt: &impl Abort,
@@ -47,7 +51,7 @@ fn check_endless(
     let case = format_args!("an endless reader, two: {two}, checks: {checks}");
     let options = Options {
         reads: 20,
-        two,
+        lines: lines_of(two),
         ..of_text(None)
     };
     let mut reader = Repeated {
@@ -289,7 +293,7 @@ fn judged_before(rt: HostRuntime) {
 #[test]
 fn flushes_of_two_lines(rt: HostRuntime) {
     let options = Options {
-        two: true,
+        lines: Lines::Two,
         ..of_text(None)
     };
     for fails in [false, true] {
@@ -320,7 +324,7 @@ fn one_failing_write(rt: HostRuntime) {
         ..NONE
     };
     let options = Options {
-        two: true,
+        lines: Lines::Two,
         ..of_text(None)
     };
     for (fails_at, want) in [(0, Ok(all)), (1, Err(ToolFault::Write { written: 0 }))] {
@@ -351,7 +355,7 @@ fn check_attempts(
 ) {
     let options = Options {
         depth: 1024,
-        two,
+        lines: lines_of(two),
         ..of_text(Some(CALLS))
     };
     let want = Summary {

@@ -1,6 +1,6 @@
 //! Captures, dictionaries and texts of worked examples.
 
-use bus_tool::{Options, Summary, ToolFault, check_capture, list_capture};
+use bus_tool::{Lines, Options, Summary, ToolFault, check_capture, list_capture};
 use std::alloc::{AllocError, Global};
 use std::io::{Read, Write};
 
@@ -145,8 +145,7 @@ pub fn of_text(dictionary: Option<&str>) -> Options<'_> {
     Options {
         dictionary,
         text: true,
-        two: false,
-        arrivals: false,
+        lines: Lines::One,
         rest: 0,
         origin: 0,
         depth: 16,

@@ -7,15 +7,18 @@ use Rattle.std.proofs.lemmas.List.{map-append, length-map}
 use Rattle.std.proofs.Math.Seq.{drop-cons, set-append_seam}
 use Rattle.bus_pairing.specs.declared.line.Line.TheVariants.{First, Second}
 use Rattle.bus_tap.specs.Arrival.{Arrival}
-use Rattle.bus_tap.specs.Sampled.{bit_on, bits_of_edges}
+use Rattle.bus_tap.specs.Sampled.{Timed, bit_on, bits_of_edges, with_sample}
+use Rattle.bus_tap.specs.Stopped.{AdvancesStops}
+use Rattle.bus_tap.specs.declared.stop.StopRule.{StopRule}
 use Rattle.bus_line.specs.Due.{places}
 use Rattle.bus_tap.specs.Recorded.{record_at}
 use Rattle.bus_tap.specs.Tapped.{TapState, AdvancesTap, channels}
 use Rattle.bus_tap.specs.declared.wires.Wires.{Wires}
 use Rattle.bus_tap.specs.declared.sampler.Edges.{Edges}
 use Rattle.bus_tap.proofs.EachLemmas.{length-more}
+use Rattle.bus_tap.proofs.StopLemmas.{stops-further, stops-nothing}
 use Rattle.bus_tap.proofs.TapLemmas.{advances-further, advances-nothing, replicate-more}
-use Rattle.port1_c.specs.Tap.{HasTapped, coded, put_over, samples_from}
+use Rattle.port1_c.specs.Tap.{HasTapped, PutsArrivals, coded, put_over, samples_from}
 use Rattle.port1_c.specs.declared.arrival.Port1Arrival.{Port1Arrival}
 
 -- one arrival more
@@ -33,45 +36,67 @@ put-more start xs x room =
     ∙ ap (λ n. (ys ++ coded x ∷ []) ++ drop n start) (length-more xs x)
     ∙ append_assoc ys (coded x ∷ []) rest)
 
+-- arrivals that are put one behind the other
+pub puts-nothing : (count : ℕ) (old : List Port1Arrival) → PutsArrivals count old [] old
+puts-nothing count old = record {
+  long = refl;
+  put = λ start ys number long is. is ∙ ap (put_over start) (sym (append-nil ys));
+}
+
+pub puts-further : (count next : ℕ) (old mid new : List Port1Arrival) (xs ys : List Arrival) →
+    next ≡ count + length xs → PutsArrivals count old xs mid → PutsArrivals next mid ys new →
+    PutsArrivals count old (xs ++ ys) new
+puts-further count next old mid new xs ys is one two = record {
+  long = two.long ∙ one.long;
+  put = λ start zs number long from.
+      two.put start (zs ++ xs) (omega (arith, is, number, length-append zs xs)) (long ∙ sym one.long)
+      (one.put start zs number long from) ∙ ap (put_over start) (append_assoc zs xs ys);
+}
+
 -- before the first sample
-pub tapped-none : (t : TapState) (start : List Port1Arrival) → HasTapped t start [] t start 0
-tapped-none t start = record {
+pub tapped-none : (t : TapState) (r : StopRule) (start : List Port1Arrival) → HasTapped t r start [] t r start 0
+tapped-none t r start = record {
+  ts = [];
   xs = [];
   number = refl;
   fits = omega arith;
   put = refl;
   advances = advances-nothing t;
+  rested = stops-nothing r;
 }
 
 -- further samples, and the bits of the last
-pub tapped-more : (from old new : TapState) (start before mid behind : List Port1Arrival) (ls more : List ℕ) (e : Edges)
-    (count next past : ℕ) → length start ≡ length before → count + 2 ≤ length before →
-    AdvancesTap old more (bits_of_edges e) new →
-    next ≡ count + length (bit_on First e.first) → next ≤ count + 1 → past ≡ next + length (bit_on Second e.second) →
-    past ≤ next + 1 →
-    ((xs : List Arrival) → count ≡ length xs → length xs < length start → before ≡ put_over start xs →
-    mid ≡ put_over start (xs ++ bit_on First e.first)) →
-    ((xs : List Arrival) → next ≡ length xs → length xs < length start → mid ≡ put_over start xs →
-    behind ≡ put_over start (xs ++ bit_on Second e.second)) →
-    HasTapped from start ls old before count → HasTapped from start (ls ++ more) new behind past
-tapped-more from old new start before mid behind ls more e count next past long room advances one few two less first
-    second tapped =
-    let xs : List Arrival = tapped.xs in
-    let put-first = first xs tapped.number (omega (arith, tapped.number, long, room)) tapped.put in
-    let ys : List Arrival = xs ++ bit_on First e.first in
-    let count-first : next ≡ length ys =
-    omega (arith, one, tapped.number, length-append xs (bit_on First e.first)) in
-    let put-second = second ys count-first (omega (arith, count-first, few, long, room)) put-first in
-    let all : ys ++ bit_on Second e.second ≡ xs ++ bits_of_edges e =
-    append_assoc xs (bit_on First e.first) (bit_on Second e.second) in
-    let count-all : past ≡ length (xs ++ bits_of_edges e) =
-    omega (arith, two, count-first, length-append ys (bit_on Second e.second), ap length all) in record {
-      xs = xs ++ bits_of_edges e;
-      number = count-all;
-      fits = omega (arith, count-all, less, few, long, room);
-      put = put-second ∙ ap (put_over start) all;
-      advances = advances-further from old new ls more xs (bits_of_edges e) tapped.advances advances;
-    }
+module _ (from old new : TapState) (rule one two three : StopRule) (start before mid behind : List Port1Arrival)
+    (ls more : List ℕ) (sample : ℕ) (e : Edges) (count next past : ℕ) (xs ys : List Arrival) where
+  pub tapped-more : length start ≡ length before → count + 32 ≤ length before →
+      AdvancesTap old more (with_sample sample (bits_of_edges e)) new →
+      length xs ≤ 16 → next ≡ count + length xs → PutsArrivals count before xs mid →
+      AdvancesStops one (with_sample sample (bit_on First e.first)) xs two →
+      length ys ≤ 16 → past ≡ next + length ys → PutsArrivals next mid ys behind →
+      AdvancesStops two (with_sample sample (bit_on Second e.second)) ys three →
+      HasTapped from rule start ls old one before count →
+      HasTapped from rule start (ls ++ more) new three behind past
+  tapped-more long room advances few-first number-first put-first stops-first few-second number-second put-second
+      stops-second tapped =
+      let zs : List Arrival = tapped.xs in
+      let puts = puts-further count next before mid behind xs ys number-first put-first put-second in
+      let both : AdvancesStops one (with_sample sample (bits_of_edges e)) (xs ++ ys) three =
+      rw (map-append {B = Timed} (λ x. (sample, x)) (bit_on First e.first) (bit_on Second e.second))
+      (stops-further one two three (with_sample sample (bit_on First e.first))
+      (with_sample sample (bit_on Second e.second)) xs ys stops-first stops-second) in
+      let count-all : past ≡ length (zs ++ (xs ++ ys)) =
+      omega (arith, number-first, number-second, tapped.number, length-append zs (xs ++ ys), length-append xs ys) in
+      record {
+        ts = tapped.ts ++ with_sample sample (bits_of_edges e);
+        xs = zs ++ (xs ++ ys);
+        number = count-all;
+        fits = omega (arith, count-all, number-first, number-second, few-first, few-second, long, room);
+        put = puts.put start zs tapped.number long tapped.put;
+        advances = advances-further from old new ls more tapped.ts (with_sample sample (bits_of_edges e))
+            tapped.advances advances;
+        rested = stops-further rule one three tapped.ts (with_sample sample (bits_of_edges e)) zs (xs ++ ys)
+            tapped.rested both;
+      }
 
 -- what holds below a number, and of it, holds below the next
 pub up-to : (P : ℕ → Type 0) (n : ℕ) → ((k : ℕ) → k < n → P k) → P n → (k : ℕ) → k < n + 1 → P k

@@ -5,8 +5,11 @@ use Rattle.bus_line.specs.Due.{places}
 use Rattle.bus_pairing.specs.declared.line.Line.TheVariants.{First, Second}
 use Rattle.bus_tap.specs.Arrival.{Arrival}
 use Rattle.bus_tap.specs.Recorded.{record_at}
+use Rattle.bus_tap.specs.Sampled.{Timed}
+use Rattle.bus_tap.specs.Stopped.{AdvancesStops}
 use Rattle.bus_tap.specs.Tapped.{TapState, AdvancesTap}
 use Rattle.bus_tap.specs.Words.{AreTapWords, tap_told}
+use Rattle.bus_tap.specs.declared.stop.StopRule.{StopRule}
 use Rattle.bus_tap.specs.declared.wires.Wire.{Wire}
 use Rattle.bus_tap.specs.declared.wires.Wires.{Wires}
 use Rattle.port1_c.specs.declared.arrival.Port1Arrival.{Port1Arrival}
@@ -39,19 +42,28 @@ coded (Second, bit) = record { line = 2; bit = if bit then 1 else 0 }
 abbrev pub put_over : List Port1Arrival → List Arrival → List Port1Arrival
 put_over start xs = map coded xs ++ drop (length xs) start
 
--- with these levels, the bits that arrived were put, `count` of them
-pub record HasTapped (from : TapState) (start : List Port1Arrival) (levels : List ℕ) (tap : TapState)
-    (arrivals : List Port1Arrival) (count : ℕ) : Type 0 where
+-- these were put behind the first `count` arrivals
+pub record PutsArrivals (count : ℕ) (old : List Port1Arrival) (xs : List Arrival) (new : List Port1Arrival)
+    : Type 0 where
+  pub long : length new ≡ length old
+  pub put : (start : List Port1Arrival) (ys : List Arrival) → count ≡ length ys → length start ≡ length old
+      → old ≡ put_over start ys → new ≡ put_over start (ys ++ xs)
+
+-- with these levels, the bits that arrived were put, `count` of them, with those put in behind stops
+pub record HasTapped (from : TapState) (rule : StopRule) (start : List Port1Arrival) (levels : List ℕ) (tap : TapState)
+    (stops : StopRule) (arrivals : List Port1Arrival) (count : ℕ) : Type 0 where
+  pub ts : List Timed
   pub xs : List Arrival
   pub number : count ≡ length xs
   pub fits : length xs ≤ length start
   pub put : arrivals ≡ put_over start xs
-  pub advances : AdvancesTap from levels xs tap
+  pub advances : AdvancesTap from levels ts tap
+  pub rested : AdvancesStops rule ts xs stops
 
 -- a call took samples of these levels from a tap to the other
 abbrev pub Taps : Port1Tap → List Port1Arrival → List ℕ → Port1Tap → List Port1Arrival → ℕ → Type 0
 Taps old start levels new arrivals count =
-    HasTapped (tap_told old.words) start levels (tap_told new.words) arrivals count
+    HasTapped (tap_told old.words) old.stops start levels (tap_told new.words) new.stops arrivals count
 
 -- samples of so many octets each, from number `at` on
 abbrev pub samples_from : ℕ → List ℕ → ℕ → ℕ → List ℕ

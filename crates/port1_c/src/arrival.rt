@@ -1,12 +1,18 @@
 //! Bits that arrive, in a caller's memory.
 
-ghost use Rattle.std.specs.Prelude.{◌≡◌, ◌+◌, ◌≤◌, ◌<◌, ◌↔◌, ◌++◌, List, IsSome, IfSome, length};
+ghost use Rattle.std.specs.Prelude.{◌≡◌, ◌+◌, ◌≤◌, ◌<◌, ◌↔◌, ◌∷◌, [], List, IsSome, IfSome, length, true};
 ghost use Rattle.bus_tap.specs.Arrival.{Arrival};
-ghost use Rattle.bus_tap.specs.Sampled.{bit_on};
+ghost use Rattle.bus_tap.specs.Rested.{fill};
+ghost use Rattle.bus_tap.specs.Sampled.{bit_on, with_sample};
+ghost use Rattle.bus_tap.specs.Stopped.{AdvancesStops, stop_fill};
 ghost use Rattle.port1_c.specs.Rest.{arrival_told};
-ghost use Rattle.port1_c.specs.Tap.{coded, put_over};
+ghost use Rattle.port1_c.specs.Tap.{PutsArrivals, coded};
 
 use bus_pairing::Line;
+use bus_tap::StopRule;
+
+/// 1s that make a line idle (ISO/IEC 13239, idle state).
+const IDLE_ONES: u8 = 15;
 
 /// A bit that arrives. Its layout is that of `c/include/port1.h`.
 #[repr(C)]
@@ -43,24 +49,64 @@ impl Port1Arrival {
     }
 }
 
-/// Puts a bit of a line, if there is one, behind the first `count` arrivals.
-pub(crate) fn put_arrival(
+/// PutsArrivals a bit of a line behind the first `count` arrivals.
+fn put_arrival(line: Line, bit: bool, arrivals: &mut [Port1Arrival], count: &mut usize)
+    requires room { count.old < length arrivals.old }
+    ensures count { count.new ≡ count.old + 1 }
+    ensures put { PutsArrivals count.old arrivals.old ((line, bit) ∷ []) arrivals.new }
+{
+    arrivals[*count] = Port1Arrival::of(line, bit);
+    *count += 1;
+}
+
+/// PutsArrivals the fifteen 1s of a line at rest.
+fn put_ones(line: Line, arrivals: &mut [Port1Arrival], count: &mut usize)
+    requires room { count.old + 15 ≤ length arrivals.old }
+    ensures count { count.new ≡ count.old + 15 }
+    ensures put { PutsArrivals count.old arrivals.old (stop_fill true line) arrivals.new }
+{
+    for _turn in 0..IDLE_ONES {
+        put_arrival(line, true, arrivals, count);
+    }
+}
+
+/// PutsArrivals a bit of a line, and fifteen 1s of the second line right behind it where that comes to rest.
+pub(crate) fn put_rested(
     line: Line,
-    bit: Option<bool>,
+    bit: bool,
+    rests: bool,
     arrivals: &mut [Port1Arrival],
     count: &mut usize,
 )
-    requires room { count.old < length arrivals.old }
-    ensures long { length arrivals.new ≡ length arrivals.old }
-    ensures few { count.new ≤ count.old + 1 }
-    ensures count { count.new ≡ count.old + length (bit_on line bit) }
-    ensures put { (start : List Port1Arrival) (xs : List Arrival) → count.old ≡ length xs
-        → length xs < length start → arrivals.old ≡ put_over start xs
-        → arrivals.new ≡ put_over start (xs ++ bit_on line bit) }
+    requires room { count.old + 16 ≤ length arrivals.old }
+    ensures count { count.new ≡ count.old + length ((line, bit) ∷ fill rests) }
+    ensures put { PutsArrivals count.old arrivals.old ((line, bit) ∷ fill rests) arrivals.new }
+{
+    put_arrival(line, bit, arrivals, count);
+    if rests {
+        put_ones(Line::Second, arrivals, count);
+    }
+}
+
+/// PutsArrivals a bit of a line, if one arrives with this sample, behind fifteen 1s if its clock stood still.
+pub(crate) fn put_bit(
+    line: Line,
+    sample: u64,
+    bit: Option<bool>,
+    stops: &mut StopRule,
+    arrivals: &mut [Port1Arrival],
+    count: &mut usize,
+)
+    requires room { count.old + 16 ≤ length arrivals.old }
+    ensures { (xs : List Arrival) × (length xs ≤ 16) × (count.new ≡ count.old + length xs)
+        × PutsArrivals count.old arrivals.old xs arrivals.new
+        × AdvancesStops stops.old (with_sample sample (bit_on line bit)) xs stops.new }
 {
     let Some(bit) = bit else {
         return;
     };
-    arrivals[*count] = Port1Arrival::of(line, bit);
-    *count += 1;
+    if stops.push(line, sample) {
+        put_ones(line, arrivals, count);
+    }
+    put_arrival(line, bit, arrivals, count);
 }

@@ -1,10 +1,10 @@
 //! What C calls to decode two lines with a clock each.
 
-ghost use Rattle.std.specs.Prelude.{◌≡◌, ◌≢◌, ◌≤◌, ◌<◌, ◌↔◌, ◌⊎◌, ◌++◌, ◌∷◌, [], List};
+ghost use Rattle.std.specs.Prelude.{◌≡◌, ◌≢◌, ◌≤◌, ◌<◌, ◌↔◌, ◌⊎◌, ◌++◌, ◌∷◌, [], List, length};
 ghost use Rattle.bus_bits.specs.Limits.{most_places};
 ghost use Rattle.bus_tap.specs.Arrival.{Arrival};
 ghost use Rattle.port1_c.specs.Clocks.{AreSound, ClocksAfter, arrived_told, decided_told, memory_of, open_on};
-ghost use Rattle.port1_c.specs.Clocks.{span_told};
+ghost use Rattle.port1_c.specs.Clocks.{DecideNone, LastDecides, TakesArrivals, span_told};
 ghost use Rattle.port1_c.specs.Line.{IsCoded};
 ghost use Rattle.port1_c.specs.Rest.{arrival_told};
 ghost use Rattle.port1_c.specs.declared.status.TheConstants.{OK, BAD_LENGTH, PLACE_LIMIT, BAD_STATE, BAD_ARGUMENT};
@@ -12,7 +12,7 @@ ghost use Rattle.port1_c.specs.declared.status.TheConstants.{OK, BAD_LENGTH, PLA
 use crate::arrival::Port1Arrival;
 use crate::calls::port1_line_init;
 use crate::clocks::Port1Clocks;
-use crate::report::Port1Report;
+use crate::report::{NONE, Port1Report};
 use crate::status::{BAD_ARGUMENT, BAD_STATE, OK, PLACE_LIMIT};
 use bus_tap::BitPlaces;
 
@@ -77,6 +77,45 @@ pub extern "C" fn port1_clocks_push(
         return PLACE_LIMIT;
     };
     *report = Port1Report::of(event);
+    OK
+}
+
+/// Takes bits that arrive, from number `at` on, up to the first that decides a report. `at` is then the next to take,
+/// and the report what the last one decided on its line, in places; a frame's octets are in that line.
+///
+/// Returns OK; where it is not OK, the bits before `at` were taken and decided nothing: PLACE_LIMIT where the line of
+/// that bit has no place for it, BAD_ARGUMENT where it is of no line, or BAD_STATE where the memory does not hold two
+/// decoders.
+#[unsafe(no_mangle)]
+pub extern "C" fn port1_clocks_feed(
+    clocks: &mut Port1Clocks,
+    arrivals: &[Port1Arrival],
+    at: &mut usize,
+    report: &mut Port1Report,
+) -> u32
+    ensures status { (result ≡ OK) ⊎ (result ≡ PLACE_LIMIT) ⊎ (result ≡ BAD_STATE) ⊎ (result ≡ BAD_ARGUMENT) }
+    ensures state { AreSound clocks.old → (result ≢ BAD_STATE) × AreSound clocks.new }
+    ensures coded { IsCoded report.new }
+    ensures bound { (at.old ≤ at.new) × (at.old ≤ length arrivals.now → at.new ≤ length arrivals.now) }
+    ensures all { result ≡ OK → report.new.kind ≡ 0 → length arrivals.now ≤ at.new }
+    ensures some { report.new.kind ≢ 0 → (result ≡ OK) × (at.old < at.new) }
+    ensures given { (clocks.new.first.words.longest ≡ clocks.old.first.words.longest)
+        × (clocks.new.first.words.origin ≡ clocks.old.first.words.origin) }
+    ensures after { TakesArrivals clocks.old arrivals.now at.old at.new clocks.new }
+    ensures none { report.new.kind ≡ 0 → DecideNone clocks.old arrivals.now at.old at.new }
+    ensures decides { report.new.kind ≢ 0 → LastDecides clocks.old arrivals.now at.old at.new report.new clocks.new }
+{
+    *report = Port1Report::none();
+    while *at < arrivals.len() {
+        let status = port1_clocks_push(clocks, &arrivals[*at], report);
+        if status != OK {
+            return status;
+        }
+        *at += 1;
+        if report.kind != NONE {
+            return OK;
+        }
+    }
     OK
 }
 

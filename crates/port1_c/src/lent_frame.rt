@@ -8,7 +8,7 @@ use bus_line::FrameBuffer;
 #[repr(C)]
 #[derive(Drop)]
 pub struct LentFrame {
-    /// How many octets there are of the piece, or of the frame before it until the first octet is full.
+    /// How many octets there are in whole words of the piece, or of the frame before it until the first word is full.
     pub len: u32,
     /// Not read.
     pub spare: u16,
@@ -49,5 +49,19 @@ impl FrameBuffer for LentFrame {
     fn push(&mut self, octet: u8) {
         self.octets[self.len as usize] = octet;
         self.len += 1;
+    }
+
+    #[inline(always)]
+    fn push_four(&mut self, four: &[u8; 4]) {
+        let len = self.len as usize;
+        self.octets[len..len + 4].copy_from_slice(four);
+        self.len += 4;
+    }
+
+    #[inline(always)]
+    fn push_eight(&mut self, word: &[u8; 8]) {
+        let len = self.len as usize;
+        self.octets[len..len + 8].copy_from_slice(word);
+        self.len += 8;
     }
 }

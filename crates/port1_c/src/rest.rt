@@ -1,13 +1,13 @@
 //! The rule of rest in a caller's memory, and what C calls to follow it.
 
-ghost use Rattle.std.specs.Prelude.{◌≡◌, ◌≢◌, ◌≤◌, ◌<◌, ◌==◌, ◌↔◌, ◌⊎◌, ◌++◌, ◌∷◌, [], List};
+ghost use Rattle.std.specs.Prelude.{◌≡◌, ◌≢◌, ◌+◌, ◌≤◌, ◌<◌, ◌==◌, ◌↔◌, ◌⊎◌, ◌++◌, ◌∷◌, [], List, length};
 ghost use Rattle.bus_tap.specs.Arrival.{Arrival};
 ghost use Rattle.bus_tap.specs.Rested.{IsRestAfter, fill, rested};
-ghost use Rattle.port1_c.specs.Rest.{IsRest, arrival_told, rest_told};
-ghost use Rattle.port1_c.specs.declared.status.TheConstants.{OK, BAD_STATE, BAD_ARGUMENT};
+ghost use Rattle.port1_c.specs.Rest.{IsRest, PutsRested, arrival_told, rest_told};
+ghost use Rattle.port1_c.specs.declared.status.TheConstants.{OK, BAD_STATE, BAD_ARGUMENT, NO_ROOM};
 
-use crate::arrival::Port1Arrival;
-use crate::status::{BAD_ARGUMENT, BAD_STATE, OK};
+use crate::arrival::{Port1Arrival, put_rested};
+use crate::status::{BAD_ARGUMENT, BAD_STATE, NO_ROOM, OK};
 use bus_tap::RestRule;
 
 /// The rule of rest between two bits. Its layout is that of `c/include/port1.h`.
@@ -82,5 +82,52 @@ pub extern "C" fn port1_rest_push(
     };
     *rests = u8::from(rule.push(line, arrival.bit != 0));
     *rest = Port1Rest::of(&rule, rest.most);
+    OK
+}
+
+/// The most bits that are put for one: itself and fifteen 1s.
+const MOST_PUT: usize = 16;
+
+/// Takes bits that arrive, from number `at` on, while there is room for sixteen bits more, and puts each, with fifteen
+/// 1s of the second line right behind it where that comes to rest. `at` is then the next to take, and `put` how many
+/// bits were put.
+///
+/// Returns OK, or NO_ROOM where there is room for fewer than sixteen bits, with nothing changed. Where it returns
+/// BAD_ARGUMENT as the next bit is of no line, or BAD_STATE as the memory holds no rule, those before were put.
+#[unsafe(no_mangle)]
+pub extern "C" fn port1_rest_feed(
+    rest: &mut Port1Rest,
+    arrivals: &[Port1Arrival],
+    at: &mut usize,
+    out: &mut [Port1Arrival],
+    put: &mut usize,
+) -> u32
+    ensures status { (result ≡ OK) ⊎ (result ≡ BAD_STATE) ⊎ (result ≡ BAD_ARGUMENT) ⊎ (result ≡ NO_ROOM) }
+    ensures room { result ≡ NO_ROOM ↔ (length out.old < 16) }
+    ensures kept { result ≡ NO_ROOM → (rest.new ≡ rest.old) × (at.new ≡ at.old) × (out.new ≡ out.old)
+        × (put.new ≡ put.old) }
+    ensures state { IsRest rest.old → (result ≢ BAD_STATE) × IsRest rest.new }
+    ensures given { rest.new.most ≡ rest.old.most }
+    ensures bound { (at.old ≤ at.new) × (at.old ≤ length arrivals.now → at.new ≤ length arrivals.now) }
+    ensures all { result ≡ OK → at.new < length arrivals.now → length out.old < put.new + 16 }
+    ensures puts { result ≢ NO_ROOM → PutsRested rest.old out.old arrivals.now at.old at.new rest.new out.new put.new }
+{
+    if out.len() < MOST_PUT {
+        return NO_ROOM;
+    }
+    *put = 0;
+    while *at < arrivals.len() && out.len() - *put >= MOST_PUT {
+        let arrival = &arrivals[*at];
+        let Some(line) = arrival.line() else {
+            return BAD_ARGUMENT;
+        };
+        let mut rests: u8 = 0;
+        let status = port1_rest_push(rest, arrival, &mut rests);
+        if status != OK {
+            return status;
+        }
+        put_rested(line, arrival.bit != 0, rests == 1, out, put);
+        *at += 1;
+    }
     OK
 }

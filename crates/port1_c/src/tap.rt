@@ -6,10 +6,13 @@ ghost use Rattle.bus_tap.specs.Recorded.{record_at};
 ghost use Rattle.bus_tap.specs.Tapped.{TapState, channels};
 ghost use Rattle.port1_c.specs.Tap.{HasTapped, samples_from};
 
-use crate::arrival::{Port1Arrival, put_arrival};
+use crate::arrival::{Port1Arrival, put_bit};
 use crate::wires::Port1Wires;
 use bus_pairing::Line;
-use bus_tap::{SampleLimit, Tap, TapWords, Wires, number_of};
+use bus_tap::{SampleLimit, StopRule, Tap, TapWords, Wires, number_of};
+
+/// What a sample may bring: a bit of each line, behind fifteen 1s.
+pub(crate) const MOST_ARRIVALS: usize = 32;
 
 /// A tap between two calls. Its layout is that of `c/include/port1.h`.
 #[repr(C)]
@@ -19,40 +22,61 @@ pub struct Port1Tap {
     pub words: TapWords,
     /// The wires.
     pub wires: Port1Wires,
+    /// By which a bit comes behind fifteen 1s.
+    pub stops: StopRule,
 }
 
 /// Takes some samples with the same levels, up to those that bring bits, and puts these behind the first `arrived`
 /// arrivals. Returns how many samples.
 fn take_some(
     tap: &mut Tap,
+    stops: &mut StopRule,
     levels: u8,
     count: u64,
     arrivals: &mut [Port1Arrival],
     arrived: &mut usize,
 ) -> u64
-    requires room { arrived.old + 2 ≤ length arrivals.old }
+    requires some { 1 ≤ count }
+    requires room { arrived.old + 32 ≤ length arrivals.old }
     requires fits { tap.old.samples + count ≤ most_places }
-    ensures count { (result ≤ count) × (1 ≤ count → 1 ≤ result) }
+    ensures count { (result ≤ count) × (1 ≤ result) }
     ensures long { length arrivals.new ≡ length arrivals.old }
-    ensures few { arrived.new ≤ arrived.old + 2 }
+    ensures few { arrived.new ≤ arrived.old + 32 }
     ensures samples { tap.new.samples ≡ tap.old.samples + result }
-    ensures taken { (from : TapState) (start : List Port1Arrival) (ls : List ℕ) → length start ≡ length arrivals.old
-        → HasTapped from start ls tap.old arrivals.old arrived.old
-        → HasTapped from start (ls ++ replicate result levels) tap.new arrivals.new arrived.new }
+    ensures taken { (from : TapState) (rule : StopRule) (start : List Port1Arrival) (ls : List ℕ)
+        → length start ≡ length arrivals.old
+        → HasTapped from rule start ls tap.old stops.old arrivals.old arrived.old
+        → HasTapped from rule start (ls ++ replicate result levels) tap.new stops.new arrivals.new arrived.new }
 {
     let taken = match tap.consume(levels, count) {
         Ok(taken) => taken,
         Err(SampleLimit) => unreachable!(),
     };
-    put_arrival(Line::First, taken.edges.first, arrivals, arrived);
-    put_arrival(Line::Second, taken.edges.second, arrivals, arrived);
+    let last = tap.samples() - 1;
+    put_bit(
+        Line::First,
+        last,
+        taken.edges.first,
+        stops,
+        arrivals,
+        arrived,
+    );
+    put_bit(
+        Line::Second,
+        last,
+        taken.edges.second,
+        stops,
+        arrivals,
+        arrived,
+    );
     taken.samples
 }
 
-/// Takes samples with the same levels, while there is room for two bits more, and puts the bits that arrive. Returns
-/// how many samples are left.
+/// Takes samples with the same levels, while there is room for what one may bring, and puts the bits that arrive.
+/// Returns how many samples are left.
 pub(crate) fn take_run(
     tap: &mut Tap,
+    stops: &mut StopRule,
     levels: u8,
     count: u64,
     arrivals: &mut [Port1Arrival],
@@ -61,13 +85,13 @@ pub(crate) fn take_run(
     requires none { arrived.old ≡ 0 }
     requires fits { tap.old.samples + count ≤ most_places }
     ensures left { result ≤ count }
-    ensures all { 0 < result → length arrivals.old < arrived.new + 2 }
-    ensures taken { HasTapped tap.old arrivals.old (replicate (count - result) levels) tap.new arrivals.new
-        arrived.new }
+    ensures all { 0 < result → length arrivals.old < arrived.new + 32 }
+    ensures taken { HasTapped tap.old stops.old arrivals.old (replicate (count - result) levels) tap.new stops.new
+        arrivals.new arrived.new }
 {
     let mut left = count;
-    while left > 0 && arrivals.len() - *arrived >= 2 {
-        left -= take_some(tap, levels, left, arrivals, arrived);
+    while left > 0 && arrivals.len() - *arrived >= MOST_ARRIVALS {
+        left -= take_some(tap, stops, levels, left, arrivals, arrived);
     }
     left
 }
@@ -99,10 +123,11 @@ fn alike(octets: &[u8], width: usize, at: usize, end: usize, sample: u64) -> usi
     count
 }
 
-/// Takes samples of `width` octets each, from number `at` on and before number `end`, while there is room for two bits
-/// more, and puts the bits that arrive. `at` is then the next sample to take.
+/// Takes samples of `width` octets each, from number `at` on and before number `end`, while there is room for what one
+/// may bring, and puts the bits that arrive. `at` is then the next sample to take.
 pub(crate) fn take_samples(
     tap: &mut Tap,
+    stops: &mut StopRule,
     wires: &Wires,
     octets: &[u8],
     width: usize,
@@ -117,14 +142,15 @@ pub(crate) fn take_samples(
     requires within { end * width ≤ length octets.now }
     requires fits { tap.old.samples + (end - at.old) ≤ most_places }
     ensures bound { (at.old ≤ at.new) × (at.new ≤ end) }
-    ensures all { at.new < end → length arrivals.old < arrived.new + 2 }
-    ensures taken { HasTapped tap.old arrivals.old
-        (map (channels wires.now) (samples_from width octets.now at.old (at.new - at.old))) tap.new arrivals.new
-        arrived.new }
+    ensures all { at.new < end → length arrivals.old < arrived.new + 32 }
+    ensures taken { HasTapped tap.old stops.old arrivals.old
+        (map (channels wires.now) (samples_from width octets.now at.old (at.new - at.old))) tap.new stops.new
+        arrivals.new arrived.new }
 {
-    while *at < end && arrivals.len() - *arrived >= 2 {
+    while *at < end && arrivals.len() - *arrived >= MOST_ARRIVALS {
         let sample = sample_at(octets, width, *at);
         let count = alike(octets, width, *at, end, sample) as u64;
-        *at += take_some(tap, wires.channels(sample), count, arrivals, arrived) as usize;
+        let levels = wires.channels(sample);
+        *at += take_some(tap, stops, levels, count, arrivals, arrived) as usize;
     }
 }

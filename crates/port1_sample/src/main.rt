@@ -1,7 +1,7 @@
 //! The program `port1-sample`: takes the bits of the Port 1 bus from a recording on standard input.
 #![tactic(auto)]
 
-use bus_sample_tool::{CountedReader, run};
+use bus_sample_tool::{CountedReader, FaultOutput, run};
 use std::io::{ErrorKind, Write};
 use std::process::ExitCode;
 use std::{env, io};
@@ -36,7 +36,7 @@ fn start(rt: &HostRuntime) -> io::Result<u8> {
     }
     let mut input = CountedReader::new(rt.reader());
     let mut output = io::writer(rt);
-    let mut faults = rt.stderr();
+    let mut faults = FaultOutput::new(rt.stderr());
     let status = run(
         alloc,
         words.as_slice(),

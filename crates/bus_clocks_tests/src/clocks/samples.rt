@@ -1,7 +1,8 @@
 //! Bits from samples of four channels.
 
 use crate::expect::same;
-use bus_tap::Sampler;
+use bus_tap::{Sampler, StopRule};
+use bus_watch::Line;
 use std::alloc::Global;
 use std::process::Abort;
 
@@ -84,5 +85,45 @@ fn check_samples(rt: &impl Abort, alloc: Global, line: &str) {
 fn rows_of_samples(rt: HostRuntime) {
     for line in SAMPLE_ROWS.lines() {
         check_samples(&rt, rt.alloc(), line);
+    }
+}
+
+/// The longest distance of two bits of a line without a stop, the line and the sample of each bit, and a `+` for each
+/// that comes behind a stop. First bits come behind none, however late.
+const STOP_ROWS: &str = "\
+    0: 1@0 1@900 => --\n\
+    3: 1@900 2@905 => --\n\
+    3: 1@0 1@3 1@7 1@10 => --+-\n\
+    3: 1@0 2@1 1@3 2@5 2@8 => ---+-\n\
+    3: 1@5 2@5 1@9 2@9 => --++\n\
+    18446744073709551615: 2@0 2@1152921504606846975 => --";
+
+fn check_stops(rt: &impl Abort, line: &str) {
+    let (most, rest) = line.split_once(':').expect(rt, "a distance");
+    let (bits, want) = rest.split_once("=>").expect(rt, "bits");
+    let mut rule = StopRule::new(most.parse::<u64>().expect(rt, "a number"));
+    let mut wanted = want.trim().bytes();
+    for bit in bits.trim().split(' ') {
+        let (number, sample) = bit.split_once('@').expect(rt, "a bit");
+        let of = if number == "1" {
+            Line::First
+        } else {
+            Line::Second
+        };
+        let stops = rule.push(of, sample.parse::<u64>().expect(rt, "a sample"));
+        same(
+            rt,
+            Some(if stops { b'+' } else { b'-' }),
+            wanted.next(),
+            line,
+        );
+    }
+    same(rt, wanted.next(), None, line);
+}
+
+#[test]
+fn stops(rt: HostRuntime) {
+    for line in STOP_ROWS.lines() {
+        check_stops(&rt, line);
     }
 }

@@ -5,6 +5,8 @@ use Rattle.std.specs.Io.KnownBytes.{IsAtEnd}
 use Rattle.arrayvec.specs.ArrayVec.{array_vec_len}
 use Rattle.bus_bits.specs.Limits.{most_places}
 use Rattle.bus_tap.specs.Arrival.{Arrival}
+use Rattle.bus_tap.specs.Sampled.{Timed, timed}
+use Rattle.bus_tap.specs.Stopped.{IsStopAfter, with_stops}
 use Rattle.bus_tap.specs.Tapped.{IsTapAfter, channels}
 use Rattle.bus_text.specs.Pages.{Pages}
 use Rattle.bus_text.specs.Put.{TextStopsAt}
@@ -12,24 +14,36 @@ use Rattle.bus_sample.specs.Recording.{recorded, cut_record, levels, arrivals, s
 use Rattle.bus_sample.specs.Marks.{marks_text}
 use Rattle.bus_sample.specs.Samples.{IsFrontOf, AreTooMany, HasSize}
 use Rattle.bus_sample.specs.declared.marks.Marks.{Marks}
+use Rattle.bus_sample.specs.declared.options.SampleOptions.{SampleOptions}
 use Rattle.bus_sample.specs.declared.reader.SampleRun.{SampleRun}
 use Rattle.bus_sample.specs.declared.fault.SampleFault.{SampleFault}
 use Rattle.bus_sample.specs.declared.fault.SampleFault.TheVariants.{CutOff, TooMany, Read, ReadsLimit}
 use Rattle.bus_sample.specs.declared.fault.SampleFault.TheVariants.{Facts, Write}
 
 -- the text of these arrivals was put on the page, or written
-pub record HasMarked (start now : Option (List ℕ)) (marks : Marks) (xs : List Arrival) : Type 0 where
+pub record HasText (start now : Option (List ℕ)) (marks : Marks) (xs : List Arrival) : Type 0 where
   pub page : Pages start now marks.page.text marks.page.written (marks_text xs)
   pub column : marks.column ≡ length xs % 64
+
+-- so was that of these bits, with what was put in behind stops
+pub record HasMarked (start now : Option (List ℕ)) (marks : Marks) (most : ℕ) (ts : List Timed) : Type 0 where
+  pub page : Pages start now marks.page.text marks.page.written (marks_text (with_stops most ts))
+  pub column : marks.column ≡ length (with_stops most ts) % 64
+  pub stops : IsStopAfter marks.stops ts
+  pub given : marks.stops.most ≡ most
 
 -- how long the text is
 abbrev pub length_of : Marks → ℕ
 length_of marks = marks.page.written + array_vec_len marks.page.text
 
+-- the bits that samples bring
+abbrev pub timed_levels : SampleOptions → List ℕ → List Timed
+timed_levels o samples = timed o.hold (levels o samples)
+
 -- these samples were taken, and their text was put
 pub record RunAfter (start now : Option (List ℕ)) (run : SampleRun) (samples : List ℕ) : Type 0 where
   pub tap : IsTapAfter run.tap (levels run.options samples)
-  pub marks : HasMarked start now run.marks (arrivals run.options samples)
+  pub marks : HasMarked start now run.marks run.options.rest (timed_levels run.options samples)
 
 -- the text is no longer than its samples allow, and there is room for an octet more of the open record
 pub record IsSoundRun (run : SampleRun) : Type 0 where
@@ -37,7 +51,7 @@ pub record IsSoundRun (run : SampleRun) : Type 0 where
   pub size : HasSize run.options
   pub levels : (sample : ℕ) → sample < 256 → slice_index run.levels sample ≡ channels run.options.wires sample
   pub samples : run.tap.samples ≤ most_places
-  pub few : length_of run.marks ≤ 4 * run.tap.samples
+  pub few : length_of run.marks ≤ 64 * run.tap.samples
   pub part : array_vec_len run.part < size_of run.options.form
 
 -- these octets were read
@@ -51,7 +65,8 @@ abbrev pub StopsWith : Option (List ℕ) → Option (List ℕ) → SampleRun →
 StopsWith start now run samples (Write sent) =
     (front : List ℕ) × IsFrontOf samples front × TextStopsAt start now (marks_text (arrivals run.options front)) sent
 StopsWith start now run samples TooMany =
-    (front : List ℕ) × AreTooMany samples front × HasMarked start now run.marks (arrivals run.options front)
+    (front : List ℕ) × AreTooMany samples front
+    × HasMarked start now run.marks run.options.rest (timed_levels run.options front)
 StopsWith start now run samples _ = ⊥
 
 -- the open record stays

@@ -1,6 +1,6 @@
-use Rattle.std.proofs.Common.{◌-◌, [], refl, sym, subst}
+use Rattle.std.proofs.Common.{[], sym, subst}
 use Rattle.bus_fcs.specs.Folded.{by_tables}
-use Rattle.bus_line.specs.Words.{fresh_words, state}
+use Rattle.bus_line.specs.Words.{fresh_words}
 use Rattle.bus_line.specs.declared.decoder_words.DecoderWords.{DecoderWords}
 use Rattle.bus_line.proofs.StepLemmas.{fresh-tracks}
 use Rattle.port1_c.specs.Line.{LineAfter}
@@ -14,5 +14,4 @@ returns-in-Ok-clause-stands c = λ _.
     subst (λ (w : DecoderWords). LineAfter (made w) []) (sym c.in-Ok.ensures.value)
     (subst (λ frame. LineAfter (record { words = fresh_words c.args.longest origin; frame = frame }) [])
     (sym c.new-line.ensures)
-    (fresh-tracks by_tables (origin - origin)
-    (state (fresh_words c.args.longest origin) (record { state = 0 }) []) refl refl refl refl))
+    (fresh-tracks by_tables c.args.longest origin (record { state = 0 }) []))

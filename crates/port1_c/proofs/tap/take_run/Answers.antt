@@ -9,7 +9,7 @@ loop-left-init c =
       left = omega arith;
       fits = c.requires.fits;
       arrived = omega (arith, c.requires.none);
-      tapped = rw (none, c.requires.none) (tapped-none c.args.tap.now c.args.arrivals.now);
+      tapped = rw (none, c.requires.none) (tapped-none c.args.tap.now c.args.stops.now c.args.arrivals.now);
     }
 
 pub loop-left-preserved : goal.loop-left-preserved
@@ -21,8 +21,8 @@ loop-left-preserved c =
     omega (arith, before.left, some.count.0) in record {
       left = omega (arith, before.left);
       fits = omega (arith, before.fits, some.samples, some.count.0);
-      arrived = omega (arith, some.few, some.long, c.if-arrivals-arrived-ge2.true);
+      arrived = omega (arith, some.few, some.long, c.if-arrivals-arrived-ge-MOST_ARRIVALS.true);
       tapped = rw (ap (λ k. replicate k c.args.levels) all
           ∙ replicate-both (c.args.count - c.loop-left.left) n c.args.levels)
-          (some.taken _ _ _ (sym c.loop-left.auto.arrivals) before.tapped);
+          (some.taken _ _ _ _ (sym c.loop-left.auto.arrivals) before.tapped);
     }

@@ -9,8 +9,8 @@ invariant-loop-left l = record {
   left : l.left ≤ l.count;
   fits : l.tap.samples + l.left ≤ most_places;
   arrived : l.arrived ≤ length l.arrivals;
-  tapped : HasTapped l.initial.tap l.initial.arrivals (replicate (l.count - l.left) l.levels) l.tap l.arrivals
-      l.arrived;
+  tapped : HasTapped l.initial.tap l.initial.stops l.initial.arrivals (replicate (l.count - l.left) l.levels)
+      l.tap l.stops l.arrivals l.arrived;
 }
 
 abbrev pub decreases-loop-left : goal.decreases-loop-left

@@ -10,7 +10,7 @@ loop-at-init c =
       within = c.requires.order;
       fits = c.requires.fits;
       arrived = omega (arith, c.requires.none);
-      tapped = rw (none, c.requires.none) (tapped-none c.args.tap.now c.args.arrivals.now);
+      tapped = rw (none, c.requires.none) (tapped-none c.args.tap.now c.args.stops.now c.args.arrivals.now);
     }
 
 pub loop-at-preserved : goal.loop-at-preserved
@@ -23,10 +23,10 @@ loop-at-preserved c =
     → record_at c.args.width c.args.octets.now (c.loop-at.at + k) ≡ c.sample_at-sample.result =
     λ k inside. alike.same k (omega (arith, inside, some.count.0)) in
     let next = levels-more c.args.wires.now c.args.width c.args.octets.now c.args.at.now c.loop-at.at
-    c.sample_at-sample.result _ n before.order same c.channels.ensures in record {
+    c.sample_at-sample.result _ n before.order same c.channels-levels.ensures in record {
       order = omega (arith, before.order);
       within = omega (arith, alike.some.1, some.count.0);
       fits = omega (arith, before.fits, some.samples, alike.some.1, some.count.0);
-      arrived = omega (arith, some.few, some.long, c.if-arrivals-arrived-ge2.true);
-      tapped = rw next (some.taken _ _ _ (sym c.loop-at.auto.arrivals) before.tapped);
+      arrived = omega (arith, some.few, some.long, c.if-arrivals-arrived-ge-MOST_ARRIVALS.true);
+      tapped = rw next (some.taken _ _ _ _ (sym c.loop-at.auto.arrivals) before.tapped);
     }

@@ -11,9 +11,9 @@ invariant-loop-at l = record {
   within : l.at ≤ l.end;
   fits : l.tap.samples + (l.end - l.at) ≤ most_places;
   arrived : l.arrived ≤ length l.arrivals;
-  tapped : HasTapped l.initial.tap l.initial.arrivals
-      (map (channels l.wires) (samples_from l.width l.octets l.initial.at (l.at - l.initial.at))) l.tap l.arrivals
-      l.arrived;
+  tapped : HasTapped l.initial.tap l.initial.stops l.initial.arrivals
+      (map (channels l.wires) (samples_from l.width l.octets l.initial.at (l.at - l.initial.at))) l.tap l.stops
+      l.arrivals l.arrived;
 }
 
 abbrev pub decreases-loop-at : goal.decreases-loop-at

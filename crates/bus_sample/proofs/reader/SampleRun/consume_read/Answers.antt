@@ -16,6 +16,8 @@ returns-in-Ok-clause-read g c = λ start xs read.
         marks = record {
           page = c.in-Ok.ensures.turned start _ now.taken.marks.page;
           column = now.taken.marks.column;
+          stops = now.taken.marks.stops;
+          given = now.taken.marks.given;
         };
       };
       part = now.part;

@@ -10,7 +10,7 @@ returns-in-Ok-clause-samples g c = λ after start xs ends.
       c.requires.size,
       ends.0,
       ends.1,
-      c.in-Ok.ensures start _ ends.2.taken.marks,
+      c.in-Ok.ensures start _ _ ends.2.taken.marks,
       rw (c.requires.given.0, c.requires.given.1) at facts,
     )
 
@@ -20,5 +20,5 @@ returns-in-Err-clause-samples g c = λ after start xs ends. (
   _,
   whole-front _,
   inr refl,
-  c.in-Err.ensures start _ ends.2.taken.marks,
+  c.in-Err.ensures start _ _ ends.2.taken.marks,
 )

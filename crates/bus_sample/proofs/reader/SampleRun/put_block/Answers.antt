@@ -11,8 +11,8 @@ returns-in-Ok-clause-taken g c = λ start ss taken.
     let advances = c.consume_block-edges.ensures.taken (levels self.options more)
     (rw (c.requires.wires) at c.block-block.ensures) in
     taken-with start (g.W.Write.contents c.args.w.now) (g.W.Write.contents c.put_block.new.w) self _ ss more
-    (block_arrivals c.consume_block-edges.result) c.requires.sound.given.0 advances taken refl
-    (c.in-Ok.ensures.put start _ taken.marks)
+    (block_arrivals self.tap.samples c.consume_block-edges.result) c.requires.sound.given.0 advances taken refl
+    (rw (c.samples-from.ensures) at (c.in-Ok.ensures.put start _ _ taken.marks))
 
 pub returns-in-Ok-clause-sound : goal.returns-in-Ok-clause-sound
 returns-in-Ok-clause-sound g c =
@@ -25,7 +25,7 @@ returns-in-Ok-clause-sound g c =
       size = sound.size;
       levels = sound.levels;
       samples = omega (arith, count, c.requires.takes.room);
-      few = omega (arith, sound.few, c.in-Ok.ensures.few, count);
+      few = omega (arith, sound.few, c.put_block.ensures.few, count);
       part = sound.part;
     }
 
@@ -38,8 +38,8 @@ returns-in-Err-clause-taken g c = λ start ss taken.
       ss ++ more,
       ([], sym (append-nil (ss ++ more))),
       rw (arrivals-with self.options self.tap c.consume_block-edges.new.self ss more
-          (block_arrivals c.consume_block-edges.result) c.requires.sound.given.0 advances taken.tap)
-          (c.in-Err.ensures.put start _ taken.marks),
+          (block_arrivals self.tap.samples c.consume_block-edges.result) c.requires.sound.given.0 advances taken.tap)
+          (rw (c.samples-from.ensures) at (c.in-Err.ensures.put start _ _ taken.marks)),
     )
 
 pub returns-in-Err-clause-sound : goal.returns-in-Err-clause-sound
@@ -53,6 +53,6 @@ returns-in-Err-clause-sound g c =
       size = sound.size;
       levels = sound.levels;
       samples = omega (arith, count, c.requires.takes.room);
-      few = rw (c.in-Err.ensures.kept) (omega (arith, sound.few, count));
+      few = omega (arith, sound.few, c.put_block.ensures.few, count);
       part = sound.part;
     }

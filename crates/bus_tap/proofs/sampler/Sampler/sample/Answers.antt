@@ -1,8 +1,8 @@
 use Rattle.std.proofs.Common.{refl, ap, ◌∙◌, sym}
 use Rattle.bus_pairing.specs.declared.line.Line.TheVariants.{First, Second}
 use Rattle.bus_tap.specs.Internal.Held.{held_state}
-use Rattle.bus_tap.specs.Sampled.{bit_on}
-use Rattle.bus_tap.proofs.SampledLemmas.{held-more, edge-is, sampled-more}
+use Rattle.bus_tap.specs.Sampled.{bit_on, with_sample}
+use Rattle.bus_tap.proofs.SampledLemmas.{held-more, edge-is, timed-more}
 use Rattle.bus_tap.proofs.sampler.Sampler.sample.Goals as goal
 
 pub returns-clause-after : goal.returns-clause-after
@@ -17,8 +17,8 @@ returns-clause-after c = λ ss reached.
       second_bits = rw (c.sample-2.ensures.bits) (held-more hold _ _ ss s old.second_bits);
     }
 
-pub returns-clause-sampled : goal.returns-clause-sampled
-returns-clause-sampled c = λ ss reached.
+pub returns-clause-timed : goal.returns-clause-timed
+returns-clause-timed c = λ ss reached.
     let s = c.args.sample in
     let self = c.self.inside in
     let old = rw (← c.self.view_is) at reached in
@@ -29,4 +29,4 @@ returns-clause-sampled c = λ ss reached.
     let second = ap (bit_on Second) c.sample-2.ensures.bit
     ∙ edge-is self.hold Second ss s (held_state self.second.clock) (held_state self.second.bits)
     (held_state c.sample-2.new.self.clock) old.second_clock old.second_bits new.second_clock in
-    rw (← c.self.view_is) (sampled-more self.hold ss s ∙ sym (rw (first, second) refl))
+    rw (← c.self.view_is) (timed-more self.hold ss s ∙ sym (rw (first, second) refl))

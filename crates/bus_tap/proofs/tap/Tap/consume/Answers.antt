@@ -1,7 +1,7 @@
 use Rattle.std.proofs.Common.{◌≡◌, ◌+◌, ◌-◌, [], ◌++◌, replicate, refl, ap, ◌∙◌, subst, arith}
-use Rattle.bus_tap.specs.Sampled.{bits_of_edges}
+use Rattle.bus_tap.specs.Sampled.{bits_of_edges, with_sample}
 use Rattle.bus_tap.specs.Tapped.{TapState, AdvancesTap}
-use Rattle.bus_tap.proofs.TapLemmas.{advances-further, brings-fewer, brings-none, replicate-both}
+use Rattle.bus_tap.proofs.TapLemmas.{advances-further, replicate-both}
 use Rattle.bus_tap.proofs.tap.Tap.consume.Goals as goal
 
 pub returns-then-is_none-clause-taken : goal.returns-then-is_none-clause-taken
@@ -18,23 +18,19 @@ returns-then-is_none-clause-taken c =
       (λ some. some),
       rw both
           (advances-further c.args.self.now c.consume_held-edges.new.self c.pass-then-is_none.new.self _ _ [] []
-          (subst (λ e. AdvancesTap c.args.self.now (replicate stood s) (bits_of_edges e) c.consume_held-edges.new.self)
+          (subst (λ e. AdvancesTap c.args.self.now (replicate stood s)
+          (with_sample (c.args.self.now.samples + c.args.self.now.hold) (bits_of_edges e))
+          c.consume_held-edges.new.self)
           (c.if-is_none.ensures.0 refl) c.consume_held-edges.ensures.taken) c.pass-then-is_none.ensures),
     )
 
-pub returns-then-before-sample-clause-last : goal.returns-then-before-sample-clause-last
-returns-then-before-sample-clause-last c =
-    brings-fewer c.args.self.now c.args.sample c.args.count
-    (brings-none c.args.self.now c.pass.new.self (replicate c.args.count c.args.sample) c.pass.ensures)
-
-pub returns-then-is_none-clause-last : goal.returns-then-is_none-clause-last
-returns-then-is_none-clause-last c =
-    brings-fewer c.args.self.now c.args.sample c.args.count
-    (brings-none c.args.self.now c.pass-then-is_none.new.self (replicate c.args.count c.args.sample)
-    (returns-then-is_none-clause-taken c).2)
-
-pub returns-clause-last : goal.returns-clause-last
-returns-clause-last c =
+pub returns-clause-taken : goal.returns-clause-taken
+returns-clause-taken c =
+    let old = c.args.self.now in
     let hold = ap (λ (t : TapState). t.hold) c.self.view_is in
-    let before : c.from-samples.result + 1 - 1 ≡ c.args.self.now.hold = omega (arith, hold, c.from-samples.ensures) in
-    rw before c.consume_held-edges.ensures.last
+    let stood : c.from-samples.result + 1 ≡ old.hold + 1 = omega (arith, hold, c.from-samples.ensures) in
+    let last : old.samples + (c.from-samples.result + 1) - 1 ≡ old.samples + old.hold = omega (arith, stood) in (
+      omega (arith, hold, c.from.ensures, c.from-samples.ensures, c.if-count-from.false),
+      (λ some. omega arith),
+      rw (last, stood) c.consume_held-edges.ensures.taken,
+    )

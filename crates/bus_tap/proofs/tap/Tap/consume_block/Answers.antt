@@ -1,6 +1,6 @@
 use Rattle.std.proofs.Common.{◌+◌, refl, sym, ap, arith, length-append}
 use Rattle.bus_pairing.specs.declared.line.Line.TheVariants.{First, Second}
-use Rattle.bus_tap.proofs.BlockLemmas.{each-block, facts-block, sampled-block}
+use Rattle.bus_tap.proofs.BlockLemmas.{facts-block, timed-block}
 use Rattle.bus_tap.proofs.tap.Tap.consume_block.Goals as goal
 
 pub returns-clause-taken : goal.returns-clause-taken
@@ -23,16 +23,8 @@ returns-clause-taken c = λ more is.
             second = facts-block self.hold ss more is.count Second counted.second took.1.1 self.jump
                 c.note_block-2.new.self (rw (after.samples) at two);
           };
-      sampled = λ ss after.
+      timed = λ ss after.
           let took = c.take_block-counted.ensures.taken self.hold ss more is after.sampler in
-          sampled-block self.hold ss more is.count counted
-          (record { first = c.edges.result; second = c.edges-2.result }) took.1 c.edges.ensures c.edges-2.ensures;
+          rw (after.samples) (timed-block self.hold ss more is.count counted
+          (record { first = c.edges.result; second = c.edges-2.result }) took.1 c.edges.ensures c.edges-2.ensures);
     })
-
-pub returns-clause-each : goal.returns-clause-each
-returns-clause-each c ss more is =
-    let self = c.self.inside in
-    rw (← c.self.view_is) (λ after.
-    let took = c.take_block-counted.ensures.taken self.hold ss more is after.sampler in
-    each-block self.hold ss more is.count c.take_block-counted.result
-    (record { first = c.edges.result; second = c.edges-2.result }) took.1 c.edges.ensures c.edges-2.ensures)

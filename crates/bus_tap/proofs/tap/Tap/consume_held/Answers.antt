@@ -1,5 +1,5 @@
 use Rattle.std.proofs.Common.{refl, arith}
-use Rattle.bus_tap.proofs.HeldLemmas.{first-settled, consumes-held, waits-quietly}
+use Rattle.bus_tap.proofs.HeldLemmas.{first-settled, consumes-held}
 use Rattle.bus_tap.specs.Internal.Taps.{tap_state}
 use Rattle.bus_tap.proofs.tap.Tap.consume_held.Goals as goal
 
@@ -28,10 +28,3 @@ returns-clause-taken c =
     c.args.sample c.note.new.self c.note-2.new.self
     (record { first = c.bit_after.result; second = c.bit_after-2.result }) refl
     settled c.self.invariant.alike c.new.ensures.hold (returns-clause-settled c) first second (rw (bit, other) refl))
-
-pub returns-clause-last : goal.returns-clause-last
-returns-clause-last c =
-    let self = c.self.inside in
-    let settled = rw (← c.self.view_is) at c.requires.settled in
-    rw (← c.self.view_is) (waits-quietly (tap_state self) self.sampler c.args.before c.args.sample refl settled
-    c.self.invariant.alike)

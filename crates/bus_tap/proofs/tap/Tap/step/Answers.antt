@@ -24,5 +24,5 @@ returns c =
             second = facts-more self.hold ss s self.jump Second c.note-2.new.self _ _ levels.2 levels.3
                 (rw (after.samples) at two);
           };
-      sampled = λ ss after. c.step_sampler-step.ensures.sampled ss after.sampler;
+      timed = λ ss after. rw (after.samples) (c.step_sampler-step.ensures.timed ss after.sampler);
     })

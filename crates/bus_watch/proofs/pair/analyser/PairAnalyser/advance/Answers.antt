@@ -1,4 +1,6 @@
-use Rattle.std.proofs.Common.{[], ◌∷◌, ◌++◌, arith}
+use Rattle.std.proofs.Common.{◌≤◌, [], ◌∷◌, ◌++◌, refl, sym, arith}
+use Rattle.std.proofs.lemmas.Bool.{true≢false}
+use Rattle.bus_bits.specs.Limits.{most_places}
 use Rattle.bus_watch.specs.Internal.PairView.{pair_state}
 use Rattle.bus_watch.specs.Pairs.{PairState, AdvancesPairs}
 use Rattle.bus_watch.specs.PairShown.{seen_of_pair}
@@ -23,6 +25,22 @@ decode_bit-requires-2-clause-room g c = λ below.
     c.settled_places.ensures.frames c.settled_places.ensures.paid c.settled_places.ensures.within
     c.in_ok-found_first.ensures.reports reached
     (omega (arith, below, reached.second.has_taken.place, reached.origin, length-seconds ps))
+
+pub unreachable-requires : goal.unreachable-requires
+unreachable-requires g c =
+    let ps = c.self.invariant.pairs in
+    let reached = c.self.invariant.reached in
+    let past : most_places ≤ c.self.inside.first.place =
+    omega (
+      arith,
+      c.in-Err.ensures.limit.0 refl,
+      reached.first.has_taken.place,
+      reached.second.has_taken.place,
+      reached.origin,
+      length-firsts ps,
+      length-seconds ps,
+    ) in
+    true≢false (sym (c.in_ok-found_first.ensures.limit.1 past))
 
 abbrev next-state : (g : Over) (c : goal.In-Ok g) → PairState g.row.C.Denot
 next-state g c =

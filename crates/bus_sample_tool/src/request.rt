@@ -1,6 +1,6 @@
 //! What is asked for.
 
-use crate::options::SampleOptions;
+use bus_sample::SampleOptions;
 
 /// What is asked for.
 #[derive(Clone, Copy)]
