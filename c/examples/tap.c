@@ -99,7 +99,7 @@ int main(int argc, char **argv) {
     wires.first_data = wire(argv[2]);
     wires.second_clock = wire(argv[3]);
     wires.second_data = wire(argv[4]);
-    if (port1_tap_init(&bus.tap, &wires, 1, 0) || port1_rest_init(&bus.rest, PORT1_SILENCE)
+    if (port1_tap_init(&bus.tap, &wires, 1, 0, 0) || port1_rest_init(&bus.rest, PORT1_SILENCE)
         || port1_clocks_init(&bus.clocks, 256, 0))
         return 2;
     while ((count = fread(octets, 1, sizeof octets, stdin)) > 0)

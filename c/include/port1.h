@@ -18,12 +18,12 @@
  *     that returns PORT1_OK gives the standing, the verdict and the stray of the definitions
  *     (crates/bus_pairing/specs/Seen.antt) for the reports taken so far, by numbers that are named below;
  *   - after port1_tap_init, and as long as only these calls write the tap, the arrivals are those of the definition
- *     (crates/bus_tap/specs/Sampled.antt) for the samples taken so far: all of them, in order, each once; and its
+ *     (crates/bus_tap/specs/Stopped.antt) for the samples taken so far: all of them, in order, each once; and its
  *     facts are those of crates/bus_tap/specs/Facts.antt;
- *   - after port1_rest_init, and as long as only port1_rest_push writes the rule, the second line comes to rest just
- *     where the definition (crates/bus_tap/specs/Rested.antt) says, for the arrivals so far;
- *   - after port1_clocks_init, and as long as only port1_clocks_push writes the decoders, the reports are those of the
- *     definition (crates/bus_tap/specs/Arrival.antt) for the arrivals so far: all of them, in order, each once;
+ *   - after port1_rest_init, and as long as only port1_rest_push and port1_rest_feed write the rule, the second line
+ *     comes to rest just where the definition (crates/bus_tap/specs/Rested.antt) says, for the arrivals so far;
+ *   - after port1_clocks_init, and as long as only port1_clocks_push and port1_clocks_feed write the decoders, the reports
+ *     are those of the definition (crates/bus_tap/specs/Arrival.antt) for the arrivals so far: all of them, in order, each once;
  *   - where a call refuses, with PORT1_BAD_STATE, PORT1_BAD_ARGUMENT, PORT1_BAD_LENGTH or PORT1_NO_ROOM,
  *     nothing has changed but what is said there.
  *
@@ -306,7 +306,7 @@ struct port1_wire_level {
     uint32_t others; /* for how many samples the other one has stood */
 };
 
-/* A tap: 360 octets. It holds no pointer, so it may be copied and moved. Read samples, the facts of both lines and the
+/* A tap: 384 octets. It holds no pointer, so it may be copied and moved. Read samples, the facts of both lines and the
  * levels; write nothing. */
 struct port1_tap {
     uint64_t samples; /* how many it took */
@@ -316,26 +316,34 @@ struct port1_tap {
     uint32_t hold;
     uint32_t begun; /* 0 before the first sample */
     struct port1_wires wires;
+    uint64_t rest;
+    uint64_t first_until, second_until; /* the last sample with which a bit comes behind no stop */
 };
+
+/* The arrivals that a tap must have room for: a bit of each line, behind fifteen 1s. */
+#define PORT1_TAP_ROOM 32
 
 /* Makes a tap that took no sample, whatever the memory holds. Returns PORT1_OK.
  * hold: a level counts once it stood in `hold` + 1 samples in a row; shorter ones are glitches. With 0 each counts.
- * jump: see struct port1_line_facts. */
-uint32_t port1_tap_init(struct port1_tap *tap, const struct port1_wires *wires, uint32_t hold, uint64_t jump);
+ * jump: see struct port1_line_facts.
+ * rest: a clock that stands for more samples has stopped; with 0 none has. */
+uint32_t port1_tap_init(struct port1_tap *tap, const struct port1_wires *wires, uint32_t hold, uint64_t jump,
+                        uint64_t rest);
 
-/* Takes `*count` samples that are the same, until the arrivals have room for fewer than two more. Where a line's clock
- * rises, a bit of it arrives: the level of its data just before. Of two bits in one sample the first line's comes
- * first. `*count` is then how many samples are left, and `*arrived` how many arrivals were written, from the first on.
- * It works for `hold` samples and one more at the most after each change, however many they are.
+/* Takes `*count` samples that are the same, until the arrivals have room for fewer than PORT1_TAP_ROOM more. Where a
+ * line's clock rises, a bit of it arrives: the level of its data just before. Fifteen 1s of the line come before a bit
+ * whose clock had stopped. Of two bits in one sample the first line's comes first. `*count` is then how many samples
+ * are left, and `*arrived` how many arrivals were written, from the first on. It works for `hold` samples and one more
+ * at the most after each change, however many they are.
  *
  * PORT1_OK: `*count` is 0, or call again, once the arrivals have been read.
- * PORT1_NO_ROOM: just where `room` < 2. PORT1_BAD_STATE: the memory holds no tap. PORT1_PLACE_LIMIT: there would be
+ * PORT1_NO_ROOM: just where `room` < PORT1_TAP_ROOM. PORT1_BAD_STATE: the memory holds no tap. PORT1_PLACE_LIMIT: there would be
  * more than 2^60 samples. Nothing has changed. */
 uint32_t port1_tap_push(struct port1_tap *tap, uint64_t sample, uint64_t *count, struct port1_arrival *arrivals,
                         uint64_t room, uint64_t *arrived);
 
 /* Takes samples of `width` octets each, 1 to 8, the lowest first, from sample `*at` on, until the arrivals have room
- * for fewer than two more. `*at` is then the next sample to take. Octets behind the last whole sample are left alone.
+ * for fewer than PORT1_TAP_ROOM more. `*at` is then the next sample to take. Octets behind the last whole sample are left alone.
  *
  * PORT1_OK: `*at` is `count` / `width`, or call again. PORT1_BAD_ARGUMENT: just where `width` is not 1 to 8, or `*at` >
  * `count` / `width`. Nothing has changed. Else it returns what port1_tap_push returns. */
@@ -362,6 +370,20 @@ uint32_t port1_rest_init(struct port1_rest *rest, uint64_t most);
  * changed. */
 uint32_t port1_rest_push(struct port1_rest *rest, const struct port1_arrival *arrival, uint8_t *rests);
 
+/* The most bits that port1_rest_feed puts for one that arrives: that bit, and fifteen 1s. */
+#define PORT1_REST_ROOM 16
+
+/* Takes bits `*at` to `count` - 1 that arrive, while there is room for PORT1_REST_ROOM bits more, and puts each into
+ * `out`, with fifteen 1s of the second line right behind it where that comes to rest. `*at` is then the next bit to
+ * take, and `*put` how many bits were put.
+ *
+ * PORT1_OK: `*at` is `count`, or `out` has to be emptied; then call again.
+ * PORT1_NO_ROOM: just where `room` is under PORT1_REST_ROOM. Nothing has changed.
+ * PORT1_BAD_ARGUMENT: bit `*at` is neither of line 1 nor 2. PORT1_BAD_STATE: the memory holds no rule. Those before were
+ * put. */
+uint32_t port1_rest_feed(struct port1_rest *rest, const struct port1_arrival *arrivals, uint64_t count, uint64_t *at,
+                         struct port1_arrival *out, uint64_t room, uint64_t *put);
+
 /* Decoders of two lines with a clock each: 864 octets. They hold no pointer, so they may be copied and moved. Read of
  * both lines what struct port1_line says; write nothing. */
 struct port1_clocks {
@@ -384,6 +406,15 @@ uint32_t port1_clocks_init(struct port1_clocks *clocks, uint64_t longest, uint64
  * PORT1_BAD_ARGUMENT: just where the line is neither 1 nor 2. PORT1_BAD_STATE: the memory does not hold two decoders.
  * Where it does not return PORT1_OK, nothing has changed. */
 uint32_t port1_clocks_push(struct port1_clocks *clocks, const struct port1_arrival *arrival,
+                           struct port1_report *report);
+
+/* Takes bits `*at` to `count` - 1 that arrive, up to the first that decides a report. `*at` is then the next bit to
+ * take, and `*report` what the last one decided on its line, as port1_clocks_push tells it.
+ *
+ * PORT1_OK: with PORT1_NONE in the report `*at` is `count`; else call again.
+ * PORT1_PLACE_LIMIT, PORT1_BAD_ARGUMENT, PORT1_BAD_STATE: what port1_clocks_push returns for bit `*at`. Those before
+ * were taken, and decided nothing. */
+uint32_t port1_clocks_feed(struct port1_clocks *clocks, const struct port1_arrival *arrivals, uint64_t count, uint64_t *at,
                            struct port1_report *report);
 
 /* Says whether a piece has begun on line 1 or 2 that nothing has ended yet: `*has_begun` is then 1, `*first` the place
@@ -486,7 +517,7 @@ PORT1_PLACE(line_facts, jumps, 120);
 PORT1_SIZE(wire_level, 8);
 PORT1_PLACE(wire_level, level, 0);
 PORT1_PLACE(wire_level, others, 4);
-PORT1_SIZE(tap, 360);
+PORT1_SIZE(tap, 384);
 PORT1_PLACE(tap, samples, 0);
 PORT1_PLACE(tap, jump, 8);
 PORT1_PLACE(tap, first, 16);
@@ -498,6 +529,9 @@ PORT1_PLACE(tap, second_data, 328);
 PORT1_PLACE(tap, hold, 336);
 PORT1_PLACE(tap, begun, 340);
 PORT1_PLACE(tap, wires, 344);
+PORT1_PLACE(tap, rest, 360);
+PORT1_PLACE(tap, first_until, 368);
+PORT1_PLACE(tap, second_until, 376);
 PORT1_SIZE(rest, 24);
 PORT1_PLACE(rest, most, 0);
 PORT1_PLACE(rest, silent, 8);

@@ -99,9 +99,14 @@ MEASURED arriving(void) { arrive(polling, sizeof polling); }
 MEASURED hardest_arriving(void) { arrive(hardest, sizeof hardest); }
 
 MEASURED others(void) {
+    static const struct port1_arrival given[] = {{1, 0}, {2, 1}};
     at = sizeof samples;
     status = port1_tap_push(&tap, 0, &at, arrivals, 64, &arrived);
     status = port1_clocks_open(&clocks, 2, &has_begun, &first, &past);
+    at = 0;
+    status = port1_rest_feed(&rest, given, 2, &at, arrivals, 64, &arrived);
+    at = 0;
+    status = port1_clocks_feed(&clocks, given, 2, &at, &report);
     status = port1_line_open(&line, &has_begun, &first);
     at = 7;
     status = port1_send_flag(&sender, sent, sizeof sent, &at, &bits);
@@ -111,14 +116,14 @@ MEASURED others(void) {
     status = port1_line_init(&line, 256, 0);
     status = port1_sender_init(&sender);
     status = port1_pair_init(&pair);
-    status = port1_tap_init(&tap, &wires, 1, 2);
+    status = port1_tap_init(&tap, &wires, 1, 2, 0);
     status = port1_rest_init(&rest, PORT1_SILENCE);
     status = port1_clocks_init(&clocks, 256, 0);
 }
 
 int main(void) {
     status = port1_line_init(&line, 256, 0);
-    status = port1_tap_init(&tap, &wires, 1, 2);
+    status = port1_tap_init(&tap, &wires, 1, 2, 0);
     status = port1_rest_init(&rest, PORT1_SILENCE);
     status = port1_clocks_init(&clocks, 256, 0);
     for (uint32_t k = 0; k < 256; k++)

@@ -49,7 +49,7 @@ static struct port1_seen seen;
 static struct port1_tap tap;
 static struct port1_rest rest;
 static struct port1_clocks clocks;
-static struct port1_arrival arrivals[8];
+static struct port1_arrival arrivals[PORT1_TAP_ROOM];
 static uint64_t past, arrived;
 static uint8_t rests;
 
@@ -86,23 +86,33 @@ static void pair_take(void) {
     port1_pair_take(&pair, entries, 129, 0, &reply, octets[1], 5, &seen);
 }
 
-static void tap_init(void) { port1_tap_init(&tap, &wires, 1, 2); }
-static void tap_push(void) { at = 3, port1_tap_push(&tap, 5, &at, arrivals, 8, &arrived); }
+static void tap_init(void) { port1_tap_init(&tap, &wires, 1, 2, 3); }
+static void tap_push(void) { at = 3, port1_tap_push(&tap, 5, &at, arrivals, PORT1_TAP_ROOM, &arrived); }
 static void tap_feed(void) {
     static const uint8_t samples[] = {0, 0, 10, 10, 15, 15, 15, 15, 15, 15, 15, 15, 15, 15, 0, 0, 10, 5, 5, 1, 1};
     for (at = 0; at < sizeof samples;)
-        port1_tap_feed(&tap, samples, sizeof samples, 1, &at, arrivals, 8, &arrived);
+        port1_tap_feed(&tap, samples, sizeof samples, 1, &at, arrivals, PORT1_TAP_ROOM, &arrived);
 }
 static void rest_init(void) { port1_rest_init(&rest, PORT1_SILENCE); }
 static void rest_push(void) {
     static const struct port1_arrival arrival = {2, 1};
     port1_rest_push(&rest, &arrival, &rests);
 }
+static void rest_feed(void) {
+    static const struct port1_arrival given[] = {{2, 0}, {1, 1}, {1, 0}};
+    at = 0, port1_rest_feed(&rest, given, 3, &at, arrivals, PORT1_TAP_ROOM, &arrived);
+}
 static void clocks_init(void) { port1_clocks_init(&clocks, 256, 0); }
 static void clocks_push(void) {
     for (uint32_t i = 0; i < 16 * sizeof hardest; i++) {
         const struct port1_arrival arrival = {(uint8_t)(1 + i % 2), hardest[i / 16] >> i / 2 % 8 & 1};
         port1_clocks_push(&clocks, &arrival, &report);
+    }
+}
+static void clocks_feed(void) {
+    for (uint32_t i = 0; i < 16 * sizeof hardest; i++) {
+        const struct port1_arrival arrival = {(uint8_t)(1 + i % 2), hardest[i / 16] >> i / 2 % 8 & 1};
+        at = 0, port1_clocks_feed(&clocks, &arrival, 1, &at, &report);
     }
 }
 static void clocks_open(void) { port1_clocks_open(&clocks, 2, &has_begun, &first, &past); }
@@ -128,8 +138,10 @@ static const struct {
     {"port1_tap_feed", tap_feed},
     {"port1_rest_init", rest_init},
     {"port1_rest_push", rest_push},
+    {"port1_rest_feed", rest_feed},
     {"port1_clocks_init", clocks_init},
     {"port1_clocks_push", clocks_push},
+    {"port1_clocks_feed", clocks_feed},
     {"port1_clocks_open", clocks_open},
 };
 

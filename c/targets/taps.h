@@ -3,7 +3,7 @@
 #include "port1.h"
 #include "random.h"
 
-#define ARRIVALS 20
+#define ARRIVALS 80
 #define CLOCK_BITS 24
 
 static struct {
@@ -41,7 +41,7 @@ static uint32_t tap_init(void) {
     wires.second_clock.number &= 7;
     if (below(8) == 0) {
         uint32_t hold = below(4);
-        status = port1_tap_init(&tapped.tap, &wires, hold, below(9));
+        status = port1_tap_init(&tapped.tap, &wires, hold, below(9), below(12));
     }
     damage(&tapped.tap, sizeof tapped.tap);
     return note_tapped(status);

@@ -21,12 +21,17 @@ C_TYPES = {"u8": "uint8_t", "u16": "uint16_t", "u32": "uint32_t", "u64": "uint64
 
 # Files of the crates below with structs that cross to C.
 BELOW = ["crates/bus_line/src/decoder_words.rt"]
-BELOW += [f"crates/bus_tap/src/{name}.rt" for name in ("facts", "places", "words")]
+BELOW += [f"crates/bus_tap/src/{name}.rt" for name in ("facts", "places", "stop", "words")]
 
 # Structs whose fields the header has among those of the struct that they are in, and what it calls some of these. The
 # last field of each ends where the struct does.
-PARTS = ["DecoderWords", "LentFrame", "TapWords", "BitPlaces"]
-RENAMED = {"len": "count", "register": "check"}
+PARTS: Dict[str, Dict[str, str]] = {
+    "DecoderWords": {},
+    "LentFrame": {"len": "count", "register": "check"},
+    "TapWords": {},
+    "BitPlaces": {},
+    "StopRule": {"most": "rest", "first": "first_until", "second": "second_until"},
+}
 
 STRUCT = re.compile(r"^((?:#\[[^\n]*\]\n)+)pub struct (\w+) \{\n(.*?)^\}", re.MULTILINE | re.DOTALL)
 FIELD = re.compile(r"^    (?:pub(?:\(crate\))? )?(\w+): ([^{}\n]*),$", re.MULTILINE)
@@ -99,7 +104,7 @@ class Sources:
         """The fields of a struct, those of a part of it in its place."""
         for field, kind in FIELD.findall(body):
             if kind in self.parts:
-                yield from ((RENAMED.get(inner, inner), of) for inner, of in FIELD.findall(self.parts[kind]))
+                yield from ((PARTS[kind].get(inner, inner), of) for inner, of in self.fields(self.parts[kind]))
             else:
                 yield field, kind
 

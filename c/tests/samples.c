@@ -8,7 +8,7 @@ static uint8_t octets[9];
 /* Two lines of two wires each, from the lowest bit up; the second line's clock is inverted. */
 static const struct port1_wires wires = {{1, 0, 0, 0}, {1, 1, 0, 0}, {1, 2, 9, 0}, {1, 3, 0, 0}};
 static struct port1_tap tap;
-static struct port1_arrival arrivals[4];
+static struct port1_arrival arrivals[2 * PORT1_TAP_ROOM]; /* with room for a tap also behind some bits */
 
 /* A clock that rises brings the data just before; the first line's bit comes first, and other bits say nothing. */
 static void tap_bits(void) {
@@ -22,8 +22,9 @@ static void tap_bits(void) {
     for (size_t k = 0; k < sizeof rows / sizeof *rows; k++) {
         uint64_t at = 0, arrived = 9;
         memset(&tap, 0xa5, sizeof tap);
-        WANT(port1_tap_init(&tap, &wires, 0, 2) == PORT1_OK && tap.samples == 0 && tap.begun == 0);
-        WANT(port1_tap_feed(&tap, rows[k].octets, rows[k].count, 1, &at, arrivals, 4, &arrived) == PORT1_OK);
+        WANT(port1_tap_init(&tap, &wires, 0, 2, 0) == PORT1_OK && tap.samples == 0 && tap.begun == 0);
+        WANT(port1_tap_feed(&tap, rows[k].octets, rows[k].count, 1, &at, arrivals, sizeof arrivals / sizeof *arrivals,
+                            &arrived) == PORT1_OK);
         WANT(at == rows[k].count && tap.samples == at && arrived == rows[k].arrived);
         WANT(memcmp(arrivals, rows[k].wanted, arrived * sizeof *arrivals) == 0);
     }
@@ -34,8 +35,8 @@ static void tap_facts(void) {
     static const uint8_t samples[] = {7, 6, 7, 6, 7, 6, 7, 7, 7, 7, 7, 6, 7, 6, 7, 6, 7, 7, 7, 7, 7, 7, 99};
     static const struct port1_wires high = {{1, 8, 0, 0}, {1, 9, 0, 0}, {0, 1, 1, 0}, {0, 2, 1, 0}};
     uint64_t at = 0, arrived = 0;
-    WANT(port1_tap_init(&tap, &high, 2, 0) == PORT1_OK);
-    WANT(port1_tap_feed(&tap, samples, sizeof samples, 2, &at, arrivals, 4, &arrived) == PORT1_OK);
+    WANT(port1_tap_init(&tap, &high, 2, 0, 0) == PORT1_OK);
+    WANT(port1_tap_feed(&tap, samples, sizeof samples, 2, &at, arrivals, PORT1_TAP_ROOM, &arrived) == PORT1_OK);
     WANT(at == 11 && arrived == 1 && arrivals[0].line == 1 && arrivals[0].bit == 1);
     WANT(tap.first.bits.count == 1 && tap.first.bits.first == 10 && tap.first.clock_changes.count == 1);
     WANT(tap.first_clock.level == 1 && tap.first_data.level == 1 && tap.second.bits.count == 0 && tap.begun);
@@ -44,15 +45,15 @@ static void tap_facts(void) {
 /* Runs of samples: they stop where the room does, and say how many are left. */
 static void tap_runs(void) {
     uint64_t count = LIMIT - 3, arrived = 9, at = 0;
-    WANT(port1_tap_init(&tap, &wires, 1, 2) == PORT1_OK);
-    WANT(port1_tap_push(&tap, 6, &count, arrivals, 2, &arrived) == PORT1_OK && count == 0 && arrived == 0);
+    WANT(port1_tap_init(&tap, &wires, 1, 2, 0) == PORT1_OK);
+    WANT(port1_tap_push(&tap, 6, &count, arrivals, PORT1_TAP_ROOM, &arrived) == PORT1_OK && count == 0 && arrived == 0);
     count = 3;
-    WANT(port1_tap_push(&tap, 1, &count, arrivals, 2, &arrived) == PORT1_OK);
+    WANT(port1_tap_push(&tap, 1, &count, arrivals, PORT1_TAP_ROOM, &arrived) == PORT1_OK);
     WANT(count == 1 && arrived == 2 && tap.samples == LIMIT - 1 && arrivals[0].bit == 1 && arrivals[1].line == 2);
-    WANT(port1_tap_push(&tap, 1, &count, arrivals, 2, &arrived) == PORT1_OK && count == 0 && arrived == 0);
+    WANT(port1_tap_push(&tap, 1, &count, arrivals, PORT1_TAP_ROOM, &arrived) == PORT1_OK && count == 0 && arrived == 0);
     count = 1;
-    WANT(port1_tap_push(&tap, 1, &count, arrivals, 2, &arrived) == PORT1_PLACE_LIMIT && count == 1);
-    WANT(port1_tap_feed(&tap, octets, 1, 1, &at, arrivals, 2, &arrived) == PORT1_PLACE_LIMIT && at == 0);
+    WANT(port1_tap_push(&tap, 1, &count, arrivals, PORT1_TAP_ROOM, &arrived) == PORT1_PLACE_LIMIT && count == 1);
+    WANT(port1_tap_feed(&tap, octets, 1, 1, &at, arrivals, PORT1_TAP_ROOM, &arrived) == PORT1_PLACE_LIMIT && at == 0);
     WANT(tap.samples == LIMIT && tap.first.bits.last == LIMIT - 2 && tap.second.bits.count == 1);
 }
 
@@ -61,16 +62,16 @@ static void tap_refusals(void) {
     static const struct {
         uint64_t count, at, room;
         uint32_t width, others, status;
-    } rows[] = {{8, 0, 2, 1, 3, PORT1_OK},           {8, 8, 2, 1, 3, PORT1_OK},
-                {8, 9, 2, 1, 3, PORT1_BAD_ARGUMENT}, {8, 0, 2, 0, 3, PORT1_BAD_ARGUMENT},
-                {9, 1, 2, 8, 3, PORT1_OK},           {9, 2, 2, 8, 3, PORT1_BAD_ARGUMENT},
-                {9, 0, 2, 9, 3, PORT1_BAD_ARGUMENT}, {8, 0, 1, 1, 4, PORT1_NO_ROOM},
-                {8, 0, 0, 1, 3, PORT1_NO_ROOM},      {8, 0, 2, 1, 4, PORT1_BAD_STATE}};
+    } rows[] = {{8, 0, 32, 1, 3, PORT1_OK},           {8, 8, 32, 1, 3, PORT1_OK},
+                {8, 9, 32, 1, 3, PORT1_BAD_ARGUMENT}, {8, 0, 32, 0, 3, PORT1_BAD_ARGUMENT},
+                {9, 1, 32, 8, 3, PORT1_OK},           {9, 2, 32, 8, 3, PORT1_BAD_ARGUMENT},
+                {9, 0, 32, 9, 3, PORT1_BAD_ARGUMENT}, {8, 0, 31, 1, 4, PORT1_NO_ROOM},
+                {8, 0, 0, 1, 3, PORT1_NO_ROOM},       {8, 0, 32, 1, 4, PORT1_BAD_STATE}};
     memset(octets, 0x55, sizeof octets);
     for (size_t k = 0; k < sizeof rows / sizeof *rows; k++) {
         struct port1_tap before;
         uint64_t at = rows[k].at, arrived = 9, count = 1;
-        WANT(port1_tap_init(&tap, &wires, 3, 2) == PORT1_OK);
+        WANT(port1_tap_init(&tap, &wires, 3, 2, 0) == PORT1_OK);
         tap.second_data.others = rows[k].others;
         before = tap;
         WANT(port1_tap_feed(&tap, octets, rows[k].count, rows[k].width, &at, arrivals, rows[k].room, &arrived)
@@ -132,7 +133,7 @@ static void any_state(void) {
         struct port1_tap before;
         fill_tap();
         before = tap;
-        switch (port1_tap_feed(&tap, octets, sizeof octets, 1, &at, arrivals, 4, &arrived)) {
+        switch (port1_tap_feed(&tap, octets, sizeof octets, 1, &at, arrivals, PORT1_TAP_ROOM, &arrived)) {
         case PORT1_OK:
             taken++;
             WANT(is_tap() && tap.samples == before.samples + at && arrived <= 4 && (at == 9 || arrived > 2));
@@ -181,6 +182,40 @@ static void rest_of_a_line(void) {
     WANT(memcmp(&rest, &before, sizeof rest) == 0);
 }
 
+/* The same by blocks, with the 1s that bring it to rest put in, whatever room there is; and what is refused. */
+static void rest_of_a_block(void) {
+    static const struct port1_arrival given[] = {{1, 1}, {2, 7}, {2, 0}, {1, 1}, {1, 1}, {1, 0}, {1, 0}, {2, 1},
+                                                 {1, 0}, {1, 0}, {1, 0}, {2, 0}, {1, 0}, {1, 0}, {1, 1}, {3, 1}};
+    enum { GIVEN = sizeof given / sizeof *given - 1 };
+    static struct port1_arrival wanted[64], got[64];
+    for (uint64_t room = 0; room < 40; room++) {
+        struct port1_rest one, rest;
+        uint64_t count = 0, all = 0, at = 0, put = 9;
+        port1_rest_init(&one, 3);
+        port1_rest_init(&rest, 3);
+        for (size_t k = 0; k < GIVEN; k++) {
+            uint8_t rests = 0;
+            WANT(port1_rest_push(&one, &given[k], &rests) == PORT1_OK);
+            wanted[count].line = given[k].line;
+            wanted[count++].bit = given[k].bit != 0;
+            for (unsigned i = 0; rests == 1 && i < 15; i++)
+                wanted[count].line = 2, wanted[count++].bit = 1;
+        }
+        if (room < PORT1_REST_ROOM) {
+            WANT(port1_rest_feed(&rest, given, GIVEN, &at, got, room, &put) == PORT1_NO_ROOM && at == 0 && put == 9);
+            continue;
+        }
+        for (; at < GIVEN; all += put) {
+            WANT(port1_rest_feed(&rest, given, GIVEN, &at, got + all, room, &put) == PORT1_OK);
+            WANT(at == GIVEN || put + PORT1_REST_ROOM > room);
+        }
+        WANT(all == count && memcmp(got, wanted, all * sizeof *got) == 0 && memcmp(&rest, &one, sizeof rest) == 0);
+        WANT(port1_rest_feed(&rest, given, GIVEN + 1, &at, got, room, &put) == PORT1_BAD_ARGUMENT && at == GIVEN);
+        rest.ones = 16, at = 0;
+        WANT(port1_rest_feed(&rest, given, GIVEN, &at, got, room, &put) == PORT1_BAD_STATE && at == 0 && put == 0);
+    }
+}
+
 /* Call and answer, each between two flags, and the octets of the answer. */
 static const char call[] = "01111110" "00001000110000010000000010111110110100111" "01111110";
 static const char answer[] = "01111110" "00001000110000010000000110101111100000110" "01111110";
@@ -226,6 +261,33 @@ static void clocks_places(void) {
         WANT(frames[1].first == rows[k].first && frames[1].past == rows[k].past);
         WANT(clocks.second.count == 5 && memcmp(clocks.second.octets, answered, 5) == 0);
     }
+}
+
+/* By blocks, the same reports come as bit by bit, each at the bit that decides it; and what is refused. */
+static void clocks_by_blocks(void) {
+    static struct port1_arrival given[2 * sizeof call];
+    enum { GIVEN = sizeof given / sizeof *given - 2 };
+    static struct port1_clocks one;
+    struct port1_report report = {7, 8, 9, 10}, wanted;
+    uint64_t at = 0;
+    for (size_t k = 0; k < GIVEN; k++) {
+        given[k].line = (uint8_t)(1 + k % 2);
+        given[k].bit = (k % 2 == 0 ? call : answer)[k / 2] == '1';
+    }
+    WANT(port1_clocks_init(&one, 256, 7) == PORT1_OK && port1_clocks_init(&clocks, 256, 7) == PORT1_OK);
+    for (size_t k = 0; k < GIVEN; k++) {
+        WANT(port1_clocks_push(&one, &given[k], &wanted) == PORT1_OK);
+        if (wanted.kind == PORT1_NONE && k + 1 < GIVEN)
+            continue;
+        WANT(port1_clocks_feed(&clocks, given, GIVEN, &at, &report) == PORT1_OK && at == k + 1);
+        WANT(memcmp(&report, &wanted, sizeof report) == 0 && memcmp(&clocks, &one, sizeof one) == 0);
+    }
+    WANT(port1_clocks_feed(&clocks, given, GIVEN, &at, &report) == PORT1_OK && at == GIVEN && report.kind == PORT1_NONE);
+    WANT(port1_clocks_feed(&clocks, given, GIVEN + 1, &at, &report) == PORT1_BAD_ARGUMENT && at == GIVEN);
+    memset(&clocks.second, 0, sizeof clocks.second), at = 0;
+    WANT(port1_clocks_feed(&clocks, given, GIVEN, &at, &report) == PORT1_BAD_STATE && at == 0);
+    WANT(port1_clocks_init(&clocks, 256, LIMIT - 1) == PORT1_OK);
+    WANT(port1_clocks_feed(&clocks, given, GIVEN, &at, &report) == PORT1_PLACE_LIMIT && at == 2 && report.kind == 0);
 }
 
 /* Before the first line's first bit the second's stand at the origin; open pieces are told in places. */
@@ -285,7 +347,9 @@ int main(void) {
     tap_refusals();
     any_state();
     rest_of_a_line();
+    rest_of_a_block();
     clocks_places();
+    clocks_by_blocks();
     clocks_open();
     clocks_refusals();
     return wrong;

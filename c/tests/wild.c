@@ -58,10 +58,11 @@ static void fill_consistent(struct port1_line *line) {
     line->count = (uint32_t)up_to(line->longest + 2);
     line->place = draw() % 4 ? LIMIT - up_to(400) : up_to(draw() % 2 ? 100000 : LIMIT);
     line->origin = draw() % 3 ? 0 : line->place - up_to(line->place < 99 ? line->place : 99);
-    line->assembled = up_to(line->place - line->origin);
-    line->data_bits = up_to(line->assembled < 5000 ? line->assembled : 5000);
+    uint64_t bits = line->place - line->origin;
+    line->data_bits = up_to(bits < 5000 ? bits : 5000);
+    line->assembled = up_to(bits - line->data_bits);
     line->stored = up_to(line->assembled);
-    line->folded = up_to(8 * line->stored);
+    line->folded = up_to(8 * line->assembled + line->data_bits / 64 * 64);
     line->settles_at = draw() % 2 ? NEVER : line->place + 8 - up_to(line->place < 3000 ? line->place : 3000);
 }
 
@@ -98,8 +99,9 @@ static int is_alive(const struct port1_line *line) {
     return line->longest >= 3 && line->longest <= 256 && line->count <= line->longest + 2 && line->place <= LIMIT
         && line->origin <= line->place && line->settles_at >= 8
         && (line->settles_at == NEVER || line->settles_at <= line->place + 8)
-        && line->data_bits <= line->assembled && line->assembled <= line->place - line->origin
-        && line->stored <= line->assembled && line->folded <= 8 * line->stored;
+        && line->data_bits <= line->place - line->origin
+        && line->assembled <= line->place - line->origin - line->data_bits && line->stored <= line->assembled
+        && line->folded <= 8 * line->assembled + line->data_bits / 64 * 64;
 }
 
 static void fill_octets(uint8_t *octets) {

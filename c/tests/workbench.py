@@ -15,7 +15,7 @@ TOP = Path(__file__).resolve().parent.parent.parent
 STRICT = ["-Wall", "-Wextra", "-Wpedantic", "-Wconversion", "-Werror", "-O2"]
 
 # How long a run may take, and what a program shows while it is given no more, in seconds.
-SECONDS = 60
+SECONDS = 300
 
 Word = Union[str, Path]
 Result = Tuple[str, List[str]]

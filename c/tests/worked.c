@@ -227,7 +227,7 @@ static void no_decoder(void) {
 }
 
 /* A decoder of frames up to 256 octets from place 1000 on, after a flag and a hundred 0s. The piece begins at place
- * 1008, and 92 bits of it are settled, which are eleven octets and four bits. */
+ * 1008, and 92 bits of it are settled, of which 64 are a word that is stored and folded. */
 static void within_piece(void) {
     static const uint8_t octets[14] = {0x7e};
     struct port1_report report = untold;
@@ -246,13 +246,13 @@ static void one_number_wrong(void) {
         size_t at; /* in these numbers; 8 is the count of the octets */
         uint64_t number;
         uint32_t status;
-    } rows[] = {{0, 9, PORT1_OK},           {0, 2, PORT1_BAD_STATE},         {0, 257, PORT1_BAD_STATE},
-                {1, 1016, PORT1_OK},        {1, 1109, PORT1_BAD_STATE},      {2, LIMIT, PORT1_OK},
+    } rows[] = {{0, 6, PORT1_OK},           {0, 5, PORT1_BAD_STATE},         {0, 257, PORT1_BAD_STATE},
+                {1, 1016, PORT1_OK},        {1, 1017, PORT1_BAD_STATE},      {2, LIMIT, PORT1_OK},
                 {2, LIMIT + 1, PORT1_BAD_STATE}, {3, 1116, PORT1_OK},        {3, 1117, PORT1_BAD_STATE},
-                {3, 7, PORT1_BAD_STATE},    {4, 88, PORT1_OK},               {4, 89, PORT1_BAD_STATE},
-                {5, 92, PORT1_OK},          {5, 93, PORT1_BAD_STATE},        {6, 108, PORT1_OK},
-                {6, 109, PORT1_BAD_STATE},  {7, 92, PORT1_OK},               {7, 93, PORT1_BAD_STATE},
-                {8, 258, PORT1_OK},         {8, 259, PORT1_BAD_STATE}};
+                {3, 7, PORT1_BAD_STATE},    {4, 64, PORT1_OK},               {4, 65, PORT1_BAD_STATE},
+                {5, 0, PORT1_OK},           {5, 1, PORT1_BAD_STATE},         {6, 16, PORT1_OK},
+                {6, 17, PORT1_BAD_STATE},   {7, 108, PORT1_OK},              {7, 109, PORT1_BAD_STATE},
+                {7, 63, PORT1_BAD_STATE},   {8, 258, PORT1_OK},              {8, 259, PORT1_BAD_STATE}};
     for (size_t k = 0; k < sizeof rows / sizeof *rows; k++) {
         uint8_t has_begun = 9;
         uint64_t first = 5;

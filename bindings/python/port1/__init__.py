@@ -216,10 +216,7 @@ class ReportState(ctypes.Structure):
     """struct port1_report."""
 
     _fields_ = [
-        ("kind", ctypes.c_uint32),
-        ("cause", ctypes.c_uint32),
-        ("first", ctypes.c_uint64),
-        ("past", ctypes.c_uint64),
+        ("kind", ctypes.c_uint32), ("cause", ctypes.c_uint32), ("first", ctypes.c_uint64), ("past", ctypes.c_uint64)
     ]
 
 
@@ -303,7 +300,7 @@ def loaded() -> ctypes.PyDLL:
     try:
         return ctypes.PyDLL(path)
     except OSError as fault:
-        raise NoLibrary(f"{fault}; `make install-library` makes it") from None
+        raise NoLibrary(f"{fault}; `make install-library` makes it, and PORT1_LIBRARY says where it is") from None
 
 
 def held_octets(octets: Octets) -> bytes:

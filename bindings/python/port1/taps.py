@@ -136,6 +136,7 @@ class TapState(ctypes.Structure):
         ("hold", ctypes.c_uint32),
         ("begun", ctypes.c_uint32),
         ("wires", WiresState),
+        *((name, ctypes.c_uint64) for name in ("rest", "first_until", "second_until")),
     ]
 
 
@@ -162,7 +163,7 @@ STRUCTURES = {
     **{"port1_wire": (WireState, 4), "port1_wires": (WiresState, 16), "port1_arrival": (ArrivalState, 2)},
     **{"port1_occurrences": (OccurrencesState, 24), "port1_gap": (GapState, 16), "port1_rest": (RestState, 24)},
     **{"port1_line_facts": (LineFactsState, 144), "port1_wire_level": (WireLevelState, 8)},
-    **{"port1_tap": (TapState, 360), "port1_clocks": (ClocksState, 864)},
+    **{"port1_tap": (TapState, 384), "port1_clocks": (ClocksState, 864)},
 }
 
 
@@ -180,21 +181,27 @@ class Tap:
     """Takes the bits of one line or two from samples.
 
     first, second: clock and data of either line. hold: a level counts once it stood in `hold` + 1 samples in a row.
-    jump: by how many samples two distances of bits may differ.
+    jump: by how many samples two distances of bits may differ. rest: a clock that stands for more samples has stopped,
+    and fifteen ones of its line come before its next bit; with 0 none has.
     """
 
     def __init__(
-        self, first: Tuple[Wire, Wire], second: Optional[Tuple[Wire, Wire]] = None, hold: int = 1, jump: int = 2
+        self,
+        first: Tuple[Wire, Wire],
+        second: Optional[Tuple[Wire, Wire]] = None,
+        hold: int = 1,
+        jump: int = 2,
+        rest: int = 0,
     ):
-        if not 0 <= hold < 1 << 32 or not 0 <= jump < 1 << 64:
-            raise OutOfRange(f"hold is 0 to 2^32 - 1 and jump 0 to 2^64 - 1, not {hold} and {jump}")
+        if not 0 <= hold < 1 << 32 or not 0 <= jump < 1 << 64 or not 0 <= rest < 1 << 64:
+            raise OutOfRange(f"hold is 0 to 2^32 - 1, jump and rest 0 to 2^64 - 1, not {hold}, {jump} and {rest}")
         wires = WiresState(*(wire_state(Wire(*wire)) for wire in (*first, *(second or ()))))
         self._library = loaded()
         self._state = TapState()
         self._arrivals = (ArrivalState * ROOM)()
         self._arrived = ctypes.c_uint64(0)
         self._tap = ctypes.byref(self._state)
-        given = (ctypes.byref(wires), ctypes.c_uint32(hold), ctypes.c_uint64(jump))
+        given = (ctypes.byref(wires), ctypes.c_uint32(hold), ctypes.c_uint64(jump), ctypes.c_uint64(rest))
         status = self._library.port1_tap_init(self._tap, *given)
         if status != OK:
             raise refusal(status)

@@ -116,8 +116,7 @@ class Decoder(srd.Decoder):
         ("reply-times", "Reply times", (6, 7)),
     )
     binary = (
-        ("bits", "Bits of the controller's line, as text"),
-        ("answer-bits", "Bits of the line of the answers, as text"),
+        ("bits", "Bits of the controller's line, as text"), ("answer-bits", "Bits of the line of the answers, as text")
     )
 
     def __init__(self) -> None:
