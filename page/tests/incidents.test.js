@@ -46,9 +46,12 @@ test("bits are shown from their first place, or else the listing, whose places a
   assert.equal(shownOf(bare, true), null);
 });
 
-test("the most serious cause stands for all, with the stations of all", () => {
+test("the cause that began it, or the rest that explains it, stands for all, with the stations of all", () => {
   const causes = { "gap 16/0": 1, "burst": 2, "gap 2/1": 1, rest: 1, "gap 2/3": 1 };
-  assert.deepEqual(aboutOf(causes), { words: "nothing on either line", others: 4, stations: [2, 16] });
-  assert.deepEqual(aboutOf({ "spoilt 3/7": 1 }), { words: "answers to type 7 spoilt", others: 0, stations: [3] });
+  const told = (some) => Object.values(aboutOf(some));
+  assert.deepEqual(told(causes), ["rest", "nothing on either line, and 4 other causes", "", [2, 16]]);
+  const mixed = { "missing 2/10": 3, rest: 1 };
+  assert.deepEqual(told(mixed), ["missing 2/10", "answers to type 10 missing, and 1 other cause", "2", [2]]);
+  assert.deepEqual(told({ "spoilt 3/7": 1 }), ["spoilt 3/7", "answers to type 7 spoilt", "3", [3]]);
   assert.equal(titleOf(KNOWN), "2026-11-27 03:00:10 UTC: station 2, answers to type 1 missing");
 });

@@ -1,9 +1,9 @@
 /**
  * Lists files as the page does, without a browser.
  *
- *     node --experimental-wasm-memory64 page/tests/list.js MODULE < JOBS > RESULTS
+ *     node --experimental-wasm-memory64 page/tests/list.js MODULE 64|32 < JOBS > RESULTS
  *
- * MODULE is the decoder. JOBS is an array of JSON: of each file its path, its form, the kind of capture, the text
+ * MODULE is the decoder, with 64-bit or with 32-bit memory. JOBS is an array of JSON: of each file its path, its form, the kind of capture, the text
  * of a dictionary, and of a recording its channels and edges. RESULTS are the texts, notes and faults, in that order.
  */
 import { openAsBlob, readFileSync, writeFileSync } from "node:fs";
@@ -25,7 +25,7 @@ async function resultOf(engine, job) {
   }
 }
 
-const engine = readFileSync(process.argv[2]);
+const engine = { module: readFileSync(process.argv[2]), isWide: process.argv[3] === "64" };
 const results = [];
 for (const job of JSON.parse(readFileSync(0, "utf-8"))) results.push(await resultOf(engine, job));
 writeFileSync(1, JSON.stringify(results));

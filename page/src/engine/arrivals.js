@@ -1,8 +1,7 @@
+import { ROOM } from "./clocked.js";
 import { BLOCK } from "./decoder.js";
+import { ARRIVAL } from "./layout.js";
 import { countBefore } from "./search.js";
-
-/** How many ones bring a line to rest. */
-const REST = 15;
 
 /** Where the bits of the second line stand: each at the place of the last bit of the first line before it. */
 export class Places {
@@ -21,6 +20,17 @@ export class Places {
       this.places.push(place);
     }
     this.count += 1;
+  }
+
+  /**
+   * The place of each bit, in their order.
+   * @returns {Generator<number, void>}
+   */
+  *all() {
+    for (const [at, own] of this.owns.entries()) {
+      const past = this.owns[at + 1] ?? this.count;
+      for (let bit = own; bit < past; bit++) yield this.places[at] + bit - own;
+    }
   }
 
   /**
@@ -68,6 +78,11 @@ class KeptLine {
     this.length += 1;
   }
 
+  /** @param {number} own the number of a bit */
+  digit(own) {
+    return (this.chunks[Math.floor(own / (8 * BLOCK))][(own >> 3) % BLOCK] >> (own & 7)) & 1;
+  }
+
   /**
    * Its bits from one number to another.
    * @param {number} first
@@ -78,8 +93,7 @@ class KeptLine {
     /** @type {import("./bits.js").Bit[]} */
     const bits = [];
     for (let own = Math.max(first, 0); own < Math.min(past, this.length); own++) {
-      const octet = this.chunks[Math.floor(own / (8 * BLOCK))][(own >> 3) % BLOCK];
-      bits.push({ place: placeOf(own), digit: (octet >> (own & 7)) & 1 });
+      bits.push({ place: placeOf(own), digit: this.digit(own) });
     }
     return bits;
   }
@@ -111,6 +125,33 @@ export class KeptArrivals {
     this.lines[line].push(bit);
   }
 
+  /** @param {Uint8Array} octets a line, 1 or 2, and a bit for each that arrived */
+  keep(octets) {
+    for (let at = 0; at < octets.length; at += ARRIVAL.size) {
+      this.push(octets[at + ARRIVAL.line] - 1, octets[at + ARRIVAL.bit]);
+    }
+  }
+
+  isWhole = true;
+
+  /**
+   * Has another decoder take all that was kept, the ones among it that brought the second line to rest. Bits of the
+   * second line before any of the first come behind that one, where they have the same place.
+   * @template {Pick<import("./clocked.js").ClockedDecoder, "push"|"flush">} Taker
+   * @param {Taker} decoder
+   */
+  replay(decoder) {
+    const [first, second] = this.lines;
+    const places = this.places.all();
+    let next = places.next();
+    for (let place = 0, own = 0; place < first.length || !next.done; place++) {
+      if (place < first.length) decoder.push(0, first.digit(place));
+      for (; next.value === place; next = places.next()) decoder.push(1, second.digit(own++));
+    }
+    decoder.flush();
+    return decoder;
+  }
+
   /**
    * The bits of a line from one place to another.
    * @param {number} line
@@ -124,25 +165,14 @@ export class KeptArrivals {
   }
 }
 
-/** Takes bits in the order of arrival, keeps and decodes them. A second line that falls silent is brought to rest. */
+/** Takes bits in the order of arrival, in blocks, keeps and decodes them. */
 export class Arrivals {
+  count = 0; // of the bits that were not taken yet
+
   /** @param {KeptArrivals} kept @param {import("./clocked.js").ClockedDecoder} decoder */
   constructor(kept, decoder) {
     this.kept = kept;
     this.decoder = decoder;
-  }
-
-  /** @param {number} line @param {number} bit */
-  arrive(line, bit) {
-    this.kept.push(line, bit);
-    this.decoder.push(line, bit);
-  }
-
-  /** @param {number} line @param {number} bit */
-  push(line, bit) {
-    this.arrive(line, bit);
-    if (!this.decoder.rests()) return;
-    for (let count = 0; count < REST; count++) this.arrive(1, 1);
   }
 
   /**
@@ -150,7 +180,12 @@ export class Arrivals {
    * @param {number} mark
    */
   add(mark) {
-    this.push(mark >> 1, mark & 1);
+    const { library, places } = this.decoder;
+    const place = places.arrived + ARRIVAL.size * this.count;
+    library.octets[place + ARRIVAL.line] = (mark >> 1) + 1;
+    library.octets[place + ARRIVAL.bit] = mark & 1;
+    this.count += 1;
+    if (this.count === ROOM) this.flush();
   }
 
   /**
@@ -162,6 +197,16 @@ export class Arrivals {
     for (let at = 0; at < marks; at++) this.add((octet >> (2 * at)) & 3);
   }
 
-  /** Nothing is held back. */
-  flush() {}
+  flush() {
+    this.taken(this.count);
+  }
+
+  /**
+   * Takes bits that stand in the decoder's memory.
+   * @param {number} count
+   */
+  taken(count) {
+    this.count = 0;
+    this.decoder.take(count, (octets) => this.kept.keep(octets));
+  }
 }

@@ -35,6 +35,21 @@ export class KeptBits {
     return [this.length, this.length];
   }
 
+  /** Whether all bits were kept. */
+  get isWhole() {
+    return this.length <= 8 * BLOCK * this.chunks.length;
+  }
+
+  /**
+   * Has another decoder take all that was kept.
+   * @template {Pick<import("./decoder.js").Decoder, "take">} Taker
+   * @param {Taker} decoder
+   */
+  replay(decoder) {
+    this.chunks.forEach((octets, at) => decoder.take(octets, Math.min(8 * BLOCK, this.length - 8 * BLOCK * at)));
+    return decoder;
+  }
+
   /**
    * The bits of a line from one place to another; those that are not there or were not kept are left out.
    * @param {number} line

@@ -1,41 +1,14 @@
+import { FORMS, HEAD, SKIPPED, countOf, marksByOctet } from "../../../scripts/modules/capture/forms.js";
 import { Fault } from "../../../scripts/modules/fault.js";
 import { BLOCK } from "./decoder.js";
 
-/** What octets of a text capture may be beside a mark: skipped, or else. */
-const SKIPPED = 4;
-const OTHER = 5;
-
-/**
- * What each octet is, where these characters are the marks.
- * @param {string} characters
- */
-function tableOf(characters) {
-  const table = new Uint8Array(256).fill(OTHER);
-  characters.split("").forEach((character, mark) => (table[character.charCodeAt(0)] = mark));
-  " \t\r\n".split("").forEach((space) => (table[space.charCodeAt(0)] = SKIPPED));
-  return table;
-}
-
-/**
- * The kinds of captures: of one line, of pairs of two lines, and of bits in the order of arrival.
- * @type {Record<Kind, { marks: Uint8Array, magic: string, width: number }>}
- */
-const KINDS = {
-  1: { marks: tableOf("01"), magic: "TS2BITS1", width: 1 },
-  2: { marks: tableOf("0123"), magic: "TS2BITS2", width: 2 },
-  arrivals: { marks: tableOf("01oi"), magic: "TS2BITS3", width: 2 },
-};
-
 /** @typedef {Packer|import("./arrivals.js").Arrivals} Sink of marks, and of packed ones */
-/** @typedef {import("../worker/forms.js").Kind} Kind */
+/** @typedef {import("../../../scripts/modules/capture/forms.js").Kind} Kind */
 
 /** Of each octet its bits 0, 2, 4 and 6, as bits 0 to 3: the bits of the first line in four pairs. */
 const FIRSTS = Uint8Array.from({ length: 256 }, (_, octet) =>
   [0, 1, 2, 3].reduce((bits, pair) => bits | (((octet >> (2 * pair)) & 1) << pair), 0),
 );
-
-const HEAD = 16;
-const MOST_BITS = 2n ** 60n;
 
 /** Collects marks of one line or of two as packed bits, and hands them on in blocks. */
 export class Packer {
@@ -96,7 +69,7 @@ export class Packer {
 export class TextReader {
   /** @param {Kind} kind @param {Sink} sink */
   constructor(kind, sink) {
-    this.marks = KINDS[kind].marks;
+    this.marks = marksByOctet(FORMS[kind]);
     this.sink = sink;
     this.read = 0;
   }
@@ -127,7 +100,7 @@ export class TextReader {
 export class PackedReader {
   /** @param {Kind} kind @param {Sink} sink */
   constructor(kind, sink) {
-    this.kind = KINDS[kind];
+    this.form = FORMS[kind];
     this.sink = sink;
     /** @type {number[]} */
     this.head = [];
@@ -145,18 +118,17 @@ export class PackedReader {
   }
 
   readHead() {
-    const view = new DataView(Uint8Array.from(this.head).buffer);
-    const magic = String.fromCharCode(...this.head.slice(0, 8));
-    if (magic !== this.kind.magic) throw new Fault("capture: wrong magic");
-    const count = view.getBigUint64(8, true);
-    if (count > MOST_BITS) throw new Fault("capture: too many bits");
-    this.left = Number(count);
+    try {
+      this.left = countOf(this.form, Uint8Array.from(this.head));
+    } catch (fault) {
+      throw new Fault(`capture: ${/** @type {Fault} */ (fault).message}`);
+    }
   }
 
   /** @param {number} octet */
   takeOctet(octet) {
     if (this.left === 0) this.refuse("octets after the end");
-    const { width } = this.kind; // bits of a mark
+    const { width } = this.form; // bits of a mark
     const marks = Math.min(this.left, 8 / width);
     if (octet >> (marks * width) !== 0) this.refuse("spare bits are not 0");
     this.sink.addOctet(octet, marks);

@@ -35,7 +35,7 @@ class BusLine {
       return library.allocate(size);
     });
     [this.line, this.bits, this.atPlace, this.report] = memory;
-    this.pointers = memory.map(BigInt);
+    this.pointers = memory.map((at) => library.pointer(at));
     this.at = 0;
     this.end = 0;
     this.hasReport = false;

@@ -31,7 +31,7 @@ export const LINE_FACTS = {
   jumps: 120,
 };
 export const TAP = {
-  size: 360,
+  size: 384,
   samples: 0,
   first: 16,
   second: 160,

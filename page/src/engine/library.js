@@ -2,33 +2,42 @@ import { Fault } from "../../../scripts/modules/fault.js";
 
 const PAGE = 65536;
 
+/** @typedef {bigint|number} Pointer a bigint where addresses have 64 bits */
+
 /**
  * What is called of the library. Each answers a status, which is 0 where it did what it was asked.
  *
  * @typedef {object} Calls
- * @property {(line: bigint, longest: bigint, origin: bigint) => number} port1_line_init
- * @property {(line: bigint, octets: bigint, count: bigint, at: bigint, end: bigint,
- *   report: bigint) => number} port1_line_feed
- * @property {(line: bigint, open: bigint, first: bigint) => number} port1_line_open
- * @property {(pair: bigint) => number} port1_pair_init
- * @property {(pair: bigint, entries: bigint, entryCount: bigint, line: number, report: bigint, octets: bigint,
- *   count: bigint, seen: bigint) => number} port1_pair_take
- * @property {(tap: bigint, wires: bigint, hold: number, jump: bigint) => number} port1_tap_init
- * @property {(tap: bigint, sample: bigint, count: bigint, arrivals: bigint, room: bigint,
- *   arrived: bigint) => number} port1_tap_push
- * @property {(tap: bigint, octets: bigint, count: bigint, width: number, at: bigint, arrivals: bigint, room: bigint,
- *   arrived: bigint) => number} port1_tap_feed
- * @property {(rest: bigint, most: bigint) => number} port1_rest_init
- * @property {(rest: bigint, arrival: bigint, rests: bigint) => number} port1_rest_push
- * @property {(clocks: bigint, longest: bigint, origin: bigint) => number} port1_clocks_init
- * @property {(clocks: bigint, arrival: bigint, report: bigint) => number} port1_clocks_push
- * @property {(clocks: bigint, line: number, begun: bigint, first: bigint, past: bigint) => number} port1_clocks_open
+ * @property {(line: Pointer, longest: bigint, origin: bigint) => number} port1_line_init
+ * @property {(line: Pointer, octets: Pointer, count: bigint, at: Pointer, end: bigint,
+ *   report: Pointer) => number} port1_line_feed
+ * @property {(line: Pointer, open: Pointer, first: Pointer) => number} port1_line_open
+ * @property {(pair: Pointer) => number} port1_pair_init
+ * @property {(pair: Pointer, entries: Pointer, entryCount: bigint, line: number, report: Pointer, octets: Pointer,
+ *   count: bigint, seen: Pointer) => number} port1_pair_take
+ * @property {(tap: Pointer, wires: Pointer, hold: number, jump: bigint, rest: bigint) => number} port1_tap_init
+ * @property {(tap: Pointer, sample: bigint, count: Pointer, arrivals: Pointer, room: bigint,
+ *   arrived: Pointer) => number} port1_tap_push
+ * @property {(tap: Pointer, octets: Pointer, count: bigint, width: number, at: Pointer, arrivals: Pointer, room: bigint,
+ *   arrived: Pointer) => number} port1_tap_feed
+ * @property {(rest: Pointer, most: bigint) => number} port1_rest_init
+ * @property {(rest: Pointer, arrivals: Pointer, count: bigint, at: Pointer, out: Pointer, room: bigint,
+ *   put: Pointer) => number} port1_rest_feed
+ * @property {(clocks: Pointer, longest: bigint, origin: bigint) => number} port1_clocks_init
+ * @property {(clocks: Pointer, arrivals: Pointer, count: bigint, at: Pointer, report: Pointer) => number} port1_clocks_feed
+ * @property {(clocks: Pointer, line: number, begun: Pointer, first: Pointer, past: Pointer) => number} port1_clocks_open
  */
 
-/** The C library, compiled for WebAssembly with 64-bit memory. Pointers and numbers of octets are BigInts. */
+/**
+ * The library as WebAssembly, and whether its addresses have 64 bits.
+ * @typedef {{ module: Uint8Array, isWide: boolean }} Engine
+ */
+
+/** The C library, compiled for WebAssembly. Numbers of octets and bits have 64 bits, whatever addresses have. */
 export class Library {
-  /** @param {WebAssembly.Instance} instance */
-  constructor(instance) {
+  /** @param {WebAssembly.Instance} instance @param {boolean} isWide */
+  constructor(instance, isWide) {
+    this.isWide = isWide;
     this.calls = /** @type {Calls} */ (/** @type {unknown} */ (instance.exports));
     this.memory = /** @type {WebAssembly.Memory} */ (instance.exports.memory);
     this.used = this.memory.buffer.byteLength;
@@ -45,11 +54,20 @@ export class Library {
     this.used += (size + 7) & ~7;
     const lacking = this.used - this.memory.buffer.byteLength;
     if (lacking > 0) {
-      grow(this.memory, Math.ceil(lacking / PAGE));
+      this.grow(Math.ceil(lacking / PAGE));
       this.view = new DataView(this.memory.buffer);
       this.octets = new Uint8Array(this.memory.buffer);
     }
     return begin;
+  }
+
+  /**
+   * An address, as calls take it.
+   * @param {number} at
+   * @returns {Pointer}
+   */
+  pointer(at) {
+    return this.isWide ? BigInt(at) : at;
   }
 
   /**
@@ -58,6 +76,20 @@ export class Library {
    */
   number(at) {
     return this.view.getUint32(at, true) + 4294967296 * this.view.getUint32(at + 4, true);
+  }
+
+  /**
+   * Makes the memory longer. Of 64-bit ones browsers take a BigInt, Node 20 still takes a number.
+   * @param {number} pages
+   */
+  grow(pages) {
+    const memory = /** @type {{ grow(pages: Pointer): unknown }} */ (this.memory);
+    try {
+      memory.grow(this.pointer(pages));
+    } catch (fault) {
+      if (!(fault instanceof TypeError)) throw fault;
+      memory.grow(pages);
+    }
   }
 
   /**
@@ -71,31 +103,10 @@ export class Library {
 }
 
 /**
- * Makes a 64-bit memory longer. Browsers take a BigInt, Node 20 still takes a number.
- * @param {{ grow(pages: bigint|number): unknown }} memory
- * @param {number} pages
- */
-function grow(memory, pages) {
-  try {
-    memory.grow(BigInt(pages));
-  } catch (fault) {
-    if (!(fault instanceof TypeError)) throw fault;
-    memory.grow(pages);
-  }
-}
-
-/** Whether this browser can run the decoder: it needs 64-bit memory. */
-export function canRun() {
-  // An empty module with a memory of 64-bit addresses.
-  const module = Uint8Array.of(0, 97, 115, 109, 1, 0, 0, 0, 5, 3, 1, 4, 0);
-  return typeof WebAssembly === "object" && WebAssembly.validate(module);
-}
-
-/**
  * Compiles the library synchronously: Node 20 can deadlock with its own compiler while it waits for the promise of
  * `WebAssembly.instantiate` alone.
- * @param {Uint8Array} module
+ * @param {Engine} engine
  */
-export function libraryOf(module) {
-  return new Library(new WebAssembly.Instance(new WebAssembly.Module(module)));
+export function libraryOf({ module, isWide }) {
+  return new Library(new WebAssembly.Instance(new WebAssembly.Module(module)), isWide);
 }

@@ -1,4 +1,4 @@
-import { FRAME, IDLE, PENDING, SPOILT, STRAY } from "../../../scripts/modules/listing/kinds.js";
+import { ANSWERED, FRAME, IDLE, PENDING, STRAY } from "../../../scripts/modules/listing/kinds.js";
 import { Listing, WRONG_LENGTH } from "../../../scripts/modules/listing/listing.js";
 import { ENTRY, LINE, PAIR, REPORT, SEEN, TYPES } from "./layout.js";
 
@@ -6,7 +6,7 @@ import { ENTRY, LINE, PAIR, REPORT, SEEN, TYPES } from "./layout.js";
 /** @typedef {import("./library.js").Library} Library */
 
 /** What is added to the library's number of a verdict to make the number of a kind of lines. */
-const VERDICTS = SPOILT - 4;
+const VERDICTS = ANSWERED - 1;
 
 /** Commands and answers, by a table of frame types. */
 class Pairing {
@@ -16,7 +16,7 @@ class Pairing {
     this.pair = library.allocate(PAIR.size);
     this.seen = library.allocate(SEEN.size);
     this.table = library.allocate(TYPES * ENTRY.size);
-    this.pointers = [this.pair, this.table, this.seen].map(BigInt);
+    this.pointers = [this.pair, this.table, this.seen].map((at) => library.pointer(at));
     for (const entry of entries) this.enter(entry);
     library.demand(library.calls.port1_pair_init(this.pointers[0]), "port1_pair_init");
   }
@@ -40,8 +40,8 @@ class Pairing {
    */
   take(number, line, report, count) {
     const [pair, table, seen] = this.pointers;
-    const [told, octets] = [BigInt(report), BigInt(line + LINE.octets)];
     const { library } = this;
+    const [told, octets] = [library.pointer(report), library.pointer(line + LINE.octets)];
     library.demand(
       library.calls.port1_pair_take(pair, table, BigInt(TYPES), number, told, octets, BigInt(count), seen),
       "port1_pair_take",

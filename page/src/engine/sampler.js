@@ -1,3 +1,4 @@
+import { ROOM } from "./clocked.js";
 import { ARRIVAL, GAP, LINE_FACTS, OCCURRENCES, TAP, WIRE, WIRES } from "./layout.js";
 
 /** @typedef {import("../../../scripts/modules/recording/doubts.js").Facts} Facts */
@@ -6,7 +7,9 @@ import { ARRIVAL, GAP, LINE_FACTS, OCCURRENCES, TAP, WIRE, WIRES } from "./layou
 
 /** How many octets of samples, and how many arrivals, a call has room for. */
 const OCTETS = 65536;
-const ROOM = 65536;
+
+/** Bits are handed on where there is room for fewer. */
+const LEAST = 1024;
 
 /** A run of samples that are the same: so many octets, the levels in the lowest. */
 const RUN = 8;
@@ -19,26 +22,34 @@ const NAMES = /** @type {const} */ (["firstClock", "firstData", "secondClock", "
 
 /** Takes bits from samples by a tap of the library. */
 export class Sampler {
+  held = 0; // bits that arrived and were not handed on
+  next = /** @type {import("./library.js").Pointer} */ (0);
+  room = 0n;
+
   /**
    * @param {Library} library
    * @param {import("../../../scripts/modules/recording/recording.js").Recording} recording
-   * @param {{ hold: number, jump: number }} sampling
+   * @param {{ hold: number, jump: number, rest: number }} sampling
    * @param {number} turned wires whose levels are exchanged: 1 for TXC, 2 TXD, 4 RXC, 8 RXD
-   * @param {(line: number, bit: number) => void} arrive
+   * @param {{ arrivals: number|null, take: (count: number, octets: Uint8Array) => void }} goal where in memory bits are
+   *   put, and what takes them: how many, and a line and a bit for each
    */
-  constructor(library, { hasRuns, width, wires }, { hold, jump }, turned, arrive) {
+  constructor(library, { hasRuns, width, wires }, { hold, jump, rest }, turned, { arrivals, take }) {
     this.library = library;
     this.hasRuns = hasRuns;
     this.width = width;
-    this.arrive = arrive;
+    this.hand = take;
     this.samples = library.allocate(OCTETS);
-    this.arrivals = library.allocate(ROOM * ARRIVAL.size);
+    this.arrivals = arrivals ?? library.allocate(ROOM * ARRIVAL.size);
     this.at = library.allocate(8);
     this.arrived = library.allocate(8);
     this.tap = library.allocate(TAP.size);
-    this.pointers = [this.tap, this.samples, this.at, this.arrivals, this.arrived].map(BigInt);
+    const memory = [this.tap, this.samples, this.at, this.arrived];
+    this.pointers = memory.map((at) => library.pointer(at));
+    this.makeRoom();
     const named = this.nameWires(wires, turned);
-    library.demand(library.calls.port1_tap_init(this.pointers[0], named, hold, BigInt(jump)), "port1_tap_init");
+    const [tap] = this.pointers;
+    library.demand(library.calls.port1_tap_init(tap, named, hold, BigInt(jump), BigInt(rest)), "port1_tap_init");
   }
 
   /**
@@ -55,7 +66,7 @@ export class Sampler {
       view.setUint8(place + WIRE.number, bit);
       view.setUint8(place + WIRE.inverted, (turned >> wire) & 1);
     }
-    return BigInt(at);
+    return this.library.pointer(at);
   }
 
   /** @param {Uint8Array} piece whole samples, or whole runs */
@@ -68,43 +79,56 @@ export class Sampler {
   /** @param {Uint8Array} octets that a call has room for */
   takeSamples(octets) {
     const { library, width } = this;
-    const [tap, samples, at, arrivals, arrived] = this.pointers;
-    const [count, room] = [BigInt(octets.length), BigInt(ROOM)];
+    const [tap, samples, at, arrived] = this.pointers;
+    const count = BigInt(octets.length);
     library.octets.set(octets, this.samples);
     library.view.setBigUint64(this.at, 0n, true);
     while (library.number(this.at) < octets.length / width) {
-      const status = library.calls.port1_tap_feed(tap, samples, count, width, at, arrivals, room, arrived);
+      const { next, room } = this;
+      const status = library.calls.port1_tap_feed(tap, samples, count, width, at, next, room, arrived);
       library.demand(status, "port1_tap_feed");
-      this.handOn();
+      this.hold();
     }
   }
 
   /** @param {Uint8Array} piece */
   takeRuns(piece) {
     const { library } = this;
-    const [tap, , at, arrivals, arrived] = this.pointers;
+    const [tap, , at, arrived] = this.pointers;
     const records = new DataView(piece.buffer, piece.byteOffset, piece.length);
-    const room = BigInt(ROOM);
     for (let from = 0; from < piece.length; from += RUN) {
       const [low, high] = [records.getUint32(from, true), records.getUint32(from + 4, true)];
       library.view.setUint32(this.at, (low >>> 8) | (high << 24), true);
       library.view.setUint32(this.at + 4, high >>> 8, true);
       const levels = LEVELS[low & 255];
       while (library.number(this.at) > 0) {
-        const status = library.calls.port1_tap_push(tap, levels, at, arrivals, room, arrived);
+        const status = library.calls.port1_tap_push(tap, levels, at, this.next, this.room, arrived);
         library.demand(status, "port1_tap_push");
-        this.handOn();
+        this.hold();
       }
     }
   }
 
-  /** Hands on the bits that arrived at a call. */
-  handOn() {
-    const { octets } = this.library;
-    const past = this.arrivals + ARRIVAL.size * this.library.number(this.arrived);
-    for (let at = this.arrivals; at < past; at += ARRIVAL.size) {
-      this.arrive(octets[at + ARRIVAL.line] - 1, octets[at + ARRIVAL.bit]);
-    }
+  /** Holds the bits that arrived at a call, and hands them on where there is little room for more. */
+  hold() {
+    const count = this.library.number(this.arrived);
+    if (count === 0) return;
+    this.held += count;
+    if (this.held > ROOM - LEAST) this.flush();
+    else this.makeRoom();
+  }
+
+  /** Hands on the bits that are held. */
+  flush() {
+    this.hand(this.held, this.library.octets.subarray(this.arrivals, this.arrivals + ARRIVAL.size * this.held));
+    this.held = 0;
+    this.makeRoom();
+  }
+
+  /** Where the next bit is put, and for how many there is room. */
+  makeRoom() {
+    this.next = this.library.pointer(this.arrivals + ARRIVAL.size * this.held);
+    this.room = BigInt(ROOM - this.held);
   }
 
   /**

@@ -1,5 +1,5 @@
 import { element, make } from "./dom.js";
-import { faultWords, wordsOf } from "./words.js";
+import { EXCHANGED, faultWords, wordsOf } from "./words.js";
 
 /** @typedef {import("../../../scripts/modules/recording/doubts.js").Warning} Warning */
 
@@ -32,24 +32,28 @@ export class Banners {
     element("fault").hidden = fault === null;
     element("fault").textContent = fault === null ? "" : faultWords(fault, count > 0);
     element("warnings").hidden = warnings.length === 0;
-    const firstEdge = warnings.findIndex((warning) => wordsOf(warning, clock).act === "edge");
-    const items = warnings.map((warning, at) => this.item(warning, clock, at === firstEdge));
-    element("warning-list").replaceChildren(...items);
+    const [wires, others] = [true, false].map((are) => warnings.filter(({ sort }) => EXCHANGED.has(sort) === are));
+    const firstEdge = others.find((warning) => wordsOf(warning, clock).act === "edge");
+    // What else is doubtful comes of wires in each other's place: these are chosen first.
+    const isCured = (/** @type {Warning} */ warning) => wires.length === 0 || wordsOf(warning, clock).act === "second";
+    const ofOthers = others.map((warning) => this.item(warning, clock, isCured(warning), warning === firstEdge));
+    element("warning-list").replaceChildren(...wires.map((warning) => this.item(warning, clock)), ...ofOthers);
     element("guess").hidden = guess === "";
     element("guess").replaceChildren(guess, ...(guess === "" ? [] : [this.button("wires")]));
   }
 
   /**
-   * A warning, with what to do, in a report no more than to show it; the other edge is offered once.
+   * A warning, with what to do, if that is a cure, in a report no more than to show it; the other edge is offered once.
    * @param {Warning} warning
    * @param {import("./clock.js").Clock} clock
+   * @param {boolean} isCured
    * @param {boolean} isFirstEdge
    */
-  item(warning, clock, isFirstEdge) {
+  item(warning, clock, isCured = true, isFirstEdge = false) {
     const { text, cure, act } = wordsOf(warning, clock);
     const item = make("li", "");
-    item.append(make("strong", text), ...(cure ? [` ${cure}`] : []));
-    const isOffered = element("listing-data") ? act === "second" : act !== "edge" || isFirstEdge;
+    item.append(make("strong", text), ...(cure && isCured ? [` ${cure}`] : []));
+    const isOffered = element("listing-data") ? act === "second" : isCured && (act !== "edge" || isFirstEdge);
     if (act !== "" && isOffered) item.append(this.button(act, warning));
     return item;
   }

@@ -1,6 +1,17 @@
 import { element, make } from "./dom.js";
 import { grouped } from "./units.js";
 
+/**
+ * How long a file is: its bits, and a recording of which some have no places.
+ * @param {{ first: number, past: number, lacking: number }} summary
+ * @param {number} rate
+ */
+export function lengthOf({ first, past, lacking }, rate) {
+  const seconds = (past - first) / rate;
+  const shown = `${seconds.toFixed(3)} s`;
+  return lacking > 0 ? `${(seconds + lacking).toFixed(3)} s, ${shown} of them with a clock` : shown;
+}
+
 /** The slim bar: what file this is, and how it was read. */
 export class Bar {
   /** @param {() => void} open what to do where the dictionary is chosen */
@@ -14,7 +25,7 @@ export class Bar {
   }
 
   /**
-   * @param {{ first: number, past: number, isOfTwo: boolean }} summary
+   * @param {{ first: number, past: number, lacking: number, isOfTwo: boolean }} summary
    * @param {{ rate: number, form: string }} job
    * @param {{ name: string, date: string, hasDictionary: boolean }} file whose name and date may be empty
    */
@@ -25,7 +36,7 @@ export class Bar {
     chip.append(this.chip);
     element("facts").replaceChildren(
       ...(name ? [fact(name, "name")] : []),
-      fact(`${((summary.past - summary.first) / job.rate).toFixed(3)} s`),
+      fact(lengthOf(summary, job.rate)),
       fact(`${grouped(job.rate)} bits/s, ${summary.isOfTwo ? "two lines" : "one line"}`),
       ...(date ? [fact(date, "date")] : []),
       ...(hasDictionary ? [chip] : []),

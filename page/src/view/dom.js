@@ -8,7 +8,7 @@
  *   & Record<"progress", HTMLProgressElement>
  *   & Record<"dictionary", HTMLTextAreaElement>
  *   & Record<"help", HTMLDialogElement>
- *   & Record<"engine"|"listing-data", HTMLElement|null>} Elements
+ *   & Record<"engine"|"engine-32"|"listing-data", HTMLElement|null>} Elements
  */
 
 /**

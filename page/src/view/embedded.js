@@ -10,6 +10,19 @@ export function octetsOf(id) {
 }
 
 /**
+ * The first decoder in the page that this browser can run: the one with 64-bit memory, else the one with 32-bit memory.
+ * @returns {import("../engine/library.js").Engine|null}
+ */
+export function engineOf() {
+  if (typeof WebAssembly !== "object") return null;
+  for (const id of /** @type {const} */ (["engine", "engine-32"])) {
+    const module = element(id) && octetsOf(id);
+    if (module && WebAssembly.validate(module)) return { module, isWide: id === "engine" };
+  }
+  return null;
+}
+
+/**
  * What stands in the page as base64 of gzip.
  * @param {string} id
  * @returns {Promise<Blob>}

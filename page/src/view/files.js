@@ -6,6 +6,8 @@ import { chosenFiles, droppedFiles } from "./given.js";
 
 /** @typedef {import("./given.js").Given} Given */
 
+export const NOT_ALL_CHOSEN = "Say which channels are TXC and TXD.";
+
 /**
  * The text of a file, plain.
  * @param {File} file
@@ -55,7 +57,7 @@ export class Files {
   offerChannels(channels) {
     element("channels").hidden = channels.length === 0;
     const { how, named, order } = usualOf(channels);
-    const isOrdered = how === "ordered";
+    const isOrdered = how === "ordered" || how === "numbered";
     const many = isOrdered || channels.length === 4 ? 4 : 2;
     named.forEach((_, at) => {
       const select = element(`channel-${at}`);
@@ -78,7 +80,7 @@ export class Files {
       const select = element(`channel-${at}`);
       return select.selectedIndex > 0 ? select.value : null;
     });
-    if (clock === null || data === null) throw new Error("Say which channels are TXC and TXD.");
+    if (clock === null || data === null) throw new Error(NOT_ALL_CHOSEN);
     if (answers === null) return [clock, data];
     return second === null ? [clock, data, answers] : [clock, data, second, answers];
   }

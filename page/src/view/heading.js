@@ -1,6 +1,6 @@
-import { counted } from "../../../scripts/modules/statistics/units.js";
+import { counted } from "../../../scripts/modules/text.js";
 import { titleOf } from "../../../scripts/modules/watch/words.js";
-import { Bar } from "./bar.js";
+import { Bar, lengthOf } from "./bar.js";
 import { commandOf } from "./command.js";
 import { element, make } from "./dom.js";
 import { grouped } from "./units.js";
@@ -15,7 +15,8 @@ import { grouped } from "./units.js";
  * What the page knows of itself, and a report of its recording.
  * @typedef {object} About
  * @property {string} version
- * @property {string} decoder its SHA-256
+ * @property {string} decoder the SHA-256 of the decoder with 64-bit memory, and of that with 32-bit memory
+ * @property {string} narrow
  * @property {import("./dictionary.js").Schema} schema of dictionaries
  * @property {Record<string, string>} [recording] what is known of its file
  * @property {string[]} [notes] on it
@@ -35,13 +36,16 @@ const NAMES = { name: "File", date: "Date", size: "Octets", form: "Form", wires:
 export class Heading {
   /**
    * @param {About} about
+   * @param {boolean} isNarrow whether the decoder has 32-bit memory
    * @param {() => void} openDictionary
    */
-  constructor(about, openDictionary) {
+  constructor(about, isNarrow, openDictionary) {
     this.about = about;
     this.bar = new Bar(openDictionary);
-    const { version, decoder } = about;
-    element("version").textContent = `Port 1 analyser ${version}, decoder ${decoder.slice(0, 16)}.`;
+    const { version, decoder, narrow } = about;
+    const used = isNarrow ? narrow : decoder;
+    element("version").textContent = `Port 1 analyser ${version}, decoder ${used.slice(0, 16)}.`;
+    element("narrow").hidden = !isNarrow;
   }
 
   /**
@@ -49,11 +53,12 @@ export class Heading {
    * @param {Summary} summary
    * @param {Clock} clock
    */
-  showLength({ frames, damaged, first, past }, { rate, begin, dayTime }) {
+  showLength(summary, { rate, begin, dayTime }) {
+    const { frames, damaged, beside } = summary;
     const when = dayTime === null ? "" : ` It begins on ${begin}.`;
+    const others = beside > 0 ? `, beside ${beside} where the recording lacks samples,` : "";
     const pieces = counted(damaged, "damaged piece");
-    element("head").textContent =
-      `${counted(frames, "frame")} and ${pieces} in ${((past - first) / rate).toFixed(3)} s.${when}`;
+    element("head").textContent = `${counted(frames, "frame")} and ${pieces}${others} in ${lengthOf(summary, rate)}.${when}`;
   }
 
   /**
@@ -87,7 +92,7 @@ export class Heading {
     /** @type {Record<string, string>} */
     const wires = channels.length > 0 ? { wires: channels.join(", ") } : {};
     this.showRecording({ name: file.name, date, size: grouped(file.size), form, ...wires });
-    element("command").textContent = commandOf(job, file.name);
+    element("command").textContent = commandOf({ ...job, dictionary: summary.draft ?? job.dictionary }, file.name);
   }
 
   /**

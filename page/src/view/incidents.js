@@ -88,13 +88,13 @@ export class Incidents {
 
   /** @param {Incident} incident */
   item(incident) {
-    const { words, others, stations } = aboutOf(incident.causes);
+    const { words, stations } = aboutOf(incident.causes);
     const [item, button] = [make("li"), make("button")];
     const where = stations.length === 0 ? "" : `station${stations.length > 1 ? "s" : ""} ${stations.join(", ")}`;
     button.type = "button";
     button.append(
       make("span", incident.wall.slice(0, 23).replace("T", " "), "when"),
-      make("span", words + (others > 0 ? `, and ${others} more` : ""), "cause"),
+      make("span", words, "cause"),
       make("span", where, "station"),
       make("span", lengthOf(incident.seconds), "length"),
     );

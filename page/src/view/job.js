@@ -1,3 +1,4 @@
+/** @typedef {import("../engine/library.js").Engine} Engine */
 /** @typedef {ReturnType<typeof import("../worker/forms.js").formOf>} Told of a file by its first octets */
 /** @typedef {NonNullable<Told["kind"]>} CaptureKind */
 /** @typedef {Told & { form: Exclude<Told["form"], "dictionary"|"other"> }} Chosen how a file is read */
@@ -15,7 +16,7 @@
  * @property {number} rate in bits a second
  * @property {string} dictionary its text, or nothing
  * @property {import("../worker/desk.js").Begin|null} begin when place 0 was, where that is known
- * @property {Uint8Array|null} engine the decoder's module
+ * @property {Engine|null} engine
  */
 
 /**

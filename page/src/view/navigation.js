@@ -159,9 +159,9 @@ export class Navigation {
     await this.showLine(row);
   }
 
-  /** @param {number} second */
-  async goTo(second) {
-    const place = Math.round(second * this.clock.rate);
+  /** @param {number} where */
+  async goTo(where) {
+    const place = Math.round(where);
     const row = await this.desk.rowFrom(place);
     if (row >= 0) await this.go({ row, first: place, past: place + 1 });
   }

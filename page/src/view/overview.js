@@ -1,4 +1,5 @@
 import { select } from "d3-selection";
+import { placeOf } from "./words.js";
 
 /** @typedef {import("d3-scale").Scale} Scale */
 
@@ -65,12 +66,12 @@ export class Overview {
     svg.append("text").attr("x", 4).attr("y", BAR.height).attr("class", "about").text("whole");
     this.box("overview-ground", left, right, BAR.top, BAR.height);
     const half = BAR.height / 2;
-    for (const { sort, places, isStretch } of findings) {
+    for (const { sign, places, isStretch } of findings) {
       const top = isStretch ? BAR.top : BAR.top + half / 2;
-      for (const { first, past } of places) this.box(`sign ${sort}`, whole(first), whole(past), top, half);
+      for (const { first, past } of places) this.box(`sign ${sign}`, whole(first), whole(past), top, half);
     }
-    for (const { second } of warnings) {
-      if (second !== null) this.box("sign warning", whole(second * rate), 0, BAR.top + half, half);
+    for (const place of warnings.map((warning) => placeOf(warning, rate))) {
+      if (place !== null) this.box("sign warning", whole(place), 0, BAR.top + half, half);
     }
     const [begin, end] = [Math.max(left, whole(view[0])), Math.min(right, whole(view[1]))];
     this.box("overview-view", begin, Math.max(begin + 3, end), 1, BAR.height + 2);

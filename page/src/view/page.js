@@ -1,16 +1,15 @@
-import { canRun } from "../engine/library.js";
 import { KINDS } from "../../../scripts/modules/listing/kinds.js";
 import { RATE } from "../../../scripts/modules/port1.js";
-import { counted } from "../../../scripts/modules/statistics/units.js";
-import { aboutOf } from "../../../scripts/modules/watch/words.js";
-import { callerOf } from "../worker/rpc.js";
+import { counted } from "../../../scripts/modules/text.js";
+import { aboutOf, causeOf } from "../../../scripts/modules/watch/words.js";
+import { deskIn } from "../worker/lent.js";
 import { Banners } from "./banners.js";
 import { Clock } from "./clock.js";
 import { restOf } from "./command.js";
 import { DictionaryPane } from "./dictionary.js";
 import { element, fillList, make, save } from "./dom.js";
-import { octetsOf, unpacked } from "./embedded.js";
-import { Files, textOf } from "./files.js";
+import { engineOf, unpacked } from "./embedded.js";
+import { Files, NOT_ALL_CHOSEN, textOf } from "./files.js";
 import { Heading } from "./heading.js";
 import { Incidents, incidentsAmong, shownOf } from "./incidents.js";
 import { FORMS } from "./job.js";
@@ -22,7 +21,7 @@ import { showDamage, showTable } from "./report.js";
 import { TIMELINE_KEYS } from "./timeline.js";
 import { grouped } from "./units.js";
 import { Verdict } from "./verdict.js";
-import { whyNot } from "./words.js";
+import { isOfDictionary, placeOf, whyNot } from "./words.js";
 
 /** @typedef {import("../../../scripts/modules/recording/doubts.js").Warning} Warning */
 /** @typedef {import("../worker/desk.js").FarDesk} Desk */
@@ -37,10 +36,12 @@ import { whyNot } from "./words.js";
 /** @typedef {import("./job.js").Embedded} Embedded */
 
 const NO_ENGINE =
-  "This browser has no 64-bit memory for WebAssembly, which the decoder needs (Chrome, Edge and Firefox have it " +
-  "since 2025): listings that port1 wrote are shown all the same.";
+  "This browser runs no WebAssembly, which the decoder is: listings that port1 wrote are shown all the same.";
 
 const WIRES = "TXC, TXD, RXC, RXD, in this order";
+
+/** What is said where the page judges by a dictionary of its own. */
+const DRAFTED = "Judged by a draft of a dictionary: what no station ever answered is not missed.";
 
 /** Of so many files it is told why they cannot be read. */
 const MOST_TOLD = 3;
@@ -72,12 +73,12 @@ class Page {
     this.desk = desk;
     /** @type {import("./heading.js").About} */
     this.about = JSON.parse(element("about").textContent);
-    this.engine = canRun() && element("engine") ? octetsOf("engine") : null;
+    this.engine = engineOf();
     /** @type {File[]} */
     this.chosen = [];
     /** @type {Found} */
     this.found = { form: "other", channels: [] }; // of the chosen file, once the worker has looked at it
-    this.guess = "";
+    this.guessed = ""; // channels that were taken by their numbers
     /** @type {import("../worker/desk.js").Begin|null} */
     this.zero = null; // of the chosen file, where it is known
     this.clock = new Clock(RATE);
@@ -87,11 +88,12 @@ class Page {
     this.job = null; // of what is shown
     /** @type {Incident|null} */
     this.incident = null; // that is shown
-    this.files = new Files((given) => this.takeAll(given).catch((fault) => this.refuse(fault)));
-    this.incidents = new Incidents((incident) => this.open(incident).catch((fault) => this.refuse(fault)));
+    this.files = new Files((given) => this.takeAll(given).catch((fault) => this.refuse(fault, true)));
+    this.incidents = new Incidents((incident) => this.open(incident).catch((fault) => this.refuse(fault, true)));
     this.navigation = new Navigation(desk);
     const { tabs } = this.navigation;
-    this.heading = new Heading(this.about, () => tabs.open("dictionary"));
+    const isNarrow = this.engine !== null && !this.engine.isWide;
+    this.heading = new Heading(this.about, isNarrow, () => tabs.open("dictionary"));
     this.verdict = new Verdict((name) => this.navigation.showKind(name));
     this.banners = new Banners((act, warning) => this.mend(act, warning).catch((fault) => this.refuse(fault)));
     this.dictionary = new DictionaryPane(desk, this.about.schema, this.heading.bar, () => this.readAgain());
@@ -104,7 +106,7 @@ class Page {
   }
 
   listen() {
-    element("file").addEventListener("change", () => this.look().catch((fault) => this.refuse(fault)));
+    element("file").addEventListener("change", () => this.look().catch((fault) => this.refuse(fault, true)));
     element("settings").addEventListener("submit", (event) => {
       event.preventDefault();
       this.read();
@@ -116,16 +118,29 @@ class Page {
     this.onClick("choose-folder", () => this.files.choose("folder"));
     this.onClick("open-another", () => this.files.choose());
     this.onClick("show-settings", () => this.toggleSettings());
-    this.onClick("save", async () => save("listing.txt", await this.desk.text()));
+    this.onClick("save", async () => save("listing.txt", new Blob(await this.desk.texts())));
     this.onClick("save-summary", async () => save("summary.txt", new Blob([await this.desk.summaryText()])));
   }
 
   /**
-   * Says why a file cannot be read.
+   * Says why a file cannot be read. Where that is another one than the one that is shown, nothing is shown any more.
    * @param {Error} fault
+   * @param {boolean} [isOther]
    */
-  refuse(fault) {
+  refuse(fault, isOther = false) {
+    if (isOther) this.clear();
     this.say(whyNot(fault.message), true);
+  }
+
+  /** Shows no file. */
+  clear() {
+    Object.assign(this, { job: null, asked: null });
+    element("result").hidden = true;
+    element("facts").replaceChildren();
+    element("title").textContent = document.title = "Port 1 analyser";
+    element("draft").disabled = true;
+    const isAsked = this.chosen.length > 1; // which of them is to be read
+    this.state(this.incidents.all.length > 1 ? "list" : isAsked ? "asking" : "empty");
   }
 
   /** @param {string} id @param {() => void|Promise<void>} act */
@@ -165,12 +180,13 @@ class Page {
   async showExample() {
     /** @type {Record<string, string>} */
     const texts = JSON.parse(await (await unpacked("example-data")).text());
-    await this.take(Object.entries(texts).map(([name, text]) => new File([text], name)));
+    await this.take(Object.entries(texts).map(([name, text]) => new File([text], name)), { isExample: true });
   }
 
-  /** Begins a dictionary from what is on the bus, and reads with it. */
+  /** Begins a dictionary from what is on the bus, in place of the one that is there, and reads with it. */
   async begin() {
-    await this.dictionary.set(await this.desk.draft(), "draft");
+    const text = this.job?.form === "listing" ? await this.desk.draft() : ""; // bits are read by a draft
+    await this.dictionary.take({ text, name: "", from: "user" });
     await this.read();
     this.navigation.tabs.open("dictionary");
   }
@@ -185,10 +201,10 @@ class Page {
   }
 
   /**
-   * What the worker tells of its own accord.
-   * @param {{ progress: number }} event
+   * How much of a file was read, as the worker tells it.
+   * @param {number} progress
    */
-  hear({ progress }) {
+  hear(progress) {
     element("progress").value = progress;
   }
 
@@ -204,7 +220,7 @@ class Page {
     if (incidents.length > 0) this.incidents.show(incidents);
     if (incidents.length === 1) await this.open(incidents[0]);
     else if (incidents.length > 1) this.list(incidents.length);
-    else await this.take(all.map(({ file }) => file), all.some(({ path }) => path.includes("/")));
+    else await this.take(all.map(({ file }) => file), { isFolder: all.some(({ path }) => path.includes("/")) });
   }
 
   /**
@@ -226,43 +242,69 @@ class Page {
     const shown = shownOf(incident, this.engine !== null);
     if (shown === null) throw new Error(`${incident.path} has neither bits.ts2 nor listing.txt.`);
     const dictionary = incident.files.get("cabinet.toml");
-    if (dictionary) await this.dictionary.set(await textOf(dictionary), dictionary.name);
+    await this.dictionary.forget();
+    if (dictionary) await this.takeDictionary(dictionary, true);
     this.chosen = [shown.file];
     this.files.offer(this.chosen);
     this.zero = shown.begin;
     this.incident = incident;
     this.incidents.choose(incident);
     await this.look();
-    const first = incident.place - shown.first;
-    const past = first + incident.seconds * RATE;
     if (this.job?.file !== shown.file) return; // it could not be read
-    const [row, { words }] = [await this.desk.rowFrom(Math.round(first)), aboutOf(incident.causes)];
-    this.navigation.showChosen({ row, first, past, upTo: past, reply: null, text: words, derived: "" });
+    const from = incident.place - shown.first;
+    const { cause, words } = aboutOf(incident.causes);
+    const whole = { row: -1, first: from, past: from + incident.seconds * RATE, text: `incident: ${words}` };
+    const found = await this.desk.placeOfCause(cause, whole.first, whole.past);
+    const own = found === null ? whole : { ...found, text: causeOf(cause).words };
+    const row = own.row < 0 ? await this.desk.rowFrom(Math.round(from)) : own.row;
+    this.navigation.showChosen({ ...own, row, upTo: own.past, reply: null, derived: "" });
     if (row >= 0) await this.navigation.showLine(row);
+  }
+
+  /**
+   * Takes a dictionary: the user's, or one that came with what is shown.
+   * @param {File} file
+   * @param {boolean} isOfFile
+   */
+  async takeDictionary(file, isOfFile) {
+    await this.dictionary.take({ text: await textOf(file), name: file.name, from: isOfFile ? "file" : "user" });
+  }
+
+  /**
+   * Files by what they are: dictionaries, others that can be read, and why the rest cannot.
+   * @param {File[]} files
+   */
+  async sorted(files) {
+    /** @type {[File[], File[], string[]]} */
+    const [dictionaries, rest, others] = [[], [], []];
+    for (const file of files) {
+      const { form, why } = await this.lookAt(file);
+      if (form === "dictionary") dictionaries.push(file);
+      else if (form === "other") others.push(`${file.name} is ${why}`);
+      else rest.push(file);
+    }
+    return { dictionaries, rest, others };
   }
 
   /**
    * Takes files: dictionaries into their field, the rest to choose from.
    * @param {File[]} files
-   * @param {boolean} [isFolder] which may have others beside
+   * @param {{ isFolder?: boolean, isExample?: boolean }} how a folder may have others beside
    */
-  async take(files, isFolder = false) {
-    /** @type {[File[], string[]]} */
-    const [rest, others] = [[], []];
-    for (const file of files) {
-      const { form, why } = await this.desk.lookAt(file);
-      if (form === "dictionary") await this.dictionary.set(await textOf(file), file.name);
-      else if (form === "other") others.push(`${file.name} is ${why}`);
-      else rest.push(file);
-    }
+  async take(files, { isFolder = false, isExample = false }) {
+    const { dictionaries, rest, others } = await this.sorted(files);
+    if (rest.length > 0) await this.dictionary.forget();
+    for (const file of dictionaries) await this.takeDictionary(file, isExample);
     if (rest.length > 0) {
       Object.assign(this, { chosen: rest, zero: null, incident: null });
       this.incidents.show([]);
       this.files.offer(rest);
       await this.look();
-    } else if (others.length === 0 && this.file) {
+    } else if (others.length > 0) {
+      this.clear();
+    } else if (this.file) {
       await this.read();
-    } else if (others.length === 0) {
+    } else {
       this.say("The dictionary is kept. Now drop a recording.");
     }
     const more = others.length > MOST_TOLD ? ` ${others.length - MOST_TOLD} other files cannot be read either.` : "";
@@ -274,22 +316,35 @@ class Page {
     return this.chosen[element("file").selectedIndex];
   }
 
+  /**
+   * What a file is.
+   * @param {File} file
+   */
+  lookAt(file) {
+    return this.desk.lookAt(file).catch(({ message }) => {
+      throw new Error(`${file.name}: ${whyNot(message)}`);
+    });
+  }
+
   /** Looks at the chosen file, and reads it at once where nothing is to be asked. */
   async look() {
-    this.found = await this.desk.lookAt(this.file);
+    this.found = { form: "other", channels: [] };
+    this.files.offerChannels([]);
+    this.found = await this.lookAt(this.file);
     const { channels } = this.found;
     element("form").value = "";
     element("read").disabled = false;
     element("ask").textContent = "";
+    for (const id of /** @type {const} */ (["falling", "inverted-1", "inverted-2"])) element(id).checked = false;
     const how = this.files.offerChannels(channels);
-    this.guess = how === "ordered" ? `The channels ${this.files.channels().join(", ")} were taken for ${WIRES}.` : "";
-    if (channels.length === 0 || how !== "unknown") {
+    this.guessed = how === "ordered" ? this.files.channels().join(", ") : "";
+    if (channels.length === 0 || how === "named" || how === "ordered") {
       await this.read();
       return;
     }
+    this.clear();
+    this.state("asking");
     element("ask").textContent = `${this.file.name} has ${counted(channels.length, "channel")}. Which is which wire?`;
-    if (element("result").hidden) this.state("asking");
-    else this.toggleSettings(true);
     this.say("Say which channels the recording has, then read it.");
     /** @type {HTMLSelectElement} */ (element("channels").querySelector("select")).focus();
   }
@@ -320,8 +375,10 @@ class Page {
       await this.load(this.jobOf(file), file.name);
       this.toggleSettings(false);
     } catch (fault) {
-      this.refuse(/** @type {Error} */ (fault));
-      if (document.body.dataset.state !== "result" && this.found.channels.length > 0) this.state("asking");
+      const { message } = /** @type {Error} */ (fault);
+      const isNamed = message !== NOT_ALL_CHOSEN && !isOfDictionary(message);
+      this.refuse(isNamed ? new Error(`${file.name}: ${whyNot(message)}`) : new Error(message), this.job?.file !== file);
+      if (this.job === null) this.state("asking");
     }
     document.body.classList.remove("reading");
     element("progress").hidden = true;
@@ -339,8 +396,9 @@ class Page {
     this.asked = job;
     const summary = await this.desk.load(job);
     if (this.asked !== job) return; // another file, or another way to read it, was chosen meanwhile
-    const isSame = this.job?.file === job.file && this.clock.rate === job.rate;
+    const isSame = this.job !== null && waysOf(this.job) === waysOf(job) && this.job.file === job.file;
     Object.assign(this, { job, clock: new Clock(job.rate, job.begin, summary.first) });
+    if (!element("listing-data")) await this.dictionary.showDraft(summary.draft);
     element("result").hidden = false;
     this.state("result");
     element("draft").disabled = false;
@@ -361,14 +419,16 @@ class Page {
     const isReport = Boolean(element("listing-data"));
     fillList(element("notes"), [...summary.notes, ...(isReport ? this.about.notes ?? [] : [])]);
     this.verdict.show(summary);
-    this.banners.show(summary, isReport ? "" : this.guess, this.clock);
+    this.banners.show(summary, this.guessOf(job), this.clock);
     const bits = summary.past - summary.first;
-    this.navigation.sentences.show(findings, verdict.well, [...verdict.lacks, ...verdict.notes], this.clock, bits);
+    const lacks = [...verdict.lacks, ...verdict.notes];
+    const drafted = summary.draft === null ? [] : [{ sort: "draft", shown: DRAFTED }];
+    this.navigation.sentences.show(findings, verdict.well, [...drafted, ...lacks], this.clock, bits);
     this.heading.showLength(summary, this.clock);
     this.showTimeField();
     showTable(summary.table, findings);
     showDamage(summary.damage, summary.damaged);
-    this.offerDraft(verdict, job);
+    this.offerDictionary();
     if (isReport) this.heading.showReport(summary, /** @type {Embedded} */ (job), this.clock);
     else this.heading.showFile(summary, /** @type {Asked} */ (job), this.clock, this.incident);
     element("warnings-head").hidden = warnings.length === 0;
@@ -382,17 +442,20 @@ class Page {
   }
 
   /**
-   * Where nothing is judged, because there is no dictionary, the way to one.
-   * @param {Summary["verdict"]} verdict
+   * What is said of channels that were taken by their numbers.
    * @param {Asked|Embedded} job
    */
-  offerDraft({ lacks }, job) {
-    const lack = element("lacks").querySelector(".is-dictionary");
-    if (!lack || job.dictionary.trim() || !this.engine || lacks.length === 0) return;
-    const button = make("button", "Begin a dictionary from what is on the bus", "screen");
+  guessOf(job) {
+    const channels = "channels" in job ? job.channels.join(", ") : "";
+    return channels !== "" && channels === this.guessed ? `The channels ${channels} were taken for ${WIRES}.` : "";
+  }
+
+  /** Where a draft is what judges, the way to it. */
+  offerDictionary() {
+    const button = make("button", "See it", "screen");
     button.type = "button";
-    button.addEventListener("click", () => element("draft").click());
-    lack.append(" ", button);
+    button.addEventListener("click", () => this.navigation.tabs.open("dictionary"));
+    element("lacks").querySelector(".is-draft")?.append(" ", button);
   }
 
   /**
@@ -402,7 +465,7 @@ class Page {
    */
   async mend(act, warning) {
     if (act === "wires") this.toggleSettings(true);
-    if (act === "second") await this.navigation.goTo(/** @type {{ second: number }} */ (warning).second);
+    if (act === "second") await this.navigation.goTo(placeOf(/** @type {Warning} */ (warning), this.clock.rate) ?? 0);
     if (act === "wires" || act === "second") return;
     const tick = element(act === "edge" ? "falling" : `inverted-${/** @type {{ line: number }} */ (warning).line}`);
     tick.checked = !tick.checked;
@@ -428,11 +491,20 @@ class Page {
   }
 }
 
+/**
+ * How a file is read, up to the dictionary: what is in view stays where that is the same.
+ * @param {Asked|Embedded} job
+ */
+function waysOf(job) {
+  const { form, rate, channels = [], kind, rising, inverted } = /** @type {Partial<Asked>} */ (job);
+  return JSON.stringify({ form, rate, channels, kind, rising, inverted });
+}
+
 /** How a warning begins among the notes of a recording. */
 const WARNING = "warning: ";
 
 const worker = new Worker(URL.createObjectURL(new Blob([element("worker").textContent], { type: "text/javascript" })));
-const desk = callerOf(worker, (event) => page.hear(event));
+const desk = deskIn(worker, (progress) => page.hear(progress));
 const page = new Page(desk);
 /** @type {{ page1?: Page }} */ (self).page1 = page; // for tests and for the console
 page.showEmbedded().catch((fault) => page.say(fault.message, true));

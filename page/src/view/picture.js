@@ -1,8 +1,9 @@
 import { axisBottom } from "d3-axis";
 import { scaleLinear } from "d3-scale";
-import { lengthOf } from "../../../scripts/modules/statistics/causes.js";
+import { lengthOf } from "../../../scripts/modules/statistics/units.js";
 import { drawDigits, heightOfDigits } from "./digits.js";
 import { SIGNS } from "./signs.js";
+import { placeOf } from "./words.js";
 
 /** @typedef {import("d3-scale").Scale} Scale */
 /** @typedef {import("d3-selection").Selection<SVGGElement>} Group */
@@ -120,7 +121,10 @@ export class Picture {
       const path = axis.append("path").attr("class", className).attr("d", `M${x - 5} 8h10l-5 -8z`);
       if (title) path.append("title").text(title);
     };
-    for (const { second, text } of warnings) if (second !== null) flag(second * clock.rate, "sign warning", text);
+    for (const warning of warnings) {
+      const place = placeOf(warning, clock.rate);
+      if (place !== null) flag(place, "sign warning", warning.text);
+    }
     if (chosen) flag(chosen.first, "chosen-flag", "");
   }
 
@@ -225,24 +229,16 @@ export class Picture {
   }
 
   /**
-   * The length of a gap, within it or beside it.
+   * What a gap is, or how long, as far as there is room within it: beside it, the words would name what stands there.
    * @param {Group} group
    * @param {Stretch} gap
    * @param {number} height
    */
   nameGap(group, gap, height) {
-    const [left, right] = this.scale.range();
     const [begin, end] = this.ends(gap);
-    if (end < left || begin > right || end <= begin) return;
-    for (const text of [gap.text, gap.short]) {
-      const wide = CHARACTER * text.length;
-      const isWithin = end - begin > wide;
-      const isAfter = end + 4 + wide < right;
-      if (!isWithin && !isAfter && begin - 4 - wide < left) continue;
-      const [x, anchor] = isWithin ? [(begin + end) / 2, "middle"] : isAfter ? [end + 4, "start"] : [begin - 4, "end"];
-      this.words(group, text, x, height / 2 + 4, "gap-word").attr("text-anchor", anchor);
-      return;
-    }
+    const text = [gap.text, gap.short].find((some) => CHARACTER * some.length < end - begin);
+    if (text === undefined) return;
+    this.words(group, text, (begin + end) / 2, height / 2 + 4, "gap-word").attr("text-anchor", "middle");
   }
 
   /**
@@ -252,10 +248,10 @@ export class Picture {
    */
   drawStretches(stretches, height) {
     const group = this.root.append("g");
-    for (const { sort, places } of stretches) {
+    for (const { over, places } of stretches) {
       for (const { first, past } of places) {
         const length = lengthOf(past - first, this.clock.rate);
-        const gap = { first, past, text: `${sort === "rest" ? "nothing" : "no command"} for ${length}`, short: length };
+        const gap = { first, past, text: `${over} for ${length}`, short: length };
         this.drawGap(group, gap, height);
         this.nameGap(group, gap, height);
       }
@@ -329,7 +325,7 @@ export class Picture {
       .enter()
       .append("path")
       .attr("class", `mark ${track.id}`)
-      .attr("d", SIGNS[track.id])
+      .attr("d", SIGNS[/** @type {keyof typeof SIGNS} */ (track.id)])
       .attr("fill-rule", "evenodd")
       .attr("transform", ({ x }) => `translate(${x - SIGN / 2},${middle - SIGN / 2}) scale(${SIGN / 16})`)
       .on("click", (...words) => this.pick(markOf(words).row))

@@ -1,4 +1,4 @@
-import { counted } from "../../../scripts/modules/statistics/units.js";
+import { counted } from "../../../scripts/modules/text.js";
 import { element, fillList, make } from "./dom.js";
 
 /** @typedef {import("../../../scripts/modules/statistics/table.js").Head} Head */

@@ -43,7 +43,7 @@ export class Sentences {
   /**
    * @param {Finding[]} findings
    * @param {string[]} well what is said where there are none
-   * @param {import("../../../scripts/modules/statistics/verdict.js").Said[]} lacks what was not judged, and notes
+   * @param {{ sort: string, shown: string }[]} lacks what was not judged, and notes
    * @param {Clock} clock
    * @param {number} length of the file, in bits
    */
@@ -67,7 +67,7 @@ export class Sentences {
     const words = make("button", finding.text, "jump");
     words.type = "button";
     words.disabled = finding.places.length === 0 && finding.sort !== "more";
-    item.append(signOf(finding.sort), words);
+    item.append(signOf(finding.sign), words);
     const from = this.stops.length;
     const times = this.times(finding, item);
     if (times.childElementCount > 0) item.append(times);

@@ -1,6 +1,6 @@
 /**
  * Signs of what is wrong, each of its own form, in a square of 16: colour is never alone.
- * @type {Record<string, string>}
+ * @type {Record<import("../../../scripts/modules/statistics/findings.js").Sign | "pending", string>}
  */
 export const SIGNS = {
   missing: "M3 1 8 6 13 1 15 3 10 8 15 13 13 15 8 10 3 15 1 13 6 8 1 3Z",
@@ -13,11 +13,7 @@ export const SIGNS = {
   rest: "M1 2H3V14H1ZM5 7H7V9H5ZM9 7H11V9H9ZM13 7H15V9H13Z",
   silent: "M8 1A7 7 0 1 1 7.9 1ZM3.6 5 11 12.4 12.4 11 5 3.6Z",
   lines: "M10 1 15 5 10 9V6H1V4H10ZM6 7 1 11 6 15V12H15V10H6Z",
-  mute: "M8 1A7 7 0 1 1 7.9 1ZM3.6 5 11 12.4 12.4 11 5 3.6Z",
-  quiet: "M1 2H3V14H1ZM13 2H15V14H13ZM5 7H7V9H5ZM9 7H11V9H9Z",
-  slow: "M8 1A7 7 0 1 1 7.9 1ZM7 3.5V8.6L11 11 12 9.5 9 7.7V3.5Z",
   length: "M1 1H15V15H1ZM7 3V9H9V3ZM7 11V13H9V11Z",
-  unknown: "M1 1H15V15H1ZM7 3V9H9V3ZM7 11V13H9V11Z",
   more: "M1 6H4V10H1ZM6.5 6H9.5V10H6.5ZM12 6H15V10H12Z",
 };
 
@@ -33,15 +29,15 @@ const SPACE = "http://www.w3.org/2000/svg";
 
 /**
  * A sign as a picture.
- * @param {string} sort
+ * @param {keyof typeof SIGNS} sign
  */
-export function signOf(sort) {
+export function signOf(sign) {
   const picture = document.createElementNS(SPACE, "svg");
   picture.setAttribute("viewBox", "0 0 16 16");
   picture.setAttribute("aria-hidden", "true");
   const path = document.createElementNS(SPACE, "path");
-  path.setAttribute("d", SIGNS[sort] ?? SIGNS.more);
-  path.setAttribute("class", `sign ${sort}`);
+  path.setAttribute("d", SIGNS[sign]);
+  path.setAttribute("class", `sign ${sign}`);
   path.setAttribute("fill-rule", "evenodd");
   picture.append(path);
   return picture;

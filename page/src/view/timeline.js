@@ -315,7 +315,7 @@ export class Timeline {
     const scale = scaleLinear().domain([first, past]).range(this.whole.range());
     const { findings, warnings } = this.summary;
     const told = { lanes, digits, scale, clock: this.clock, width: this.width, chosen: this.chosen };
-    this.picture.draw({ ...told, stretches: findings.filter(({ sort }) => sort === "rest" || sort === "quiet") });
+    this.picture.draw({ ...told, stretches: findings.filter(({ over }) => over !== "") });
     this.picture.drawAxis(this.axis, { ...told, warnings });
     this.overview.draw(this.whole, this.width, { findings, warnings, rate: this.clock.rate }, [first, past]);
     this.describe(lanes, first, past);

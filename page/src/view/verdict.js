@@ -1,3 +1,4 @@
+import { counted } from "../../../scripts/modules/text.js";
 import { element, make } from "./dom.js";
 import { VERDICTS } from "./signs.js";
 
@@ -78,6 +79,7 @@ function wordOf({ level, isJudged }, frames) {
 
 /** @param {Summary["fault"]} fault @param {Summary["warnings"]} warnings */
 function doubtsOf(fault, warnings) {
+  if (fault && warnings.length > 0) return ["The file has a fault, and the recording is doubtful"];
   return [...(fault ? ["The file has a fault"] : []), ...(warnings.length > 0 ? ["The recording is doubtful"] : [])];
 }
 
@@ -93,6 +95,7 @@ function shortOf({ level, lacks }, findings, doubts) {
   const own = findings.map(({ short }) => short).filter((short) => short);
   if (own.length + doubts.length === 0) return lacks[0]?.shown ?? "";
   const all = level === "fault" ? [...own.slice(0, 1), ...doubts, ...own.slice(1)] : [...doubts, ...own];
-  const rest = doubts.length + findings.length - Math.min(MOST_TOLD, all.length);
-  return all.slice(0, MOST_TOLD).join(" \u00b7 ") + (rest > 0 ? `, and ${rest} more` : "");
+  const rest = all.length - MOST_TOLD;
+  const more = rest > 0 ? [counted(rest, "more finding")] : [];
+  return [...all.slice(0, MOST_TOLD), ...more].join(" \u00b7 ");
 }

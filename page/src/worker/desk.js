@@ -1,21 +1,22 @@
-import { findingsOf } from "../../../scripts/modules/dictionary/check.js";
+import { remarksOf } from "../../../scripts/modules/dictionary/check.js";
 import { readDictionary } from "../../../scripts/modules/dictionary/dictionary.js";
-import { draftOf } from "../../../scripts/modules/dictionary/draft.js";
+import { draftOf, draftOfSurvey, Survey } from "../../../scripts/modules/dictionary/draft.js";
 import { Fault } from "../../../scripts/modules/fault.js";
-import { findingsOf as findingsOfBus } from "../../../scripts/modules/findings/findings.js";
+import { findingsOf } from "../../../scripts/modules/findings/findings.js";
+import { placeOfCause } from "../../../scripts/modules/findings/incidents.js";
 import { FRAME, KINDS } from "../../../scripts/modules/listing/kinds.js";
 import { NO_HEAD } from "../../../scripts/modules/listing/listing.js";
 import { octetsOf } from "../../../scripts/modules/octets.js";
-import { channelsOf } from "../../../scripts/modules/recording/forms.js";
 import { warningOf } from "../../../scripts/modules/recording/doubts.js";
+import { channelsOf } from "../../../scripts/modules/recording/forms.js";
 import { unsureOf } from "../../../scripts/modules/recording/seams.js";
 import { sessionOf } from "../../../scripts/modules/recording/session.js";
 import { isWholeHead } from "../../../scripts/modules/recording/signals.js";
 import { Bus } from "../../../scripts/modules/statistics/bus.js";
 import { damageOf } from "../../../scripts/modules/statistics/damage.js";
 import { DayTime } from "../../../scripts/modules/statistics/day-time.js";
-import { report } from "../../../scripts/modules/statistics/report.js";
 import { repliesOf } from "../../../scripts/modules/statistics/replies.js";
+import { report } from "../../../scripts/modules/statistics/report.js";
 import { tableOf } from "../../../scripts/modules/statistics/table.js";
 import { verdictOf } from "../../../scripts/modules/statistics/verdict.js";
 import { countBefore } from "../engine/search.js";
@@ -25,7 +26,7 @@ import { Lanes } from "./lanes.js";
 import { warningsOfLevels } from "./levels.js";
 import { isRecording, read } from "./source.js";
 import { structureOf } from "./structure.js";
-import { countsOf, namesOf, timesOf } from "./summary.js";
+import { clocklessOf, countsOf, namesOf, timesOf } from "./summary.js";
 
 /** @typedef {import("../../../scripts/modules/dictionary/dictionary.js").Entry} Entry */
 /** @typedef {import("../../../scripts/modules/listing/listing.js").Listing} Listing */
@@ -63,8 +64,6 @@ import { countsOf, namesOf, timesOf } from "./summary.js";
 
 /** @typedef {Places & { kind: import("../../../scripts/modules/listing/kinds.js").LineKind }} Line */
 
-/** @typedef {{ progress: number }} Progress the share of a file that was read */
-
 /**
  * The desk, as the page has it: each answer is a promise.
  * @typedef {{ [Name in Task]: (...words: Parameters<Desk[Name]>) => Promise<Awaited<ReturnType<Desk[Name]>>> }} FarDesk
@@ -95,7 +94,7 @@ export class Desk {
   /** @type {number|null} of the recording in bits */
   end = null;
 
-  /** @param {(event: Progress) => void} tell the page of progress */
+  /** @param {(progress: number) => void} tell the page which share of a file was read */
   constructor(tell) {
     this.tell = tell;
     /** @type {Uint32Array|null} */
@@ -106,7 +105,7 @@ export class Desk {
 
   /**
    * What a file is, and the channels of a recording.
-   * @param {Blob} file
+   * @param {import("../../../scripts/modules/octets.js").Part} file
    * @returns {Promise<Found>}
    */
   async lookAt(file) {
@@ -132,10 +131,13 @@ export class Desk {
 
   /** @param {Job} job @returns {Promise<Summary>} */
   async readNow(job) {
-    const entries = entriesOf(job);
-    const { listing, bits, fault, notes, warnings } = await read({ ...job, entries }, (done, size) =>
-      this.tell({ progress: size === 0 ? 1 : done / size }),
+    const own = entriesOf(job);
+    const { bits, fault, notes, warnings, recorded = null, ...found } = await read({ ...job, entries: own }, (done, size) =>
+      this.tell(size === 0 ? 1 : done / size),
     );
+    const draft = own === null && found.again !== null ? draftIn(found.listing) : null;
+    const entries = draft === null ? own : readDictionary(draft);
+    const listing = draft === null || found.again === null ? found.listing : found.again(entries);
     Object.assign(this, { listing, bits, rows: null, rate: job.rate, end: bits ? bits.length : job.end ?? null });
     const told = (job.told ?? []).map(warningOf);
     const dayTime = job.begin && new DayTime(job.begin.text, job.begin.late);
@@ -146,19 +148,22 @@ export class Desk {
       : [];
     /** @param {Warning} warning */
     const isNew = ({ sort, name }) => !warnings.some((warning) => warning.sort === sort && warning.name === name);
-    return { ...this.summary(entries, [...ofLevels.filter(isNew), ...warnings, ...told], fault), fault, notes };
+    const all = [...ofLevels.filter(isNew), ...warnings, ...told];
+    const lacking = clocklessOf(all, { recorded, bits, rate: job.rate });
+    return { ...this.summary(entries, all, fault), fault, notes, draft, lacking };
   }
 
   /** @param {Entry[]|null} entries @param {Warning[]} warnings @param {string|null} fault */
   summary(entries, warnings, fault) {
     const { bus, listing, end } = this;
     this.known = { end, entries };
-    const found = findingsOfBus(bus, listing, this.known);
+    const found = findingsOf(bus, listing, this.known);
     this.lanes = new Lanes(listing, found.gaps, namesOf(bus));
     const [first, past] = this.lanes.range;
     const verdict = verdictOf(bus, this.known, found.findings, warnings.length > 0 || fault !== null);
     return {
       ...{ count: listing.length, frames: bus.frames, damaged: bus.damaged, isOfTwo: this.lanes.isOfTwo, warnings },
+      beside: bus.beside.counts.pieces,
       ...{ first: end === null ? first : 0, past: Math.max(past, end ?? 0), hasBits: this.bits !== null },
       ...{ findings: found.findings, stations: this.lanes.stations, verdict },
       ...{ counts: countsOf(bus, found.gapCount), table: tableOf(bus), damage: damageOf(bus) },
@@ -177,7 +182,7 @@ export class Desk {
    * @param {import("../../../scripts/modules/dictionary/schema.js").Schema} schema
    */
   check(text, schema) {
-    return findingsOf(text, schema);
+    return remarksOf(text, schema);
   }
 
   /** A first dictionary of what is on the bus. */
@@ -276,14 +281,34 @@ export class Desk {
     return best < 0 ? length - 1 : best;
   }
 
-  /** The whole listing, as `port1 list` writes it. */
-  text() {
+  /**
+   * Where a cause of an incident is, null where that is not known.
+   * @param {string} cause
+   * @param {number} first
+   * @param {number} past
+   */
+  placeOfCause(cause, first, past) {
+    return placeOfCause(this.listing, cause, { first, past });
+  }
+
+  /** The whole listing in pieces, as `port1 list` writes it. */
+  texts() {
     const texts = [];
     for (let from = 0; from < this.listing.length; from += STRIDE) {
       texts.push(this.listing.textOf(from, Math.min(this.listing.length, from + STRIDE)));
     }
-    return new Blob(texts, { type: "text/plain" });
+    return texts;
   }
+}
+
+/**
+ * A dictionary drafted from what is in a listing, null where no frame has a type.
+ * @param {Listing} listing
+ */
+function draftIn(listing) {
+  const survey = new Survey();
+  survey.takeSome(listing.rows());
+  return survey.types.size === 0 ? null : draftOfSurvey(survey);
 }
 
 /**

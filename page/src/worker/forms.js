@@ -1,15 +1,16 @@
+import { FORMS } from "../../../scripts/modules/capture/forms.js";
 import { isListing } from "../../../scripts/modules/listing/read.js";
-import { SESSION, formOf as formOfRecording } from "../../../scripts/modules/recording/forms.js";
+import { SESSION, formOfText } from "../../../scripts/modules/recording/forms.js";
 import { otherForm } from "../../../scripts/modules/recording/others.js";
 import { characters } from "../../../scripts/modules/recording/words.js";
 import { plainHead } from "../../../scripts/modules/text.js";
 
-/** @typedef {1|2|"arrivals"} Kind of a capture: of one line, of pairs, or of bits in the order of arrival */
+/** @typedef {import("../../../scripts/modules/capture/forms.js").Kind} Kind */
 
 /**
  * What a file is: its form, the kind of a capture, and why one of another form cannot be read.
  * @typedef {object} Found
- * @property {"packed"|"text"|"listing"|"vcd"|"csv"|"session"|"dictionary"|"other"} form
+ * @property {"packed"|"text"|"listing"|"dictionary"|"other"|import("../../../scripts/modules/recording/forms.js").Form} form
  * @property {Kind} [kind]
  * @property {string} [why]
  */
@@ -17,9 +18,13 @@ import { plainHead } from "../../../scripts/modules/text.js";
 /** How many octets of a file tell its form. */
 export const HEAD = 65536;
 
-/** @type {Partial<Record<string, Kind>>} */
-const PACKED = { TS2BITS1: 1, TS2BITS2: 2, TS2BITS3: "arrivals" };
-const MARKS = /^([\s0-3]*|[\s01oi]*)$/;
+/** @type {Kind[]} */
+const KINDS = [1, 2, "arrivals"];
+
+/** The marks of a text that is a capture, and the beginning of one that is read up to what is no bit. */
+const [PAIRS, ARRIVALS] = [FORMS[2].marks, FORMS.arrivals.marks];
+const MARKS = new RegExp(`^([\\s${PAIRS}]*|[\\s${ARRIVALS}]*)$`);
+const BEGINNING = new RegExp(`^\\s*([${PAIRS}]{8}|[${ARRIVALS}]{8})[\\s${PAIRS}${ARRIVALS}]*`);
 
 /**
  * The kind of a text, by its marks.
@@ -48,17 +53,17 @@ function whyNot(text) {
  */
 export function formOf(head) {
   if (head.length === 0) return { form: "other", why: "empty: it has no octet." };
-  const kind = PACKED[characters(head.subarray(0, 8))];
+  const magic = characters(head.subarray(0, 8));
+  const kind = KINDS.find((each) => FORMS[each].magic === magic);
   if (kind) return { form: "packed", kind };
   if (SESSION.test(characters(head))) return { form: "session" };
   const text = characters(plainHead(head));
   if (isListing(head)) return { form: "listing" };
   if (MARKS.test(text)) return { form: "text", kind: kindOf(text) };
   if (DICTIONARY.test(text)) return { form: "dictionary" };
-  const recording = formOfRecording(head);
+  const recording = formOfText(head);
   if (recording) return { form: recording };
-  // A text that begins as a capture is read as one, up to what is no bit.
-  const [marks] = /^\s*([0-3]{8}|[01oi]{8})[\s0-3oi]*/.exec(text) ?? [];
+  const [marks] = BEGINNING.exec(text) ?? [];
   if (marks) return { form: "text", kind: kindOf(marks) };
   return { form: "other", why: whyNot(text) };
 }

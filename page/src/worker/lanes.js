@@ -1,5 +1,5 @@
 import { countBefore } from "../engine/search.js";
-import { DAMAGE, STATIONS, rowsByTrack, sizeOfStation, tracksOf } from "./tracks.js";
+import { DAMAGE_TRACKS, STATIONS, rowsByTrack, sizeOfStation, tracksOf } from "./tracks.js";
 
 /** @typedef {import("../../../scripts/modules/findings/findings.js").Stretch} Stretch */
 /** @typedef {import("../../../scripts/modules/listing/listing.js").Listing} Listing */
@@ -83,7 +83,7 @@ export class Lanes {
     const sizeOf = (/** @type {number} */ station) => sizeOfStation(tracks, station);
     this.stations = Array.from({ length: STATIONS }, (_, station) => station).filter((station) => sizeOf(station) > 0);
     const ofStations = shared(this.stations, sizeOf).map((some) => this.ofStations(some, tracks, gaps, names));
-    const ofDamage = [0, 1, 2].flatMap((line) => this.ofDamage(line, tracks[DAMAGE + line]));
+    const ofDamage = [0, 1, 2].flatMap((line) => this.ofDamage(line, tracks[DAMAGE_TRACKS + line]));
     this.lanes = [...ofStations, ...ofDamage];
   }
 

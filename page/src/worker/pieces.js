@@ -4,7 +4,7 @@ const PIECE = 1 << 22;
 
 /**
  * A file piece by piece, with word of how much was read.
- * @param {Blob} file
+ * @param {import("../../../scripts/modules/octets.js").Part} file
  * @param {import("./source.js").Heard} heard
  */
 export async function* piecesOf(file, heard) {
@@ -16,7 +16,7 @@ export async function* piecesOf(file, heard) {
 
 /**
  * A file without what stands after its last line end; the file itself where nothing does.
- * @param {Blob} file
+ * @param {import("../../../scripts/modules/octets.js").Part} file
  */
 export async function inWholeLines(file) {
   const from = Math.max(0, file.size - PIECE);

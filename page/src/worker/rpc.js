@@ -1,55 +1,49 @@
-/** Calls of functions in a worker: each is a message with a number, and so is its answer. */
-
-/** @typedef {import("./desk.js").FarDesk} FarDesk */
-/** @typedef {import("./desk.js").Progress} Progress */
+/** Calls between page and worker, from either side: each is a message with a number, and so is its answer. */
 
 /** @typedef {(...words: never[]) => unknown} Answerer whatever it takes */
 /** @typedef {{ number: number, name: string, words: Parameters<Answerer> }} Call */
-/** @typedef {{ number: number, result?: unknown, fault?: string }} Answer */
+/** @typedef {{ number: number, name?: undefined, result?: unknown, fault?: string }} Answer */
 
 /**
- * Answers calls by the functions of an object.
- * @param {{ onmessage: ((event: MessageEvent<Call>) => void)|null, postMessage: (answer: Answer) => void }} port
+ * @typedef {object} Port to the other side
+ * @property {((event: MessageEvent<Call|Answer>) => void)|null} onmessage
+ * @property {(message: Call|Answer, transfer: Transferable[]) => void} postMessage
+ */
+
+/**
+ * An object with a function for each name, which asks the other side, whose calls some functions answer.
+ * @template Far
+ * @param {Port} port
  * @param {Record<string, Answerer>} functions
+ * @returns {Far}
  */
-export function serve(port, functions) {
-  port.onmessage = async ({ data: { number, name, words } }) => {
-    try {
-      port.postMessage({ number, result: await functions[name](...words) });
-    } catch (fault) {
-      port.postMessage({ number, fault: String(/** @type {Error|null|undefined} */ (fault)?.message ?? fault) });
-    }
-  };
-}
-
-/**
- * An object with a function for each name, which asks the other side.
- * @param {Worker} port
- * @param {(event: Progress) => void} hear what to do with a message that answers no call
- */
-export function callerOf(port, hear) {
+export function linked(port, functions) {
   /** @type {Map<number, { resolve: (result: unknown) => void, reject: (fault: Error) => void }>} */
   const waiting = new Map();
   let last = 0;
-  port.onmessage = ({ data }) => {
-    const call = waiting.get(data.number);
-    if (!call) {
-      hear(data);
-      return;
+  /** @param {Call} call */
+  const answer = async ({ number, name, words }) => {
+    try {
+      const result = await functions[name](...words);
+      port.postMessage({ number, result }, result instanceof ArrayBuffer ? [result] : []);
+    } catch (fault) {
+      port.postMessage({ number, fault: String(/** @type {Error|null|undefined} */ (fault)?.message ?? fault) }, []);
     }
-    waiting.delete(data.number);
-    if (data.fault === undefined) call.resolve(data.result);
-    else call.reject(new Error(data.fault));
   };
-  return new Proxy(
-    /** @type {FarDesk} */ ({}),
-    {
-      get: (_, name) => (/** @type {unknown[]} */ ...words) =>
-        new Promise((resolve, reject) => {
-          last += 1;
-          waiting.set(last, { resolve, reject });
-          port.postMessage({ number: last, name, words });
-        }),
-    },
-  );
+  /** @param {Answer} answered */
+  const settle = ({ number, result, fault }) => {
+    const call = waiting.get(number);
+    waiting.delete(number);
+    if (fault === undefined) call?.resolve(result);
+    else call?.reject(new Error(fault));
+  };
+  port.onmessage = ({ data }) => (data.name === undefined ? settle(data) : void answer(data));
+  /** @param {string} name */
+  const asks = (name) => (/** @type {Parameters<Answerer>} */ ...words) =>
+    new Promise((resolve, reject) => {
+      last += 1;
+      waiting.set(last, { resolve, reject });
+      port.postMessage({ number: last, name, words }, []);
+    });
+  return /** @type {Far} */ (new Proxy({}, { get: (_, name) => asks(String(name)) }));
 }

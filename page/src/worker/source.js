@@ -3,6 +3,7 @@ import { KeptBits } from "../engine/bits.js";
 import { PackedReader, Packer, TextReader } from "../engine/capture.js";
 import { ClockedDecoder } from "../engine/clocked.js";
 import { Decoder } from "../engine/decoder.js";
+import { ARRIVAL } from "../engine/layout.js";
 import { libraryOf } from "../engine/library.js";
 import { Sampler } from "../engine/sampler.js";
 import { Fault } from "../../../scripts/modules/fault.js";
@@ -23,20 +24,20 @@ import { inWholeLines, piecesOf } from "./pieces.js";
  * A file that has bits, and how they are read.
  *
  * @typedef {object} BitsSource
- * @property {Blob} file
- * @property {"text"|"packed"|"vcd"|"csv"|"session"} form
+ * @property {Part} file
+ * @property {"text"|"packed"|import("../../../scripts/modules/recording/forms.js").Form} form
  * @property {Kind} kind of a capture
  * @property {string[]} channels of a recording: clock and data of one line, or as recording-to-bits takes them
  * @property {boolean} rising whether bits are taken at rising edges of the clock
  * @property {number} [inverted] which lines' data is inverted: 1, 2, or 3 for both
- * @property {number} [rest] after how many bits of the first line without one of the second this is brought to rest
- * @property {Uint8Array|null} engine the decoder's module
+ * @property {number} [rest] after how many bits without one of its own a line is brought to rest
+ * @property {Engine|null} engine
  * @property {undefined} [end] which its bits tell
  */
 
 /**
- * A listing, the decoder's module, which it does not need, and the recording's end in bits where a report says so.
- * @typedef {{ file: Blob, form: "listing", engine: Uint8Array|null, end?: number }} ListingSource
+ * A listing, the decoder, which it does not need, and the recording's end in bits where a report says so.
+ * @typedef {{ file: Part, form: "listing", engine: Engine|null, end?: number }} ListingSource
  */
 
 /** @typedef {ListingSource|BitsSource} Source what is to be read, and how */
@@ -47,16 +48,22 @@ import { inWholeLines, piecesOf } from "./pieces.js";
 
 /** @typedef {(read: number, size: number) => void} Heard */
 /** @typedef {KeptBits|KeptArrivals} Bits */
+/** @typedef {import("../../../scripts/modules/listing/listing.js").Listing} Listing */
+/** @typedef {import("../engine/library.js").Engine} Engine */
+/** @typedef {import("../engine/library.js").Library} Library */
+/** @typedef {import("../../../scripts/modules/octets.js").Part} Part */
 
 /**
  * What was read.
  *
  * @typedef {object} Read
- * @property {import("../../../scripts/modules/listing/listing.js").Listing} listing
+ * @property {Listing} listing
  * @property {Bits|null} bits
+ * @property {((entries: Entries) => Listing)|null} again lists the bits by another dictionary, where all were kept
  * @property {string|null} fault at which reading stopped
  * @property {string[]} notes on a recording, its warnings among them
  * @property {Warning[]} warnings
+ * @property {number|null} [recorded] seconds of a recording, where they are known
  */
 
 /** Forms that have lines, so that the end of a file that was cut off is known. */
@@ -91,9 +98,9 @@ export async function read(job, heard) {
 }
 
 /**
- * What takes the marks of a capture, keeps their bits and decodes them.
+ * What takes the marks of a capture, keeps their bits and decodes them; and what decodes those bits again.
  * @param {Kind} kind
- * @param {import("../engine/library.js").Library} library
+ * @param {Library} library
  * @param {Entries} entries
  * @param {number} [rest]
  */
@@ -101,16 +108,20 @@ function roadOf(kind, library, entries, rest) {
   if (kind === "arrivals") {
     const bits = new KeptArrivals();
     const decoder = new ClockedDecoder(library, entries, rest);
-    return { bits, decoder, sink: new Arrivals(bits, decoder) };
+    /** @param {Library} other @param {Entries} some */
+    const again = (other, some) => bits.replay(new ClockedDecoder(other, some));
+    return { bits, decoder, again, sink: new Arrivals(bits, decoder) };
   }
   const bits = new KeptBits();
   const decoder = new Decoder(library, kind, entries);
+  /** @param {Library} other @param {Entries} some */
+  const again = (other, some) => bits.replay(new Decoder(other, kind, some));
   /** @param {Uint8Array[]} octets @param {number} count */
   const hand = (octets, count) => {
     bits.take(octets, count);
     decoder.take(octets, count);
   };
-  return { bits, decoder, sink: new Packer(kind, hand) };
+  return { bits, decoder, again, sink: new Packer(kind, hand) };
 }
 
 /**
@@ -121,19 +132,23 @@ function roadOf(kind, library, entries, rest) {
  */
 async function readOnce(job, heard) {
   if (job.form === "listing") return readListing(job, heard);
-  if (!job.engine) throw new Fault("this browser cannot decode captures: it lacks 64-bit memory for WebAssembly");
+  if (!job.engine) throw new Fault("this browser cannot decode captures: it runs no WebAssembly");
+  const { engine } = job;
   const kind = kindOf(job);
-  const library = libraryOf(job.engine);
-  const { bits, decoder, sink } = roadOf(kind, library, job.entries, job.rest);
-  const told = { notes: /** @type {string[]} */ ([]), warnings: /** @type {Warning[]} */ ([]) };
+  const library = libraryOf(engine);
+  const { bits, decoder, again, sink } = roadOf(kind, library, job.entries, job.rest);
+  /** @type {Pick<Read, "notes"|"warnings"|"recorded">} */
+  const told = { notes: [], warnings: [], recorded: null };
   try {
     if (isRecording(job)) await takeRecording(/** @type {RecordingSource} */ (job), library, sink, told, heard);
     else await takeCapture(job, kind, sink, heard);
   } catch (fault) {
     if (!(fault instanceof Fault)) throw fault;
-    return { listing: decoder.listing, bits, fault: fault.message, ...told };
+    const listed = bits.isWhole ? (/** @type {Entries} */ some) => again(libraryOf(engine), some).listing : null;
+    return { listing: decoder.listing, bits, again: listed, fault: fault.message, ...told };
   }
-  return { listing: decoder.end(), bits, fault: null, ...told };
+  const ended = bits.isWhole ? (/** @type {Entries} */ some) => again(libraryOf(engine), some).end() : null;
+  return { listing: decoder.end(), bits, again: ended, fault: null, ...told };
 }
 
 /**
@@ -157,7 +172,7 @@ function kindOf(job) {
 async function readListing(job, heard) {
   const reader = new ListingReader();
   for await (const piece of plainPieces(piecesOf(job.file, heard))) reader.take(piece);
-  return { listing: reader.end(), bits: null, fault: null, notes: [], warnings: [] };
+  return { listing: reader.end(), bits: null, again: null, fault: null, notes: [], warnings: [] };
 }
 
 /** @param {BitsSource} job @param {Kind} kind @param {Sink} sink @param {Heard} heard */
@@ -168,34 +183,49 @@ async function takeCapture(job, kind, sink, heard) {
   reader.end();
 }
 
+/**
+ * Where a sampler puts the bits for a sink, and what takes them.
+ * @param {Sink} sink
+ */
+function goalOf(sink) {
+  if (sink instanceof Arrivals) {
+    return { arrivals: sink.decoder.places.arrived, take: (/** @type {number} */ count) => sink.taken(count) };
+  }
+  /** @param {number} count @param {Uint8Array} octets */
+  const take = (count, octets) => {
+    for (let at = 0; at < count; at++) sink.add(octets[ARRIVAL.size * at + ARRIVAL.bit]);
+  };
+  return { arrivals: null, take };
+}
+
 /** Wires of clocks and of the data of either line, as the sampler has them. */
 const [CLOCKS, FIRST, SECOND] = [0b0101, 0b0010, 0b1000];
 
 /**
  * Takes the bits of a recording; those before a fault are taken, too.
  * @param {RecordingSource} source
- * @param {import("../engine/library.js").Library} library
+ * @param {Library} library
  * @param {Sink} sink
- * @param {Pick<Read, "notes"|"warnings">} told
+ * @param {Pick<Read, "notes"|"warnings"|"recorded">} told
  * @param {Heard} heard
  */
-async function takeRecording(source, library, sink, { notes, warnings }, heard) {
-  const { file, form, channels, rising, inverted = 0 } = source;
+async function takeRecording(source, library, sink, told, heard) {
+  const { file, form, channels, rising, inverted = 0, rest } = source;
   const samples = form === "session" ? await sessionOf(file) : undefined;
   const pieces = samples ? samples.pieces(heard) : piecesOf(file, heard);
   const recording = await recordingOf(pieces, { form, channels, samples });
   const turned = (rising ? 0 : CLOCKS) | (inverted & 1 ? FIRST : 0) | (inverted & 2 ? SECOND : 0);
-  /** @type {(line: number, bit: number) => void} */
-  const arrive =
-    channels.length === 2 ? (_, bit) => sink.add(bit) : (line, bit) => /** @type {Arrivals} */ (sink).push(line, bit);
-  const sampler = new Sampler(library, recording, samplingOf(recording), turned, arrive);
+  const sampler = new Sampler(library, recording, samplingOf(recording, rest), turned, goalOf(sink));
   try {
     for await (const piece of recording.pieces) sampler.take(piece);
   } finally {
+    sampler.flush();
     sink.flush();
     const when = new Moments(recording.ticks, recording.begin());
     const how = { rising, when, isSampled: !recording.hasRuns, seams: recording.seams() };
-    warnings.push(...doubtsOf(sampler.facts, recording.names, how));
-    notes.push(edgesOf(sampler.facts, recording.names), ...warnings.map(({ text }) => `warning: ${text}`));
+    told.warnings.push(...doubtsOf(sampler.facts, recording.names, how));
+    const texts = told.warnings.map(({ text }) => `warning: ${text}`);
+    told.notes.push(edgesOf(sampler.facts, recording.names), ...texts);
+    told.recorded = recording.ticks && sampler.facts.samples / recording.ticks;
   }
 }

@@ -17,6 +17,7 @@ import { isUnfit } from "../../../scripts/modules/listing/kinds.js";
  * @property {number} count of lines of the listing
  * @property {number} frames
  * @property {number} damaged
+ * @property {number} beside damaged pieces where the recording lacks samples, which are not counted there
  * @property {boolean} isOfTwo whether the bus has two lines
  * @property {Warning[]} warnings
  * @property {number} first the place where the file begins, and the one just after its end
@@ -29,9 +30,26 @@ import { isUnfit } from "../../../scripts/modules/listing/kinds.js";
  * @property {ReturnType<typeof import("../../../scripts/modules/statistics/table.js").tableOf>} table
  * @property {ReturnType<typeof import("../../../scripts/modules/statistics/damage.js").damageOf>} damage
  * @property {Times[]} replies
+ * @property {number} lacking seconds of the recording in which the first clock stood still, and so gave no places
+ * @property {string|null} draft the dictionary by which bits were judged, where none was given
  * @property {string|null} fault at which reading stopped
  * @property {string[]} notes on a recording, its warnings among them
  */
+
+/** Warnings of a clock that stood still. */
+const STANDS = new Set(["gap", "end", "still"]);
+
+/**
+ * For how many seconds of a recording the first clock stood still: by so much times after it are too early.
+ * @param {Warning[]} warnings
+ * @param {{ recorded: number|null, bits: { length: number }|null, rate: number }} known
+ */
+export function clocklessOf(warnings, { recorded, bits, rate }) {
+  const found = warnings.filter(({ sort }) => STANDS.has(sort));
+  if (found.length === 0) return 0;
+  if (recorded !== null && bits !== null) return Math.max(0, recorded - bits.length / rate);
+  return found.reduce((sum, { stood = 0 }) => sum + stood, 0);
+}
 
 /**
  * What is sent to each station, by the names that the dictionary gives.

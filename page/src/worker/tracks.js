@@ -1,4 +1,4 @@
-import { ABORT, DAMAGED, FRAME, KINDS, OVERLONG } from "../../../scripts/modules/listing/kinds.js";
+import { DAMAGES, FRAME, KINDS } from "../../../scripts/modules/listing/kinds.js";
 import { ANSWER } from "../../../scripts/modules/port1.js";
 
 /** @typedef {import("../../../scripts/modules/listing/kinds.js").LineKind} LineKind */
@@ -23,11 +23,11 @@ const FIRST_SIGN = 3;
 
 /** Stations, and then the tracks of damage: of a listing of one line, of line 1 and of line 2. */
 export const STATIONS = 256;
-export const DAMAGE = STATIONS * TRACKS.length;
+export const DAMAGE_TRACKS = STATIONS * TRACKS.length;
 
 /** The track of signs of a kind of lines, -1 where it has none; and which kinds are damage. */
 const SIGN_OF_KIND = Int8Array.from(KINDS, (name) => TRACKS.indexOf(name, FIRST_SIGN));
-const IS_DAMAGE = Uint8Array.from(KINDS, (_, kind) => Number([DAMAGED, OVERLONG, ABORT].includes(kind)));
+const IS_DAMAGE = Uint8Array.from(KINDS, (_, kind) => Number(DAMAGES.includes(kind)));
 
 /**
  * The number of the track to which a line of a listing belongs, or -1.
@@ -36,7 +36,7 @@ const IS_DAMAGE = Uint8Array.from(KINDS, (_, kind) => Number([DAMAGED, OVERLONG,
  */
 function trackOf({ kinds, lines, stations, types }, at) {
   const kind = kinds[at];
-  if (IS_DAMAGE[kind]) return DAMAGE + lines[at];
+  if (IS_DAMAGE[kind]) return DAMAGE_TRACKS + lines[at];
   const own = kind === FRAME ? trackOfFrame(types[at]) : SIGN_OF_KIND[kind];
   return own < 0 ? -1 : TRACKS.length * stations[at] + own;
 }
@@ -52,7 +52,7 @@ function trackOfFrame(type) {
  * @param {Listing} listing
  */
 export function rowsByTrack(listing) {
-  const counts = new Uint32Array(DAMAGE + 3);
+  const counts = new Uint32Array(DAMAGE_TRACKS + 3);
   for (let at = 0; at < listing.length; at++) {
     const track = trackOf(listing, at);
     if (track >= 0) counts[track] += 1;
