@@ -8,7 +8,7 @@ import subprocess
 from pathlib import Path
 from typing import List, NamedTuple, Sequence, Union
 
-from common.manners import Fault
+from definitions.manners import Fault
 
 TOP = Path(__file__).resolve().parent.parent
 

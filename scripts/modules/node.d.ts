@@ -26,6 +26,7 @@ interface Buffer extends Uint8Array {
   indexOf(octets: string | number, from?: number): number;
   lastIndexOf(octets: string | number, from?: number): number;
   subarray(from?: number, past?: number): Buffer;
+  equals(other: Uint8Array): boolean;
 }
 
 declare const Buffer: {
@@ -46,6 +47,7 @@ declare module "node:fs" {
     mtime: Date;
     mode: number;
     size: number;
+    isDirectory(): boolean;
     isFIFO(): boolean;
     isFile(): boolean;
   }
@@ -112,6 +114,11 @@ declare module "node:crypto" {
 
 declare module "node:events" {
   function once(source: object, event: string): Promise<any[]>;
+}
+
+declare module "node:os" {
+  function availableParallelism(): number;
+  function tmpdir(): string;
 }
 
 declare module "node:path" {

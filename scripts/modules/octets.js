@@ -9,6 +9,49 @@ import { Fault } from "./fault.js";
  * @property {() => Promise<ArrayBuffer>} arrayBuffer
  */
 
+/** Octets of one read of a stream. */
+const READ = 1 << 20;
+
+/**
+ * What reads the octets of a file from one place to another.
+ * @typedef {(from: number, past: number) => ArrayBuffer|Promise<ArrayBuffer>} Read
+ */
+
+/** A part of a file that is read by its places, as a Blob has it. */
+export class ReadPart {
+  /** @param {Read} read @param {number} from @param {number} past */
+  constructor(read, from, past) {
+    this.read = read;
+    this.from = from;
+    this.past = past;
+  }
+
+  get size() {
+    return this.past - this.from;
+  }
+
+  slice(from = 0, past = this.size) {
+    return new ReadPart(this.read, Math.min(this.past, this.from + from), Math.min(this.past, this.from + past));
+  }
+
+  async arrayBuffer() {
+    return this.read(this.from, this.past);
+  }
+
+  /** @returns {ReadableStream<Uint8Array>} */
+  stream() {
+    let at = 0;
+    return new ReadableStream({
+      pull: async (stream) => {
+        if (at >= this.size) return stream.close();
+        const octets = new Uint8Array(await this.slice(at, at + READ).arrayBuffer());
+        at += READ;
+        stream.enqueue(octets);
+      },
+    });
+  }
+}
+
 /** What browsers call it when a file is another than the one that was chosen. */
 const CHANGED = new Set(["NotReadableError", "NotFoundError"]);
 
@@ -41,9 +84,7 @@ export async function octetsOf(part) {
  * @returns {Uint8Array}
  */
 export function joined(first, second) {
-  if (first.length === 0) {
-    return second;
-  }
+  if (first.length === 0) return second;
   const both = new Uint8Array(first.length + second.length);
   both.set(first);
   both.set(second, first.length);

@@ -178,3 +178,10 @@ export function listed(names) {
   const text = escaped(names.map((name) => (/[\x00-\x1f]/.test(name) ? JSON.stringify(name) : name)).join(", "));
   return text.length > MOST_NAMES ? `${text.slice(0, MOST_NAMES)} ..` : text;
 }
+
+/**
+ * A count and what is counted: `1 frame`, `2 frames`.
+ * @param {number} count
+ * @param {string} what in the singular
+ */
+export const counted = (count, what) => (count === 1 ? `1 ${what}` : `${count} ${what}s`);

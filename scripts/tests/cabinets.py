@@ -28,7 +28,8 @@ WARNING = "warning: "
 
 
 class Outcome(NamedTuple):
-    """What became of a recording: its bits, the warnings, and the other lines."""
+    """What became of a recording: its bits as they were sent, without 1s behind stops, the warnings, and the other
+    lines."""
 
     bits: str
     warnings: List[str]
@@ -36,7 +37,7 @@ class Outcome(NamedTuple):
 
 
 def outcome_of(samples: "np.ndarray", rate: int, *options: str) -> Outcome:
-    got = ran([SCRIPT, *CHANNELS, f"--samplerate={rate}", *options], samples.tobytes())
+    got = ran([SCRIPT, *CHANNELS, f"--samplerate={rate}", "--rest=0", *options], samples.tobytes())
     told = [line.partition(WARNING) for line in got.stderr.decode().splitlines()]
     warnings = [text for _, warning, text in told if warning]
     return Outcome(plain(got.stdout.decode()), warnings, [text for text, warning, _ in told if not warning])
@@ -266,12 +267,4 @@ def example_of_four_wires(_: Path) -> List[str]:
     return [] if (TOP / "examples" / "four-wires.csv").read_bytes() == four_wires() else ["the file is another"]
 
 
-TESTS = [
-    example_of_four_wires,
-    cabinets,
-    many_cabinets,
-    glitches,
-    doubts,
-    one_clock_for_two,
-    long_recordings,
-]
+TESTS = [example_of_four_wires, cabinets, many_cabinets, glitches, doubts, one_clock_for_two, long_recordings]

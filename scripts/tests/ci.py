@@ -71,9 +71,7 @@ CASES = [
     Case("no octet.ts2", b"", "port1: capture: short head"),
     Case("cut off.ts2", packed(ANSWERED)[:-1], "port1: capture: short body"),
     Case(
-        "missing and cut off.ts2",
-        packed(plain(CALL) + ANSWERED)[:-1],
-        "port1: capture: short body\n" + wrong(MISSING),
+        "missing and cut off.ts2", packed(plain(CALL) + ANSWERED)[:-1], "port1: capture: short body\n" + wrong(MISSING)
     ),
     Case("text.ts2", ANSWERED.encode(), "port1: capture: wrong magic"),
     Case("packed.bits", packed(ANSWERED), "port1: capture: octet 0 is no bit"),

@@ -14,14 +14,15 @@ from pathlib import Path
 from typing import Iterator, List, NamedTuple, Sequence
 
 from needs import BASH_COMPLETION, needs, needs_file
-from tests.case import CALL, DICTIONARY, TOP, Run, Test, plain
+from tests.asleep import is_asleep
+from tests.case import CALL, DICTIONARY, SECONDS, TOP, Run, Test, plain
 
 RUNS: List[Run] = []
 
 COMPLETIONS = TOP / "cli" / "completions"
 
-# How long an answer of a shell may take, and how long it may still write after that, in seconds.
-SECONDS, REST = 20.0, 0.2
+# How long a shell is given to begin with what was typed, in seconds.
+REST = 0.2
 
 PROMPT = "ready> "
 
@@ -103,8 +104,15 @@ def furnish(folder: Path) -> None:
         place.symlink_to(COMPLETIONS / name)
 
 
+class Shell(NamedTuple):
+    """A shell: its terminal, and its process."""
+
+    terminal: int
+    process: int
+
+
 @contextmanager
-def at_terminal(words: Sequence[str], folder: Path) -> Iterator[int]:
+def at_terminal(words: Sequence[str], folder: Path) -> Iterator[Shell]:
     """A shell at a terminal of its own, whose home is the folder."""
     path = f"{folder / 'bin'}:{os.environ.get('PATH', os.defpath)}"
     environment = {"PATH": path, "HOME": str(folder), "TERM": "xterm", "LC_ALL": "C", "PS1": PROMPT}
@@ -117,7 +125,7 @@ def at_terminal(words: Sequence[str], folder: Path) -> Iterator[int]:
             os._exit(127)
     fcntl.ioctl(terminal, termios.TIOCSWINSZ, struct.pack("HHHH", ROWS, COLUMNS, 0, 0))
     try:
-        yield terminal
+        yield Shell(terminal, process)
     finally:
         os.close(terminal)
         os.kill(process, signal.SIGKILL)
@@ -144,14 +152,22 @@ def read(terminal: int, before: bytes, wanted: Sequence[str], seconds: float) ->
     return octets
 
 
-def shown_after(terminal: int, row: Row) -> str:
+def read_until_asleep(shell: Shell, before: bytes) -> bytes:
+    """What has appeared, with that before, when the shell has nothing to do but to wait for a key."""
+    octets, end = read(shell.terminal, before, [], REST), time.monotonic() + SECONDS
+    while time.monotonic() < end and (not is_asleep(shell.process) or select.select([shell.terminal], [], [], 0)[0]):
+        octets = read(shell.terminal, octets, [], 0.02)
+    return octets
+
+
+def shown_after(shell: Shell, row: Row) -> str:
     """What appears after a row is typed: what a Tab does is waited for before the next key."""
     octets = b""
     for key in re.split(r"(\t)", row.typed):
-        os.write(terminal, key.encode())
-        octets = read(terminal, octets, [], REST)
-    octets = read(terminal, octets, row.appears, SECONDS)
-    return text_of(read(terminal, octets, [], REST))
+        os.write(shell.terminal, key.encode())
+        octets = read_until_asleep(shell, octets)
+    octets = read(shell.terminal, octets, row.appears, SECONDS)
+    return text_of(read_until_asleep(shell, octets))
 
 
 def problems_of_shell(shell: str, words: Sequence[str], folder: Path) -> List[str]:
@@ -160,9 +176,9 @@ def problems_of_shell(shell: str, words: Sequence[str], folder: Path) -> List[st
     for row in TABLE:
         if shell not in row.shells:
             continue
-        with at_terminal(words, folder) as terminal:
-            start = text_of(read(terminal, b"", [PROMPT], SECONDS))
-            text = shown_after(terminal, row) if PROMPT in start else ""
+        with at_terminal(words, folder) as at:
+            start = text_of(read(at.terminal, b"", [PROMPT], SECONDS))
+            text = shown_after(at, row) if PROMPT in start else ""
         missing = [word for word in row.appears if word not in text]
         wrong = [word for word in row.never if word in text]
         if missing or wrong:

@@ -1,6 +1,7 @@
 """The definitions, run: beside the program, edited, and in forms that the translator does not know."""
 
 import importlib
+import itertools
 import os
 import random
 import shutil
@@ -9,11 +10,12 @@ import sys
 from pathlib import Path
 from typing import Dict, Iterator, List, NamedTuple, Sequence, Tuple
 
-from by_definition import Answer, Definitions, read_words
-from common.manners import Fault
+from beside import Minutes
 from definitions import values
+from definitions.by_definition import Answer, Definitions, read_words
+from definitions.manners import Fault
 from definitions.python import Translation, with_room
-from tests.case import CALL, DICTIONARY, SECONDS, TOP, WINDOWS, Run, packed, ran, random_bits
+from tests.case import CALL, DICTIONARY, SECONDS, TOP, WINDOWS, Run, packed, ran, random_bits, sampler
 from tests.listings import differing
 from tests.parts import OPTIONS, dirty_line, packed_marks, packed_two, polling
 
@@ -55,6 +57,8 @@ RUNS = [
         status=2,
     ),
     Run("a ledger", ["by-definition", "ledger", "--bits"], CALL.encode(), LEDGER),
+    Run("three wires", ["by-definition", "sample", "0", "1", "2"], b"", b"", HEAD + "the wires are TXC and TXD, or also RXC and RXD\n", 2),
+    Run("a record cut off", ["by-definition", "sample", "--octets", "2", "0", "1"], b"\0\1\2", b"", "by-definition: the last sample is cut off\n", 2),
     Run("two ledgers", ["by-definition", "ledger", "--bits", "--two"], BOTH, TWO_LEDGERS),
 ]
 
@@ -205,7 +209,9 @@ def problems_of_random(seed: int, count: int) -> List[str]:
     definitions = definitions_of(TOP)
     generator = random.Random(seed)
     problems: List[str] = []
+    minutes = Minutes()
     for number in range(count):
+        minutes.tell(f"{number} of {count} captures, {len(problems)} differ")
         capture, options = random_capture(generator, [ONE, TWO, ARRIVALS][number % 3])
         listed = generator.choice(OPTIONS)
         is_filter = any(word.startswith(("--kind", "--station", "--type")) for word in listed)
@@ -214,6 +220,47 @@ def problems_of_random(seed: int, count: int) -> List[str]:
             listed, command = ["--origin", str(2**60 - generator.randrange(300))], "list"
         problems += compared(definitions, [command, *options, *listed], damaged(generator, capture), f"random {number}")
     return problems
+
+
+def levels_of(generator: random.Random, count: int) -> List[int]:
+    """The levels of a wire in so many samples: each stands for a few, or for long."""
+    levels: List[int] = []
+    while len(levels) < count:
+        levels += [(levels or [0])[-1] ^ 1] * generator.choice([1, 2, 3, 3, 4, 4, 20])
+    return levels[:count]
+
+
+def random_recording(generator: random.Random) -> Tuple[bytes, List[str]]:
+    """Samples of one line or two, with other bits beside, or runs of them; and how they are read."""
+    wires = [str(number) for number in generator.sample(range(8), generator.choice([2, 4]))]
+    count = generator.randrange(160)
+    samples = [0] * count
+    for number in range(8):
+        for at, level in enumerate(levels_of(generator, count)):
+            samples[at] |= level << number
+    options = ["--hold", str(generator.randrange(3)), "--rest", str(generator.choice([0, 5, 12, 30]))]
+    options += ["--falling"] * generator.randrange(2)
+    if generator.randrange(2):
+        return bytes(samples), [*options, *wires]
+    runs = [(level, len([*alike])) for level, alike in itertools.groupby(samples)]
+    return b"".join(bytes([level]) + length.to_bytes(7, "little") for level, length in runs), [*options, "--runs", *wires]
+
+
+def problems_of_recordings(seed: int, count: int) -> List[str]:
+    definitions = definitions_of(TOP)
+    generator = random.Random(seed)
+    problems: List[str] = []
+    for number in range(count):
+        samples, words = random_recording(generator)
+        got = subprocess.run([sampler(), *words], input=samples, capture_output=True, timeout=SECONDS).stdout
+        defined = definitions.answer(read_words(["sample", *words]), samples).text
+        problems += differing(got, defined, f"recording {number}: {' '.join(words)}")
+    return problems
+
+
+def on_random_recordings(folder: Path) -> List[str]:
+    """Samples of clocks that stop, of glitches and of other wires beside."""
+    return run_deep(lambda: problems_of_recordings(12, 60))
 
 
 def as_the_program(folder: Path) -> List[str]:
@@ -448,6 +495,7 @@ TESTS = [
     as_it_is_written,
     as_the_program,
     on_random_captures,
+    on_random_recordings,
     on_dictionaries_with_faults,
     on_long_captures,
     on_too_long_a_capture,

@@ -134,10 +134,4 @@ def nobody_reads_findings(folder: Path) -> List[str]:
     return differing((2, ""), (got.returncode, got.stderr.decode()), "broken pipe")
 
 
-TESTS = [
-    vectors,
-    spoilt_files,
-    things_missing,
-    where_the_program_is,
-    nobody_reads_findings,
-]
+TESTS = [vectors, spoilt_files, things_missing, where_the_program_is, nobody_reads_findings]

@@ -146,13 +146,7 @@ RUNS = [
     ),
     Run("two lines", ["recording-to-bits", "clk", "dat", "ans"], TWO_DATA, b"0i1o1i0o\n", f"{CLK} 4 edges\n"),
     Run("two lines, the other way", ["recording-to-bits", "clk", "ans", "dat"], TWO_DATA, b"1o0i1i0o\n", f"{CLK} 4 edges\n"),
-    Run(
-        "one of two lines",
-        ["recording-to-bits", "clk", "ans"],
-        TWO_DATA,
-        b"1010\n",
-        f"{CLK} 4 edges\n",
-    ),
+    Run("one of two lines", ["recording-to-bits", "clk", "ans"], TWO_DATA, b"1010\n", f"{CLK} 4 edges\n"),
     Run(
         "a second line without a value",
         ["recording-to-bits", "clk", "dat", "ans"],

@@ -111,10 +111,4 @@ def linked_when_installed(folder: Path) -> List[str]:
     return left + ([] if "{value=port1}" in got.stdout else [f"{got}"])
 
 
-TESTS = [
-    called_by_hand,
-    linked_when_installed,
-    live_interface,
-    recorder_that_fails,
-    ring_of_files,
-]
+TESTS = [called_by_hand, linked_when_installed, live_interface, recorder_that_fails, ring_of_files]

@@ -124,10 +124,4 @@ def draft_of_example(_: Path) -> List[str]:
     return differing(wanted, got, "entries")
 
 
-TESTS = [
-    example_is_generated,
-    example_places,
-    summary_of_example,
-    objects_of_example,
-    draft_of_example,
-]
+TESTS = [example_is_generated, example_places, summary_of_example, objects_of_example, draft_of_example]

@@ -72,9 +72,6 @@ def firmware_lists(folder: Path) -> List[str]:
 
 # ---- the tap of two lines, which writes their bits in the order of arrival
 
-# How long it may write nothing, in seconds.
-LULL = 20
-
 
 class Tap(NamedTuple):
     """The emulated board: where the clocks' edges go in, and where the text comes out."""
@@ -90,7 +87,7 @@ class Tap(NamedTuple):
         """So many letters, which stand 64 in a line."""
         text = ""
         while len(text) < count:
-            octets = self.written.read(1) if select.select([self.written], [], [], LULL)[0] else b""
+            octets = self.written.read(1) if select.select([self.written], [], [], SECONDS)[0] else b""
             if not octets:
                 raise OSError(f"no letter came after {len(text)}")
             text += octets.decode().strip("\n")

@@ -17,7 +17,7 @@ from tests.case import DICTIONARY, TOP, Run, Word, listed, ran
 try:
     import numpy as np
     from tests.simulated import cabinet
-    from tests.simulated.cabinet import FLAG, Answer, Cabinet, body_of, recorded_from
+    from tests.simulated.cabinet import Cabinet, HealthyBus
 except ModuleNotFoundError:
     pass  # Each test that needs numpy then says so.
 
@@ -34,24 +34,7 @@ NEAR = 200
 @lru_cache(maxsize=None)
 def healthy(samples: int, jitter: int = 0) -> "np.ndarray":
     """So many samples a second of a bus on which all commands are answered."""
-    made = Cabinet(5, 80, True, samples, POLLS, jitter)
-
-    class Bus(cabinet.Bus):
-        def poll(self) -> None:
-            number, generator = len(self.fates), self.generator
-            station, kind = [1, 2, 16][number % 3], number % 2
-            self.fates.append(("answered", station, kind))
-            command, answer = ([generator.randrange(256) for _ in range(count)] for count in cabinet.LENGTHS[kind])
-            self.send(FLAG + body_of([station, 0x83, kind, *command]) + FLAG)
-            reply = FLAG + body_of([station, 0x83, kind + 128, *answer]) + FLAG
-            self.answers.append(Answer(self.count + generator.uniform(9, 150), reply))
-            self.send("1" * generator.randrange(900, 1100))
-
-    bus = Bus(made)
-    for _ in range(POLLS):
-        bus.poll()
-    bus.send("1" * 64)
-    return recorded_from(made, bus).samples
+    return HealthyBus(Cabinet(5, 80, True, samples, POLLS, jitter)).samples()
 
 
 def changes_of(samples: "np.ndarray") -> "np.ndarray":

@@ -32,7 +32,6 @@ SAME_FILES = {
 # The folders that are installed whole, each by its place.
 SAME_FOLDERS = {
     "share/port1/contrib": "scripts",
-    "share/port1/contrib/scripts": "scripts/port1_scripts",
     "share/port1/contrib/python": "bindings/python",
     "share/port1/contrib/sigrok": "bindings/sigrok",
     "lib/python": "bindings/python",
@@ -194,7 +193,7 @@ def problems_of_library(prefix: Path) -> List[str]:
 def files_of(folder: Path) -> List[str]:
     """The files of a folder, but for what tests them, and for a folder that has a place of its own."""
     found = [path.relative_to(folder) for path in folder.rglob("*") if not path.is_dir()]
-    others = {*TESTS_OF_SCRIPTS, "port1_scripts"}
+    others = TESTS_OF_SCRIPTS
     return sorted(str(path) for path in found if not others & set(path.parts))
 
 
@@ -326,10 +325,5 @@ def what_git_passes_over(folder: Path) -> List[str]:
 
 
 TESTS: List[Test] = [
-    what_git_passes_over,
-    in_a_home,
-    for_a_package,
-    one_target_at_a_time,
-    what_is_of_others,
-    make_check,
+    what_git_passes_over, in_a_home, for_a_package, one_target_at_a_time, what_is_of_others, make_check
 ]

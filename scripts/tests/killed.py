@@ -7,10 +7,10 @@ import subprocess
 import threading
 import time
 from pathlib import Path
-from typing import IO, List, Sequence
+from typing import List, Sequence
 
 from tests.case import SCRIPTS, SECONDS, Run
-from tests.watched import RATE, ROUND, Cabinet, Fault, child_of, judged, read_until
+from tests.watched import RATE, ROUND, Cabinet, Fault, child_of, feed, judged, read_until
 
 RUNS: List[Run] = []
 
@@ -40,14 +40,6 @@ def kills(folder: Path) -> List[str]:
 def many_kills(folder: Path) -> List[str]:
     generator = random.Random(5)
     return problems_of_kills(folder, [generator.uniform(0, 1.0) for _ in range(50)])
-
-
-def feed(pipe: IO[bytes], bits: bytes) -> None:
-    try:
-        pipe.write(bits)
-        pipe.flush()
-    except OSError:
-        pass  # nobody reads any more
 
 
 def undecided(folder: Path) -> List[str]:

@@ -173,16 +173,17 @@ def names_faults(folder: Path) -> List[str]:
     """A wrong file of limits is named with line and key, and what cannot be judged is a fault and no pass."""
     kind = "[[limit]]\nstation = 1\ntype = 1\n"
     wrong = {
-        "[bus]\nframe = 1\n": "2: frame: is no limit; limits are frames, damaged, pending, damaged_percent",
+        "[bus]\nframe = 1\n": "2: frame: is no limit; limits are frames, damaged, strays, pending, damaged_percent",
         "[bus]\nframes = -1\n": "2: frames: is no number from 0",
         "[bus]\nframes = \n": "2: ",
         "[bus]\ndamaged_percent = 101\n": "2: damaged_percent: is above 100 %",
         "[busses]\n": "1: busses: is neither `bus` nor `limit`",
         "": "1: limits: there is no limit",
-        kind: "2: station: station 1 type 1 has no limit",
-        "[[limit]]\ntype = 1\nsent = 1\n": "1: station: is lacking",
+        kind: "1: limit: station 1 type 1 has no limit",
+        "[[limit]]\ntype = 1\n": "1: limit: type 1 of each station has no limit",
         kind.replace("type = 1", "type = 128"): "3: type: is no whole number below 128",
-        f"{kind}sent = 1\n{kind}sent = 1\n": "6: station: station 1 type 1 stands there twice",
+        f"{kind}sent = 1\n{kind}sent = 1\n": "5: limit: station 1 type 1 stands there twice",
+        "[[limit]]\nsent = 1\n[[limit]]\nlate = 1\n": "3: limit: each station and type stands there twice",
         "limit = 1\n": "1: limit: is no array of tables: write [[limit]]",
     }
     good = wrote(folder, "good.list", b"8 49 frame 108300fde5\n")
@@ -222,6 +223,72 @@ def summary_as_json(_: Path) -> List[str]:
     return found + ([] if empty["unknown"][0]["sort"] == "lines" else [f"of nothing it says {empty}"])
 
 
+# Frames and verdicts of two kinds of commands that are answered, of which one misses an answer, and of one that is not;
+# damage and a stray.
+MIXED = b"""8 49 frame 018301fde5 station 1 type 1 poll
+58 99 frame 018381f561 station 1 type 129 state
+8 49 answered station 1 type 1
+108 149 frame 028301fde5 station 2 type 1 poll
+158 199 damaged fcs
+208 249 frame 018307fde5 station 1 type 7 tell
+108 149 missing station 2 type 1
+258 299 frame 038381f561 station 3 type 129 state
+258 299 stray station 3 type 129
+"""
+
+
+class Judged(NamedTuple):
+    """Limits, and the lines that are written of MIXED."""
+
+    limits: str
+    lines: List[str]
+
+
+DAMAGED, STRAYS = "not judged: bus: damaged pieces 1, no limit", "not judged: bus: strays 1, no limit"
+MISSING = "station 2 type 1 poll: missing answers 1"
+
+JUDGED = [
+    Judged("[bus]\nframes = 1\n", ["PASS a: 1 of 1 limits kept", DAMAGED, STRAYS, f"not judged: {MISSING}, no limit"]),
+    Judged("[bus]\ndamaged_percent = 50\nstrays = 0\n[[limit]]\nmissing = 0\n", [
+        "FAIL a: 2 of 4 limits kept", "bus: strays 1, limit 0", f"{MISSING}, limit 0",
+    ]),
+    # What says more of its commands stands in place of what says less.
+    Judged("[bus]\ndamaged = 1\nstrays = 1\n[[limit]]\nmissing = 0\n[[limit]]\nstation = 2\nmissing = 1\n", [
+        "PASS a: 4 of 4 limits kept",
+    ]),
+    Judged("[bus]\ndamaged = 1\nstrays = 1\n[[limit]]\ntype = 1\nsent = 2\nbad_percent = 100\n", [
+        "FAIL a: 4 of 6 limits kept", "station 1 type 1 poll: commands 1, limit 2", "station 2 type 1 poll: commands 1, limit 2",
+    ]),
+    # Where no command is as a table says, nothing can be judged.
+    Judged("[bus]\ndamaged = 1\nstrays = 1\n[[limit]]\nstation = 9\nmissing = 0\n", [
+        "FAIL a: 2 of 3 limits kept", "each type of station 9: missing answers nothing to judge, limit 0",
+        f"not judged: {MISSING}, no limit",
+    ]),
+]
+
+
+def holds_each_to_limits(folder: Path) -> List[str]:
+    """Limits of each station and type, of strays and damage; what is wrong and has no limit is named in all forms."""
+    found = []
+    mixed = wrote(folder, "mixed.list", MIXED)
+    for text, lines in JUDGED:
+        files = {form: folder / f"mixed.{form}" for form in ("csv", "json", "page")}
+        got = ran(["bus-limits", *(f"--{form}={path}" for form, path in files.items()), limits(folder, text), f"a={mixed}"])
+        told = [line.strip() for line in got.stdout.decode().splitlines()]
+        found += [] if told == lines else [f"{text!r}: {told}"]
+        found += [] if got.returncode == (0 if lines[0].startswith("PASS") else 1) else [f"{text!r}: {got.returncode}"]
+        count = sum(line.startswith("not judged") for line in lines)
+        counts = [
+            files["csv"].read_text().count(",not judged\n"),
+            len(json.loads(files["json"].read_text())["units"][0]["open"]),
+            files["page"].read_text().count("<li>Not judged: "),
+        ]
+        found += [] if counts == [count] * 3 else [f"{text!r}: {counts} are not judged, not {count}"]
+    return found
+
+
 RUNS: List[Run] = []
 
-TESTS: List[Test] = [finds_what_is_planted, compares_with_an_earlier_run, names_faults, summary_as_json]
+TESTS: List[Test] = [
+    *(finds_what_is_planted, holds_each_to_limits, compares_with_an_earlier_run, names_faults, summary_as_json),
+]

@@ -223,7 +223,4 @@ def big_listings(folder: Path) -> List[str]:
     return problems
 
 
-TESTS = [
-    drafts_are_accepted,
-    big_listings,
-]
+TESTS = [drafts_are_accepted, big_listings]

@@ -92,7 +92,7 @@ MODULES: Dict[str, List[str]] = {
 }
 
 # What the tests of the other modules share.
-SHARED = {"__init__", "annotated", "case", "python_texts", "watched"}
+SHARED = {"__init__", "annotated", "asleep", "case", "python_texts", "watched"}
 
 
 def every_script_is_tested(_: Path) -> List[str]:

@@ -20,9 +20,6 @@ LIMITS = "[bus]\nframes = 2\n"
 
 RUNS: List[Run] = []
 
-# How long a command may take to end by a signal, in seconds, beside a loaded machine.
-ENDS = 60
-
 
 def compared(got: Any, wanted: Any) -> List[str]:
     return [] if got == wanted else [f"wanted {wanted!r}, got {got!r}"]
@@ -129,12 +126,12 @@ def a_pipe_without_reader(folder: Path) -> List[str]:
     os.mkfifo(pipe)
     words = [SCRIPTS / "list-to-pcap", RATE, pipe]
     child = subprocess.Popen(words, stdin=subprocess.DEVNULL, stdout=subprocess.DEVNULL, stderr=subprocess.PIPE)
-    status, until = f"/proc/{child.pid}/status", time.monotonic() + ENDS
+    status, until = f"/proc/{child.pid}/status", time.monotonic() + SECONDS
     # Until it catches signals, it has not begun.
     while not catches(status, signal.SIGTERM) and time.monotonic() < until:
         time.sleep(0.01)
     child.send_signal(signal.SIGTERM)
-    _, told = child.communicate(timeout=ENDS)
+    _, told = child.communicate(timeout=SECONDS)
     return compared((child.returncode, told), (-signal.SIGTERM, b""))
 
 

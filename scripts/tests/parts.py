@@ -268,9 +268,6 @@ STAND_INS = [
     StandIn("a file that shrinks", LISTS, f'{LISTS} && truncate -s 99 "$CAPTURE"', "the file has become shorter"),
 ]
 
-# How long a run with a stand-in may take, in seconds.
-SOON = 30
-
 
 def by_stand_in(folder: Path, of_part: str, of_seam: str) -> Tuple[List[Path], Dict[str, str]]:
     """A run of two parts by a stand-in: its words and environment. A part is listed to a file, a seam to a pipe."""
@@ -289,7 +286,7 @@ def parts_that_fail(folder: Path) -> List[str]:
     problems = []
     for row in STAND_INS:
         words, environment = by_stand_in(folder, row.of_part, row.of_seam)
-        got = subprocess.run(words, capture_output=True, env=environment, timeout=SOON)
+        got = subprocess.run(words, capture_output=True, env=environment, timeout=SECONDS)
         if (got.returncode, got.stdout) != (2, b"") or f"list-in-parts: {row.told}\n" not in got.stderr.decode():
             problems.append(f"{row.name}: status {got.returncode}, {got.stderr!r}, {len(got.stdout)} octets")
     return problems
@@ -297,15 +294,17 @@ def parts_that_fail(folder: Path) -> List[str]:
 
 def started(folder: Path) -> List[int]:
     """The processes of both parts, as soon as they have begun."""
-    path, end = folder / "started", time.monotonic() + SOON
+    path, end = folder / "started", time.monotonic() + SECONDS
     while time.monotonic() < end and path.read_text().count("\n") < 2:
         time.sleep(0.05)
     return [int(line) for line in path.read_text().split()]
 
 
 def kill_left(processes: Sequence[int]) -> List[int]:
-    """Which of the processes are still there, which are killed then."""
-    left = []
+    """Which of the processes are still there after some seconds, which are killed then."""
+    left, end = [], time.monotonic() + 5
+    while time.monotonic() < end and any(Path(f"/proc/{number}").exists() for number in processes):
+        time.sleep(0.05)
     for number in processes:
         with suppress(ProcessLookupError):
             os.kill(number, signal.SIGKILL)
@@ -314,17 +313,17 @@ def kill_left(processes: Sequence[int]) -> List[int]:
 
 
 class Ended(NamedTuple):
-    """What the run is started by, the signals that it is sent, and its status then."""
+    """What the run is started by, and the signals that it is sent, the last of which ends it."""
 
     starts: Sequence[str]
     signals: Sequence[signal.Signals]
-    status: int
 
 
 ENDED = [
-    Ended([], [signal.SIGHUP], 128 + signal.SIGHUP),
-    Ended([], [signal.SIGTERM], 128 + signal.SIGTERM),
-    Ended(["nohup"], [signal.SIGHUP, signal.SIGTERM], 128 + signal.SIGTERM),
+    Ended([], [signal.SIGHUP]),
+    Ended([], [signal.SIGTERM]),
+    Ended([], [signal.SIGINT]),
+    Ended(["nohup"], [signal.SIGHUP, signal.SIGTERM]),
 ]
 
 
@@ -340,11 +339,11 @@ def parts_that_are_ended(folder: Path) -> List[str]:
                 for number in row.signals:
                     process.send_signal(number)
                     with suppress(subprocess.TimeoutExpired):
-                        process.wait(1 if number != row.signals[-1] else SOON)
+                        process.wait(1 if number != row.signals[-1] else SECONDS)
             finally:
                 process.kill()
                 left = kill_left(processes)
-        if (process.returncode, len(processes), left) != (row.status, 2, []):
+        if (process.returncode, len(processes), left) != (-row.signals[-1], 2, []):
             problems.append(f"{row}: status {process.returncode}, {len(processes)} processes, left {left}")
     return problems
 

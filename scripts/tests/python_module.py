@@ -17,16 +17,7 @@ from tests.case import CALL, ONE_CALL, REPLY, SECONDS, TOP
 from tests.case import Run, Test, Word, listed, packed, plain, random_bits, written_by
 from tests.packages import moved, told, unlike
 from tests.python_texts import (
-    PAIRED,
-    PAIRED_REFUSED,
-    PAIRED_REFUSES,
-    PRINTED,
-    REFUSED,
-    REFUSED_PRINTS,
-    SAMPLED,
-    SENT,
-    TAPPED,
-    TAPPED_REFUSES,
+    PAIRED, PAIRED_REFUSED, PAIRED_REFUSES, PRINTED, REFUSED, REFUSED_PRINTS, SAMPLED, SENT, TAPPED, TAPPED_REFUSES
 )
 
 RUNS: List[Run] = []
@@ -240,7 +231,7 @@ def places_of_the_library(folder: Path) -> List[str]:
     module = alone / "port1" / "__init__.py"
     module.write_bytes((MODULE / "port1" / "__init__.py").read_bytes())
     library = prefix / "lib" / "libport1.so.2"
-    missing = "cannot open shared object file: No such file or directory; `make install-library` makes it"
+    missing = "cannot open shared object file: No such file or directory; `make install-library` makes it, and PORT1_LIBRARY says where it is"
     rows: List[Tuple[Path, Optional[Path], str]] = [
         (prefix / "lib" / "python", None, "made"),
         (MODULE, library, "made"),

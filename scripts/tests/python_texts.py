@@ -183,7 +183,7 @@ from port1.taps import Tap, Wire
 for row in json.load(sys.stdin):
     inverted = ["txc", "txd", "rxc", "rxd"]
     wires = [Wire(number, name in row["turned"]) for number, name in zip(row["wires"], inverted)]
-    tap = Tap(tuple(wires[:2]), tuple(wires[2:]) or None, hold=row["hold"])
+    tap = Tap(tuple(wires[:2]), tuple(wires[2:]) or None, hold=row["hold"], rest=row.get("rest", 0))
     arrivals = tap.feed(bytes(int(digit, 16) for digit in row["samples"]))
     print("".join("01oi"[2 * line - 2 + bit] for line, bit in arrivals))
 """

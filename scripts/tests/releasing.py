@@ -45,8 +45,8 @@ PAGE = "page/out/port1.html"
 # that `rt` makes, and what other tools keep.
 OF_NO_SOURCE = {
     "crates/bus_bits/out/rlib/bus_bits.rlib/lang/antt/specs/Bits.antt": "a copy\n",
-    "scripts/port1_scripts/.cache/.gitignore": "*\n",
-    "scripts/port1_scripts/__pycache__/port1.pyc": "translated\n",
+    "scripts/definitions/.cache/.gitignore": "*\n",
+    "scripts/definitions/__pycache__/port1.pyc": "translated\n",
 }
 
 # What Debian's programs that `make dist` needs are in.
@@ -63,11 +63,7 @@ LIBRARY_FILES = {
     "usr/share/doc/libport1-dev/changelog.gz",
 }
 
-SHARED_FILES = {
-    "usr/lib/{}/libport1.so",
-    "usr/lib/{}/libport1.so.2",
-    "usr/share/lintian/overrides/libport1-dev",
-}
+SHARED_FILES = {"usr/lib/{}/libport1.so", "usr/lib/{}/libport1.so.2", "usr/share/lintian/overrides/libport1-dev"}
 
 # What has another name in the package of the program than in the tarball.
 RENAMED = {
@@ -291,7 +287,7 @@ def contents_of_tarball(folder: Path) -> List[str]:
     order = [Path(name).parts for name in entries(tarball())]
     problems += unlike("order", sorted(order), order)
     problems += [] if f"port1-{version()}/share/port1/page/port1.html" in got else ["there is no page"]
-    wanted.pop(f"port1-{version()}/share/port1/contrib/scripts/.cache/.gitignore")
+    wanted.pop(f"port1-{version()}/share/port1/contrib/definitions/.cache/.gitignore")
     return problems + [f"{name}: {text}" for name, text in unlike_octets(wanted, got).items()]
 
 
@@ -318,8 +314,7 @@ def contents_of_libraries(_: Path) -> List[str]:
     """The packages of the library; that for 64-bit ARM has its archive, and no shared library. What has one name in
     both is the same in both, so that both can be installed at once."""
     rows: List[Tuple[str, str, str, Set[str]]] = [
-        ("amd64", "x86_64-linux-gnu", LIBRARY, SHARED_FILES),
-        ("arm64", "aarch64-linux-gnu", LIBRARY_FOR_ARM, set()),
+        ("amd64", "x86_64-linux-gnu", LIBRARY, SHARED_FILES), ("arm64", "aarch64-linux-gnu", LIBRARY_FOR_ARM, set())
     ]
     problems = []
     for architecture, libraries, archive, shared in rows:
@@ -365,11 +360,12 @@ def field(package: Path, name: str) -> str:
 def fields(_: Path) -> List[str]:
     """Who maintains the packages, for which machines they are, and on which they depend."""
     rows = {
-        "port1_amd64.deb": ("amd64", r"nodejs \(>= 18\), python3 \(>= 3\.8\), libc6 \(>= 2\.\d+\)", "electronics"),
+        "port1_amd64.deb": ("amd64", r"nodejs \(>= 18\), libc6 \(>= 2\.\d+\)", "electronics"),
         "libport1-dev_amd64.deb": ("amd64", r"libc6-dev \| libc-dev(, libc6 \(>= 2\.\d+(\.\d+)?\))?", "libdevel"),
         "libport1-dev_arm64.deb": ("arm64", r"libc6-dev \| libc-dev", "libdevel"),
     }
     problems = unlike("packages", sorted(rows), sorted(packages()))
+    problems += unlike("recommends", "python3 (>= 3.8)", field(packages()["port1_amd64.deb"], "Recommends"))
     for name, (architecture, depends, section) in rows.items():
         package = packages()[name]
         wanted = (MAINTAINER, architecture, version(), section)

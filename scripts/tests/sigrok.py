@@ -32,14 +32,7 @@ def kinds_missing(wanted: Sequence[Shown], kinds: Sequence[str]) -> List[str]:
 
 
 ALL_KINDS = [
-    "frame",
-    "damaged fcs",
-    "damaged short",
-    "damaged unaligned",
-    "damaged unstuffed",
-    "overlong",
-    "abort",
-    "idle",
+    "frame", "damaged fcs", "damaged short", "damaged unaligned", "damaged unstuffed", "overlong", "abort", "idle"
 ]
 
 

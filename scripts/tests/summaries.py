@@ -277,7 +277,7 @@ def many_of_one_sort(_: Path) -> List[str]:
     for station in range(20):
         listing.command(station, 1, station * 1000)
         listing.verdict("missing", station, 1, station * 1000)
-    listing.answer(16, 0, 29_000)
+        listing.answer(29, 0, station * 1000 + 500)
     listing.command(30, 1, 30_000)
     listing.verdict("pending", 30, 1, 30_000)
     summary = summary_of(listing.octets())
@@ -361,10 +361,7 @@ def damage_in_time(_: Path) -> List[str]:
     first = [generator.randrange(810 * RATE, 830 * RATE) for _ in range(100)]
     second = [generator.randrange(2410 * RATE, 2590 * RATE) for _ in range(60)]
     problems = []
-    for places, wanted in [
-        (spread + first + second, [(800, 1000, first), (2400, 2600, second)]),
-        (spread, []),
-    ]:
+    for places, wanted in [(spread + first + second, [(800, 1000, first), (2400, 2600, second)]), (spread, [])]:
         listing = Listing()
         listing.command(16, 0, 0)
         for place in sorted(places):

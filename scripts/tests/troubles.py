@@ -15,6 +15,9 @@ except ModuleNotFoundError:
 
 SAMPLES = 4_000_000
 
+# After so many bits without an edge a line rests, unless it is told otherwise.
+REST = 40
+
 # What becomes of a command by its fate, where that has another word. Damage may have been the answer.
 VERDICTS = {"notice": "missing", "answer": "spoilt", "cut": "spoilt"}
 
@@ -34,6 +37,10 @@ class Trouble(NamedTuple):
         more = [f"{self.bits:g} bits"] * (self.bits > 0) + [f"{self.glitches} glitches"] * (self.glitches > 0)
         clock = "gated" if self.gated else "free"
         return ", ".join([self.kind, f"{self.ppm} ppm", clock, *more, f"{self.polls} polls"])
+
+    def rest(self) -> List[str]:
+        """The option for a clock that stands still within a frame for longer than one at rest."""
+        return ["--rest=0"] if self.bits > REST else []
 
     def is_doubtful(self) -> bool:
         """Whether the edges of the controller's clock are not where they are due."""
@@ -134,8 +141,9 @@ def differences(trouble: Trouble, seed: int) -> Differences:
     made = Cabinet(seed, trouble.ppm, trouble.gated, SAMPLES, trouble.polls, glitches=trouble.glitches)
     bus = bus_of(trouble, made)
     recorded = recorded_from(made, bus)
-    taken = ran(["recording-to-bits", "0", "1", "2", "3", f"--samplerate={SAMPLES}"], recorded.samples.tobytes())
-    options = ["--bits", "--arrivals", "--dict", cabinet.DICTIONARY]
+    words = ["recording-to-bits", "0", "1", "2", "3", f"--samplerate={SAMPLES}", *trouble.rest()]
+    taken = ran(words, recorded.samples.tobytes())
+    options = ["--bits", "--arrivals", *trouble.rest(), "--dict", cabinet.DICTIONARY]
     got = listed_of(listed(taken.stdout, options).stdout.decode())
     sent, due = sent_of(recorded), verdicts_due(bus.fates)[:-1]
     # A piece that is broken off ends by the rule of rest, and not with its line's bits.

@@ -7,7 +7,6 @@ import shutil
 import signal
 import subprocess
 import time
-from concurrent.futures import ThreadPoolExecutor
 from datetime import datetime
 from pathlib import Path
 from typing import List, NamedTuple, Sequence, Set
@@ -18,12 +17,17 @@ from tests.killed import problems_of_kills
 from tests.watched import (
     DICTIONARY,
     RATE,
+    ROUNDED,
     SIMULATOR,
     Cabinet,
     Fault,
+    Record,
+    Watched,
     child_of,
+    clock_of,
     disk_of,
     judged,
+    lateness,
     read_until,
     schedule,
     wait_until_idle,
@@ -31,6 +35,9 @@ from tests.watched import (
 )
 
 RUNS: List[Run] = []
+
+# How far the two clocks of the computer may go apart within a test, in seconds, and lengths are rounded.
+CLOCK = 0.1
 
 
 def problems_of_time(
@@ -80,7 +87,8 @@ def holes(folder: Path) -> List[str]:
         for begin, past in ((0, 70), (70, 120), (120, 240)):
             bits, _ = cabinet.simulator(begin * RATE, past * RATE).communicate(timeout=SECONDS)
             if begin == 70:
-                (disk / "ballast").write_bytes(bytes(16 << 20))
+                free = shutil.disk_usage(disk).free
+                (disk / "ballast").write_bytes(bytes(free - (1 << 20)))  # more than the whole ring can make room for
             elif begin == 120:
                 (disk / "ballast").unlink()
             watch.stdin.write(bits)
@@ -110,29 +118,63 @@ def problems_of_holes(cabinet: Cabinet, listed: Set[bytes]) -> List[str]:
     return problems
 
 
+def seconds_at(record: Record, key: str = "wall") -> float:
+    return datetime.fromisoformat(record[key].replace("Z", "+00:00")).timestamp()
+
+
+def problems_of_stalls(records: Sequence[Record], began: float) -> List[str]:
+    """What is wrong with the length of stalls: each began when the last bits came, which was after they were sent."""
+    wanted = ("input stalled", "input goes on")
+    pairs = [pair for pair in zip(records, records[1:]) if tuple(record["event"] for record in pair) == wanted]
+    wrong = [
+        (stalled, goes_on)
+        for stalled, goes_on in pairs
+        if goes_on["seconds"] < seconds_at(goes_on) - seconds_at(stalled, "since") - CLOCK
+        or goes_on["seconds"] > seconds_at(goes_on) - began - stalled["place"] / RATE + CLOCK
+    ]
+    return [] if pairs and not wrong else [f"{wrong} of {records}"]
+
+
 def stalls(folder: Path) -> List[str]:
     """In real time: a `port1` held up, a source that stalls, a dictionary read again: no faults of the cabinet."""
-    cabinet = Cabinet(folder, [], speed="1")
+    cabinet = Cabinet(folder, [], ["--lost", "1000"], speed="1")  # a busy computer is late as if input was lost
+    began = time.time()
     source, watch = cabinet.start(0, 60 * RATE)
     told = read_until(watch, "start")
-    time.sleep(1.5)
     watch.send_signal(signal.SIGHUP)
-    time.sleep(1.5)
+    told += read_until(watch, "dictionary")
     port1 = child_of(watch)
-    for process, held in ((port1, 1.5), (source.pid, 4.5)):
-        os.kill(process, signal.SIGSTOP)
-        time.sleep(held)
-        os.kill(process, signal.SIGCONT)
-        time.sleep(1.5)
+    os.kill(port1, signal.SIGSTOP)
+    time.sleep(1.5)
+    os.kill(port1, signal.SIGCONT)
+    os.kill(source.pid, signal.SIGSTOP)
+    told += read_until(watch, "input stalled")
+    time.sleep(1.5)
+    os.kill(source.pid, signal.SIGCONT)
+    told += read_until(watch, "input goes on")
     os.killpg(watch.pid, signal.SIGINT)
     out, err = watch.communicate(timeout=SECONDS)
     source.kill()
     source.communicate()
     records = [json.loads(line) for line in (told + out).decode().splitlines()]
-    events = [record["event"] for record in records]
-    wanted = ["start", "dictionary", "input stalled", "input goes on", "end"]
-    is_well = events == wanted and watch.returncode == 0 and not err and 4 < records[3]["seconds"] < 6
-    return [] if is_well else [f"{records}, {watch.returncode}, {err!r}"]
+    events = {record["event"] for record in records}
+    is_well = events == {"start", "dictionary", "input stalled", "input goes on", "end"} and watch.returncode == 0
+    problems = problems_of_stalls(records, began)
+    return problems if is_well and not err else [*problems, f"{records}, {watch.returncode}, {err!r}"]
+
+
+def times_of_day(folder: Path) -> List[str]:
+    """In real time: by the clocks of the computer, an incident comes after its bits are sent and before it is told."""
+    cabinet = Cabinet(folder, [Fault(RATE, 2 * RATE, "silent", 2)], speed="1")
+    began = time.time()
+    source, watch = cabinet.start(0, 60 * RATE)
+    record = json.loads(read_until(watch, "begun").splitlines()[-1])
+    told = time.time()
+    os.killpg(watch.pid, signal.SIGINT)
+    watch.communicate(timeout=SECONDS)
+    source.communicate(timeout=SECONDS)
+    is_well = began + record["place"] / RATE - CLOCK < seconds_at(record) < told + CLOCK
+    return [] if is_well else [f"{began}, {record}, {told}"]
 
 
 def port1_is_killed(folder: Path) -> List[str]:
@@ -178,8 +220,8 @@ def stall_between_sources(folder: Path) -> List[str]:
     told = read_until(watch, "input goes on")
     watch.send_signal(signal.SIGINT)
     watch.communicate(timeout=SECONDS)
-    record = json.loads(told.decode().splitlines()[-1])
-    return [] if 4 <= record["seconds"] < 9 else [f"{told!r}"]
+    records = [json.loads(line) for line in told.decode().splitlines()]
+    return problems_of_stalls(records, seconds_at(records[0]) - records[-2]["place"] / RATE)
 
 
 def dead_wires(folder: Path) -> List[str]:
@@ -255,10 +297,7 @@ NO_LOG = Wrong("watch.js", "[...left, ...onlyBegun(entries, left)]", "left")
 
 WRONG = [
     [Wrong("watch.js", "const { mark } = this.decoder;", "const mark = this.packer.places;")],
-    [
-        Wrong("incidents.js", "push(...sure);\n    this.office.keep();", "push(...(this.office.keep(), sure));"),
-        NO_LOG,
-    ],
+    [Wrong("incidents.js", "push(...sure);\n    this.office.keep();", "push(...(this.office.keep(), sure));"), NO_LOG],
     [Wrong("rest.js", "resume(before);", "resume({ ...before, open: null });"), NO_LOG],
     [Wrong("saver.js", "if (at > 0) await", "if (at < 0) await")],
     [Wrong("saver.js", "this.disk.putFolder(fresh, join(this.folder, name))", "undefined")],
@@ -291,43 +330,51 @@ def wrong_forms(folder: Path) -> List[str]:
 
 
 def lost_input(folder: Path) -> List[str]:
-    """In real time: samples that are lost are told with their length, and are no fault of the cabinet."""
-    cabinet = Cabinet(folder, [Fault(15 * RATE, int(16.5 * RATE), "lose", 0)], speed="1")
-    source, watch = cabinet.start(0, 40 * RATE)
+    """By the clock of the bus: samples that are lost are told with their length, and are no fault of the cabinet."""
+    cabinet = Cabinet(folder, [Fault(15 * RATE, int(16.5 * RATE), "lose", 0)])
+    source, watch = cabinet.start(0, 40 * RATE, environment=clock_of(0, cabinet.faults))
     out, _ = watch.communicate(timeout=SECONDS)
     source.communicate(timeout=SECONDS)
     records = [json.loads(line) for line in out.decode().splitlines()]
     lost = [record["seconds"] for record in records if record["event"] == "input lost"]
-    is_told = len(lost) == 1 and abs(lost[0] - 1.5) < 0.02 and cabinet.incidents == []
-    return [] if is_told else [f"{records}"]
+    return [] if lost == [1.5] and cabinet.incidents == [] else [f"{records}"]
 
 
 def loss_before_the_end(folder: Path) -> List[str]:
-    """In real time: a loss less than ten seconds before the end, or before a kill -9, is in the times after it."""
-    with ThreadPoolExecutor() as pool:
-        runs = [pool.submit(problems_of_loss, folder / name, name == "killed") for name in ("ended", "killed")]
-        return [problem for run in runs for problem in run.result()]
+    """A loss less than ten seconds before the end, or before a kill -9, is in the times after it."""
+    return [*problems_of_loss(folder / "ended", False), *problems_of_loss(folder / "killed", True)]
+
+
+def is_loss_kept(folder: Path) -> bool:
+    """Whether a watch writes down that input was lost, before anything else comes."""
+    state = folder / "watch" / "state.json"
+    until = time.monotonic() + SECONDS
+    while time.monotonic() < until and not (state.exists() and json.loads(state.read_text())["zeros"]):
+        time.sleep(0.05)
+    return time.monotonic() < until
 
 
 def problems_of_loss(folder: Path, is_killed: bool) -> List[str]:
-    """What is wrong with the time between two incidents where a second and a half was lost between them."""
+    """What is wrong with the time of an incident, by the clock of the bus, where input was lost before it."""
     folder.mkdir()
-    faults = [Fault(RATE, 3 * RATE // 2, "silent", 2), Fault(3 * RATE, 9 * RATE // 2, "lose", 0)]
-    faults.append(Fault(13 * RATE // 2, 15 * RATE // 2, "silent", 1))
-    cabinet = Cabinet(folder, faults, ["--after", "1"], speed="1")
-    source, watch = cabinet.start(0, 9 * RATE)
+    faults = [Fault(3 * RATE, 9 * RATE // 2, "lose", 0), Fault(13 * RATE // 2, 15 * RATE // 2, "silent", 1)]
+    cabinet = Cabinet(folder, faults, ["--after", "1"])
+    bits, _ = cabinet.simulator(0, 9 * RATE).communicate(timeout=SECONDS)
+    watch = cabinet.watch(subprocess.PIPE, None, clock_of(0, faults))
+    assert watch.stdin is not None
+    watch.stdin.write(bits[: 5 * RATE])
+    is_kept = not is_killed or is_loss_kept(folder)
+    watch.stdin.write(bits[5 * RATE :])
     if is_killed:
-        read_until(watch, "begun")
         read_until(watch, "begun")
         watch.kill()
     watch.communicate(timeout=SECONDS)
-    source.communicate(timeout=SECONDS)
     if is_killed:
         cabinet.watch(subprocess.DEVNULL, None).communicate(timeout=SECONDS)
-    times = [datetime.fromisoformat(record["wall"].replace("Z", "+00:00")) for record in cabinet.incidents]
-    causes = [list(record["causes"]) for record in cabinet.incidents]
-    apart = (times[1] - times[0]).total_seconds() if causes == [["missing 2/1"], ["missing 1/1"]] else 0
-    return [] if abs(apart - 5.5) < 0.3 else [f"{is_killed}, {cabinet.log}"]
+    run = Watched([(0, 9 * RATE)], [], "", 0)
+    told = [(list(record["causes"]), lateness(cabinet, run, record)) for record in cabinet.incidents]
+    is_told = [causes for causes, late in told if abs(late) < ROUNDED] == [["missing 1/1"]] and len(told) == 1
+    return [] if is_kept and is_told else [f"{is_killed}, {is_kept}, {told}, {cabinet.log}"]
 
 
 TESTS = [
@@ -336,6 +383,7 @@ TESTS = [
     full_disk,
     holes,
     stalls,
+    times_of_day,
     port1_is_killed,
     source_that_ends,
     stall_between_sources,

@@ -1,37 +1,38 @@
-"""bus-watch on the same recording, fed in pieces of any size and at any speed, and on a disk that is slow to flush."""
+"""bus-watch on the same recording, fed in pieces of any size and at any speed, and on a disk that is slow to flush.
 
+A disk may take seconds for a flush, and an analyser cannot hold bits for as long: so no flush may hold them up.
+"""
+
+import fcntl
 import os
 import random
 import signal
 import subprocess
+import termios
 import threading
 import time
+from array import array
 from pathlib import Path
 from typing import IO, Dict, Iterator, List, Tuple
 
 from needs import needs
 from tests.case import SECONDS, Run
-from tests.watched import RATE, Cabinet, Fault, child_of, fault_of, read_until
+from tests.watched import RATE, Cabinet, Fault, child_of, fault_of, feed, read_until
 
 RUNS: List[Run] = []
 
 # How long a recording is, in seconds, and the words of the watch: what is joined depends on --after.
 RECORDED, WORDS = 80, [["--after", "2"], ["--longest", "8"]]
 
-# What an analyser as fx2lafw can hold until it loses samples, beside what a pipe takes, in seconds.
-HELD = 0.5
-
-# How long the slow disk takes for each flush, in milliseconds.
-FLUSH = 500
-
-# It is loaded before the watch, and delays each flush of it.
+# It is loaded before the watch: no flush of it ends until a file is there.
 SLOW = """#define _GNU_SOURCE
 #include <dlfcn.h>
 #include <unistd.h>
 int fsync(int file)
 {
     int (*real)(int) = (int (*)(int))dlsym(RTLD_NEXT, "fsync");
-    usleep(%d * 1000);
+    while (access("%s", F_OK) != 0)
+        usleep(1000);
     return real(file);
 }
 """
@@ -110,63 +111,37 @@ def any_speed(folder: Path) -> List[str]:
     return problems if 8 < told < sent else [*problems, f"{told} incidents of {sent} faults"]
 
 
-class Tap:
-    """An analyser: what comes waits for the watch, and how much waited at most is known."""
-
-    def __init__(self, source: IO[bytes], sink: IO[bytes]) -> None:
-        self.source, self.sink = source, sink
-        self.held: List[bytes] = []
-        self.most = 0
-        self.has_ended = False
-        self.wake = threading.Condition()
-        self.threads = [threading.Thread(target=each, daemon=True) for each in (self.take, self.give)]
-        for thread in self.threads:
-            thread.start()
-
-    def take(self) -> None:
-        for piece in iter(lambda: os.read(self.source.fileno(), 1 << 16), b""):
-            with self.wake:
-                self.held.append(piece)
-                self.most = max(self.most, sum(map(len, self.held)))
-                self.wake.notify()
-        with self.wake:
-            self.has_ended = True
-            self.wake.notify()
-
-    def give(self) -> None:
-        while True:
-            with self.wake:
-                self.wake.wait_for(lambda: self.held or self.has_ended)
-                if not self.held:
-                    break
-                piece = self.held[0]
-            os.write(self.sink.fileno(), piece)
-            with self.wake:
-                self.held.pop(0)
-        self.sink.close()
+def is_emptied(pipe: IO[bytes]) -> bool:
+    """Whether what was written to a pipe is read."""
+    held = array("i", [1])
+    until = time.monotonic() + SECONDS
+    while held[0] > 0 and time.monotonic() < until:
+        time.sleep(0.02)
+        fcntl.ioctl(pipe.fileno(), termios.FIONREAD, held)
+    return held[0] == 0
 
 
 def slow_disk(folder: Path) -> List[str]:
-    """In real time, on a disk that takes half a second for each flush: an analyser need not hold bits for long."""
+    """All bits are taken while the disk has flushed nothing yet, and all is saved once it does."""
     needs("cc")
-    (folder / "slow.c").write_text(SLOW % FLUSH)
+    let = folder / "let"
+    (folder / "slow.c").write_text(SLOW % let)
     subprocess.run(["cc", "-shared", "-fPIC", "-o", folder / "slow.so", folder / "slow.c", "-ldl"], check=True)
     faults = [Fault(second * RATE, (second + 1) * RATE, "silent", 2) for second in (3, 8, 13)]
-    cabinet = Cabinet(folder, faults, ["--after", "1"], speed="1")
-    watch = cabinet.watch(subprocess.PIPE, None, {"LD_PRELOAD": str(folder / "slow.so")})
-    read_until(watch, "start")
-    source = cabinet.simulator(0, 16 * RATE)
-    assert source.stdout is not None and watch.stdin is not None
-    tap = Tap(source.stdout, watch.stdin)
-    for thread in tap.threads:
-        thread.join()
-    watch.stdin = None
+    cabinet = Cabinet(folder, faults, ["--after", "1"])
+    bits, _ = cabinet.simulator(0, 80 * RATE).communicate(timeout=SECONDS)
+    watch = cabinet.watch(subprocess.PIPE, 0, {"LD_PRELOAD": str(folder / "slow.so")})
+    assert watch.stdin is not None
+    feeder = threading.Thread(target=feed, args=(watch.stdin, bits), daemon=True)
+    feeder.start()
+    feeder.join(SECONDS)
+    is_taken = not feeder.is_alive() and is_emptied(watch.stdin)
+    saved = [record["id"] for record in cabinet.incidents]
+    let.touch()
     watch.communicate(timeout=SECONDS)
-    source.communicate(timeout=SECONDS)
     events = {record["event"] for record in cabinet.log}
     is_told = events == {"start", "begun", "incident", "well again", "end"} and len(cabinet.incidents) == len(faults)
-    held = tap.most / RATE
-    return [] if is_told and held < HELD else [f"{held:.3f} s waited, {cabinet.log}"]
+    return [] if is_told and is_taken and not saved else [f"{is_taken}, {saved}, {cabinet.log}"]
 
 
 TESTS = [any_speed, slow_disk]

@@ -6,20 +6,26 @@ import random
 import subprocess
 import time
 from contextlib import contextmanager
+from datetime import datetime
 from pathlib import Path
-from typing import Any, Dict, Iterator, List, NamedTuple, Optional, Sequence, Set, Tuple
+from typing import IO, Any, Dict, Iterator, List, NamedTuple, Optional, Sequence, Set, Tuple
 
 from needs import Skipped, needs
 from tests.case import SCRIPTS, SECONDS, TOP, Word
 
 RATE, ROUND = 153600, 6144
 
-SIMULATOR = SCRIPTS / "modules" / "tests" / "support" / "simulated_cabinet.js"
+SUPPORT = SCRIPTS / "modules" / "tests" / "support"
+
+SIMULATOR = SUPPORT / "simulated_cabinet.js"
 
 DICTIONARY = TOP / "examples" / "port1-failure.toml"
 
 # When place 0 was, in seconds since 1970: 2026-11-27T03:00:00Z.
 BEGIN = 1795748400
+
+# To how many seconds times of day are rounded.
+ROUNDED = 0.001
 
 # The places that stand in pipes where bits come as fast as they can, and that a kill loses.
 IN_PIPES = 4 * RATE
@@ -69,6 +75,18 @@ def schedule(seed: int, seconds: int, count: int) -> List[Fault]:
     return [fault_of(generator, begin, min(3600, 0.5 * step)) for begin in begins]
 
 
+def modules_of(*modules: Path) -> Dict[str, str]:
+    """The environment of a watch that loads modules first."""
+    return {"NODE_OPTIONS": " ".join(f"--import={module}" for module in modules)}
+
+
+def clock_of(begin: int, faults: Sequence[Fault], *modules: Path) -> Dict[str, str]:
+    """The same of one whose clock is that of the bus, from a place on."""
+    lost = [(fault.begin, fault.past) for fault in faults if fault.kind == "lose"]
+    clock = json.dumps({"begin": begin, "lost": lost})
+    return {**modules_of(SUPPORT / "place_clock.js", *modules), "PORT1_CLOCK": clock}
+
+
 def used_by(process: int) -> int:
     """How much of a processor it has used, in ticks of the clock."""
     words = Path(f"/proc/{process}/stat").read_text().rpartition(")")[2].split()
@@ -91,7 +109,15 @@ def child_of(watch: "subprocess.Popen[bytes]") -> int:
         if found:
             return int(found[-1])
         time.sleep(0.05)
-    return 0
+    raise OSError("the watch has no child")
+
+
+def feed(pipe: IO[bytes], bits: bytes) -> None:
+    try:
+        pipe.write(bits)
+        pipe.flush()
+    except OSError:
+        pass  # nobody reads any more
 
 
 def read_until(watch: "subprocess.Popen[bytes]", event: str) -> bytes:
@@ -178,11 +204,11 @@ class Cabinet(NamedTuple):
         return subprocess.Popen(words, bufsize=0, start_new_session=True, env=own, **pipes)
 
     def start(
-        self, begin: int, past: int, date: Optional[int] = None
+        self, begin: int, past: int, date: Optional[int] = None, environment: Optional[Dict[str, str]] = None
     ) -> Tuple["subprocess.Popen[bytes]", "subprocess.Popen[bytes]"]:
         """The simulator of some places, and a watch that reads it."""
         source = self.simulator(begin, past)
-        watch = self.watch(source.stdout, date)
+        watch = self.watch(source.stdout, date, environment)
         assert source.stdout is not None
         source.stdout.close()
         return source, watch
@@ -209,8 +235,14 @@ class Cabinet(NamedTuple):
         return [record for record in self.log if record["event"] == "incident"]
 
 
+def lateness(cabinet: Cabinet, run: Watched, record: Record) -> float:
+    """How late the time of a record is, in seconds, by the clock of the bus."""
+    told = datetime.fromisoformat(record["wall"].replace("Z", "+00:00")).timestamp()
+    return told - BEGIN - run.in_cabinet(record["place"], cabinet.faults) / RATE
+
+
 def problems_of_folder(folder: Path, record: Record, rests: bool = False) -> Iterator[str]:
-    """What is wrong with a folder: whole, of that time, its bits from a command on, unless its run began at rest."""
+    """What is wrong with a folder: whole, of that time, its bits from a command on, unless they have none."""
     if not folder.is_dir():
         yield f"{folder.name} is not there"
         return
@@ -221,8 +253,8 @@ def problems_of_folder(folder: Path, record: Record, rests: bool = False) -> Ite
     if found != files:
         yield f"{folder.name} has {sorted(found)}"
     frames = [line for line in (folder / "listing.txt").read_text().splitlines() if " frame " in line]
-    begins = [(line[0], line.split()[8:9]) for line in frames[:1]]
-    if begins not in ([("1", ["0"])], [("1", ["1"])]) and (frames or not rests and "holes" not in record):
+    commands = [line for line in frames if line[0] == "1" and line.split()[8] in ("0", "1")]
+    if commands and frames[0] != commands[0] or not commands and not rests and "holes" not in record:
         yield f"{folder.name} begins with {frames[:1]}"
     date = record["wall"][:10]
     if f"It begins on {date}" not in summary:

@@ -1,12 +1,12 @@
 """Simulated days of bus-watch, with faults of all kinds and all that can happen to a watch, and a part in real time.
 
-    PORT1=PROGRAM PYTHONPATH=scripts:scripts/port1_scripts:tests python3 -m tests.week DAYS [SECONDS]
+    PORT1=PROGRAM PYTHONPATH=scripts:tests python3 -m tests.week DAYS [SECONDS]
 
 runs some days, as long as the seconds last, and writes the figures. It takes root, which mounts a disk of 600 MB.
 
 In the days input is lost, clocks stand still, recorders die, the disk is full for a while, a second watch is started,
 and the watch is killed or its power cut, each within an incident. The part in real time has input that is lost beside
-incidents, before a power cut and before the end: there times of day are judged too.
+incidents, before a power cut and before the end: there times of day are judged too, by the clock of the bus.
 """
 
 import contextlib
@@ -19,24 +19,28 @@ import sys
 import tempfile
 import threading
 import time
-from datetime import datetime
 from pathlib import Path
-from typing import Dict, Iterator, List, NamedTuple, Optional, Sequence, Tuple
+from typing import Callable, Dict, Iterator, List, NamedTuple, Optional, Sequence, Tuple
 
 from needs import needs
-from tests.case import SCRIPTS
+from tests.case import SCRIPTS, SECONDS
 from tests.watched import (
     BEGIN,
     DICTIONARY,
     IN_PIPES,
     RATE,
+    ROUNDED,
     SIMULATOR,
+    SUPPORT,
     Cabinet,
     Fault,
     Record,
     Watched,
+    clock_of,
     disk_of,
     judged,
+    lateness,
+    modules_of,
     problems_of_frames,
     schedule,
 )
@@ -49,7 +53,7 @@ DAY = 86400
 LEAST = 5
 
 # What is loaded before a watch whose power is to be cut: it keeps what was flushed in a folder beside it.
-POWER = SIMULATOR.parent / "power_disk.js"
+POWER = SUPPORT / "power_disk.js"
 
 # The places that a power cut may lose where bits come as fast as they can, and in real time.
 UNFLUSHED, UNFLUSHED_LIVE = IN_PIPES + 70 * RATE, 14 * RATE
@@ -57,21 +61,25 @@ UNFLUSHED, UNFLUSHED_LIVE = IN_PIPES + 70 * RATE, 14 * RATE
 # A run of so many places is so long that a second watch can be tried beside it.
 LONG_RUN = 2400 * RATE
 
-# The faults of the part in real time, in seconds: of a run whose power is cut in the last of them, and of the next one.
+# The faults of the part in real time, in seconds: of a run whose power is cut in the last of them, and of the next one,
+# whose bus waits until the disk is full.
 LIVE = [
     [(4, 5.2, "silent", 2), (9, 10.3, "lose", 0), (12, 13, "burst", 0.03), (17, 18, "late", 1)],
-    [(3, 4, "silent", 16), (9.5, 10.5, "silent", 1), (14, 15.4, "lose", 0), (17.5, 18.5, "silent", 2)],
+    [
+        *[(3, 4, "silent", 16), (6.5, 6.54, "wait", 0), (9.5, 10.5, "silent", 1), (14, 15.4, "lose", 0)],
+        (17.5, 18.5, "silent", 2),
+    ],
 ]
 LIVE_ENDS = [40, 21]
 
-# For how many seconds the disk is full after the first incident of the last run.
+# For how many seconds the disk is full at least, after the first incident of the last run.
 LIVE_FULL = 2.0
 
-# How many seconds of bits a power cut may take in real time.
+# How many seconds of bits a power cut may take in real time: ten, and what is read at once.
 MOST_LOST = 11
 
-# How far times of day may be from those of the bus, in seconds.
-NEAR = 0.4
+# The most memory of a watch with its `port1` in real time, in KiB.
+MOST_MEMORY = 120_000_000 // 1024
 
 # How many folders are compared with the bus, frame by frame.
 COMPARED = 150
@@ -99,7 +107,7 @@ class Plan(NamedTuple):
     faults: List[Fault]
     deaths: List[int]  # places where a recorder dies
     ends: List[End]
-    full: Tuple[int, float]  # from which place on the disk is full, and for how many seconds
+    full: Tuple[int, float]  # from which place on the disk is full, and for how many seconds at least
 
 
 def more_faults(generator: random.Random, days: float, faults: Sequence[Fault]) -> List[Fault]:
@@ -189,17 +197,11 @@ def place_in(ring: Path) -> Tuple[int, int]:
     return int(run), int(place)
 
 
-def fill(disk: Path, seconds: float) -> None:
-    """Keeps a disk full for a while."""
-    filler = disk / "filler"
-    until = time.monotonic() + seconds
-    with filler.open("wb", buffering=0) as file:
-        while time.monotonic() < until:
-            room = os.statvfs(disk)
-            with contextlib.suppress(OSError):  # the watch may have taken it meanwhile
-                os.posix_fallocate(file.fileno(), filler.stat().st_size, room.f_bfree * room.f_bsize)
-            time.sleep(0.005)
-    filler.unlink()
+def take_room(filler: Path) -> None:
+    """Takes what room the disk of a file has."""
+    room = os.statvfs(filler.parent)
+    with filler.open("ab") as file, contextlib.suppress(OSError):  # the watch may have taken it meanwhile
+        os.posix_fallocate(file.fileno(), filler.stat().st_size, room.f_bfree * room.f_bsize)
 
 
 def turns_from(plan: Plan, begin: int, past: int) -> List[Tuple[int, int]]:
@@ -221,7 +223,8 @@ class Week:
         self.most: Dict[str, int] = {}
         self.live: List[int] = []  # the runs in real time
         self.begin = 0  # of the run
-        self.has_hole = False
+        self.holes = 0  # how often a watch said that bits are missed
+        self.full = threading.Lock()  # while the disk is full, and until that is told: no watch is killed then
         self.counts = {"kills in an open incident": 0, "power cuts in one": 0, "second watches refused": 0}
         self.problems: List[str] = []
 
@@ -234,28 +237,41 @@ class Week:
         run, place = place_in(self.folder / "watch" / "ring")
         return self.begin + place if run == len(self.runs) + 1 else 0
 
-    def fill(self) -> None:
-        """Keeps the disk full for a while, from a place on."""
-        begin, seconds = self.plan.full
-        while self.place() < begin:
-            time.sleep(0.01)
-        fill(self.folder / "watch", seconds)
-        self.has_hole = True
+    @contextlib.contextmanager
+    def filled(self, is_time: Callable[[], bool], seconds: float) -> Iterator[None]:
+        """Has the disk full once it is time, for some seconds at least, and until bits are missed."""
+        over = threading.Event()
+        thread = threading.Thread(target=self.fill, args=(is_time, seconds, over))
+        thread.start()
+        try:
+            yield
+        finally:
+            over.set()
+            thread.join()
 
-    def fill_live(self) -> None:
-        """Keeps the disk full after the first incident of a run in real time, until bits are missed."""
-        self.wait_for(1)
-        said = (self.folder / "said").stat().st_size
-        for _ in range(10):
-            fill(self.folder / "watch", LIVE_FULL)
-            if b"the ring: " in (self.folder / "said").read_bytes()[said:]:
-                break
+    def fill(self, is_time: Callable[[], bool], seconds: float, over: threading.Event) -> None:
+        while not is_time():
+            if over.wait(0.01):
+                return
+        said, filler = self.folder / "said", self.folder / "watch" / "filler"
+        known, until = said.stat().st_size, time.monotonic() + seconds
+        with self.full:
+            while time.monotonic() < until or b"the ring: " not in said.read_bytes()[known:]:
+                take_room(filler)
+                (self.folder / "go").touch()
+                if over.wait(0.005):
+                    break
+            self.holes += b"the ring: " in said.read_bytes()[known:]
+            filler.unlink()
+            while not self.has_told("bits not kept") and not over.wait(0.005):
+                pass
 
-    def wait_for(self, count: int, watch: "Optional[subprocess.Popen[bytes]]" = None) -> None:
-        """Waits until a run has begun so many incidents."""
-        run = len(self.runs) + 1
-        while len(begun_of(self.folder / "watch", run)) < count and (watch is None or watch.poll() is None):
-            time.sleep(0.02)
+    def has_told(self, event: str) -> bool:
+        return any(record["event"] == event for record in last_records(self.folder / "watch"))
+
+    def has_begun(self, count: int) -> bool:
+        """Whether a run has begun so many incidents."""
+        return len(begun_of(self.folder / "watch", len(self.runs) + 1)) >= count
 
     def words_of(self, begin: int, is_live: bool) -> List[object]:
         date = time.strftime("%Y-%m-%dT%H:%M:%SZ", time.gmtime(BEGIN + begin / RATE))
@@ -273,8 +289,9 @@ class Week:
         (self.folder / "turn").write_text("1\n")
         (self.folder / "told").write_text("")
         shutil.rmtree(self.folder / "shadow", ignore_errors=True)
-        power = {"NODE_OPTIONS": f"--import={POWER}", "PORT1_SHADOW": str(self.folder / "shadow")}
-        environment = {**os.environ, **(power if is_cut else {})}
+        power = [POWER] if is_cut else []
+        own = clock_of(begin, faults, *power) if is_live else modules_of(*power)
+        environment = {**os.environ, **own, "PORT1_SHADOW": str(self.folder / "shadow")}
         with (self.folder / "said").open("ab") as said:
             pipes = {"stdin": subprocess.DEVNULL, "stdout": subprocess.DEVNULL, "stderr": said}
             return subprocess.Popen(self.words_of(begin, is_live), cwd=self.folder, env=environment, **pipes)
@@ -284,7 +301,7 @@ class Week:
         while watch.poll() is None and last_run(self.folder / "watch") < len(self.runs) + 1:
             time.sleep(0.01)
         words = [SCRIPTS / "bus-watch", "watch", "--dictionary", DICTIONARY]
-        second = subprocess.run(words, cwd=self.folder, stdin=subprocess.DEVNULL, capture_output=True, timeout=60)
+        second = subprocess.run(words, cwd=self.folder, stdin=subprocess.DEVNULL, capture_output=True, timeout=SECONDS)
         is_refused = second.returncode == 2 and second.stdout == b"" and second.stderr.count(b"\n") == 1
         self.problems += [] if is_refused else [f"a second watch: {second}"]
         self.counts["second watches refused"] += is_refused
@@ -310,10 +327,11 @@ class Week:
         while watch.poll() is None and not is_open(self.folder / "watch", len(self.runs) + 1):
             time.sleep(0.002)
         self.counts["power cuts in one" if is_cut else "kills in an open incident"] += watch.poll() is None
-        watch.kill()
-        watch.wait()
-        if is_cut:
-            self.cut()
+        with self.full:
+            watch.kill()
+            watch.wait()
+            if is_cut:
+                self.cut()
 
     def run(self, begin: int, past: int, end: Optional[End] = None, is_live: bool = False) -> int:
         """Runs the watch from a place on, until all has come or it is ended, in the next open incident after so many
@@ -325,13 +343,15 @@ class Week:
         gauge.start()
         if past - begin > LONG_RUN:
             self.second(watch)
-        if end and end.begun:
-            self.wait_for(end.begun, watch)
+        while end and not self.has_begun(end.begun) and watch.poll() is None:
+            time.sleep(0.02)
         try:
             watch.wait(end.seconds if end else None)
         except subprocess.TimeoutExpired:
             self.end_in_incident(watch, is_cut)
         gauge.join()
+        memory = gauge.most.get("watch", 0) + gauge.most.get("port1", 0)
+        self.problems += [f"{memory} KiB of memory"] if is_live and memory > MOST_MEMORY else []
         self.most = {name: max(self.most.get(name, 0), count) for name, count in {**self.most, **gauge.most}.items()}
         done = self.turns_done()
         unsure = (UNFLUSHED_LIVE if is_live else UNFLUSHED) if is_cut else IN_PIPES
@@ -352,10 +372,12 @@ class Week:
 
     def go(self) -> None:
         begin = 0
-        for end in [*self.plan.ends, End(10 * DAY, False)]:
-            left = self.until - time.monotonic()
-            if left > LEAST and begin + 60 * RATE < self.past:
-                begin = self.run(begin, self.past, end._replace(seconds=min(end.seconds, left))) + 30 * RATE
+        full, seconds = self.plan.full
+        with self.filled(lambda: self.place() >= full, seconds):
+            for end in [*self.plan.ends, End(10 * DAY, False)]:
+                left = self.until - time.monotonic()
+                if left > LEAST and begin + 60 * RATE < self.past:
+                    begin = self.run(begin, self.past, end._replace(seconds=min(end.seconds, left))) + 30 * RATE
         if begin + 60 * RATE < self.past:  # there was no time for more
             self.past = self.run(begin, begin + 120 * RATE)
         self.go_live(max(self.past, begin) + 60 * RATE)
@@ -365,37 +387,27 @@ class Week:
         for faults, seconds in zip(LIVE, LIVE_ENDS):
             own = [Fault(begin + int(at * RATE), begin + int(to * RATE), kind, n) for at, to, kind, n in faults]
             self.plan = self.plan._replace(faults=[*self.plan.faults, *own], deaths=[])
-            last = faults[-1]
-            end = End(0, True, sum(kind != "lose" for _, _, kind, _ in faults)) if seconds > last[1] + 10 else None
             self.live.append(len(self.runs) + 1)
-            if end is None:
-                threading.Thread(target=self.fill_live, daemon=True).start()
-            begin = self.run(begin, begin + seconds * RATE, end, True) + 30 * RATE
+            if len(self.live) < len(LIVE):
+                end = End(0, True, sum(kind != "lose" for _, _, kind, _ in faults))
+                begin = self.run(begin, begin + seconds * RATE, end, True) + 30 * RATE
+                continue
+            with self.filled(lambda: self.has_begun(1), LIVE_FULL):
+                self.run(begin, begin + seconds * RATE, None, True)
 
     def problems_of_live(self) -> Iterator[str]:
-        """What is wrong with the times of day in a run in real time: they are as far apart as on the bus. Where input
-        stalled the computer had other things to do, and times are not judged."""
-        stalled = {record["run"] for record in self.cabinet.log if record["event"] == "input stalled"}
-        for number in self.live:
-            if number in stalled:
-                print(f"times of run {number} are not judged: input stalled", flush=True)
-                continue
-            own = [record for record in self.cabinet.incidents if record["run"] == number]
-            run = self.runs[number - 1]
-            apart = [
-                datetime.fromisoformat(record["wall"].replace("Z", "+00:00")).timestamp()
-                - run.in_cabinet(record["place"], self.plan.faults) / RATE
-                for record in own
-            ]
-            if len(own) < 2 or max(apart) - min(apart) > NEAR:
-                yield f"times of run {number}: {[round(one - apart[0], 3) for one in apart]} of {own}"
+        """What is wrong with times of day in the part in real time."""
+        for record in self.cabinet.incidents:
+            run = self.runs[record["run"] - 1]
+            if record["run"] in self.live and abs(lateness(self.cabinet, run, record)) >= ROUNDED:
+                yield f"{lateness(self.cabinet, run, record):.3f} s late: {record}"
 
     def problems_of_holes(self) -> Iterator[str]:
         """What is wrong with what the disk did not take: it is told, and marked at each incident beside it."""
         told = [record for record in self.cabinet.log if record["event"] == "bits not kept"]
         runs = {record["run"] for record in told}
-        if self.live[-1] not in runs or self.has_hole and len(runs) < 2:
-            yield f"holes are told of runs {runs} alone"
+        if self.live[-1] not in runs or len(runs) < self.holes:
+            yield f"holes are told of runs {runs} alone, of {self.holes}"
         for record in self.cabinet.incidents:
             after = 1 if record["run"] in self.live else 10
             first, past = record["place"] - 10 * RATE, record["place"] + (min(120, record["seconds"]) + after) * RATE
@@ -436,7 +448,6 @@ def problems_of_days(
     needs("node")
     with disk_of(600, folder):
         week = Week(folder, plan_of(41, days, ends, full), days, seconds, form, speed)
-        threading.Thread(target=week.fill, daemon=True).start()
         began = time.monotonic()
         week.go()
         print(f"{week.past / RATE / DAY:.2f} days in {time.monotonic() - began:.0f} s: {week.figures()}", flush=True)

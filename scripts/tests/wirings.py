@@ -10,7 +10,8 @@ import re
 import subprocess
 from functools import lru_cache
 from pathlib import Path
-from typing import Any, Callable, Dict, Iterator, List, NamedTuple, Optional, Sequence, Tuple
+from tempfile import TemporaryDirectory
+from typing import Callable, Dict, Iterator, List, NamedTuple, Optional, Sequence, Tuple
 
 from needs import needs, needs_module
 from tests.case import SCRIPTS, SECONDS, Run, ran, sampler
@@ -18,7 +19,7 @@ from tests.case import SCRIPTS, SECONDS, Run, ran, sampler
 try:
     import numpy as np
     from tests.simulated import cabinet
-    from tests.simulated.cabinet import FLAG, Answer, Cabinet, body_of, recorded_from
+    from tests.simulated.cabinet import Cabinet, HealthyBus
 except ModuleNotFoundError:
     pass  # Each test that needs numpy then says so.
 
@@ -35,10 +36,7 @@ NAMES = ["TXC", "TXD", "RXC", "RXD"]
 
 # Whether the stations' clock runs only with their answers, and what fills the lines.
 BUSES = {
-    "gated": (True, "1"),
-    "gated, flags": (True, "01111110"),
-    "free": (False, "1"),
-    "free, flags": (False, "01111110"),
+    "gated": (True, "1"), "gated, flags": (True, "01111110"), "free": (False, "1"), "free, flags": (False, "01111110")
 }
 
 Change = Callable[["np.ndarray"], "np.ndarray"]
@@ -58,9 +56,8 @@ class Setting(NamedTuple):
             channels[at], channels[to] = channels[to], channels[at]
         return self._replace(channels=tuple(channels))
 
-    def words(self) -> List[str]:
-        options = [f"--invert-{name.lower()}" for name in self.inverted] + ["--falling"] * self.falling
-        return [*options, *map(str, self.channels)]
+    def options(self) -> List[str]:
+        return [f"--invert-{name.lower()}" for name in self.inverted] + ["--falling"] * self.falling
 
 
 class Said(NamedTuple):
@@ -94,27 +91,15 @@ class Wiring(NamedTuple):
 def healthy(bus_name: str) -> "np.ndarray":
     """A recording of a bus on which all commands are answered."""
     gated, fill = BUSES[bus_name]
-    made = Cabinet(5, 80, gated, SAMPLES, POLLS)
 
-    class Bus(cabinet.Bus):
-        def poll(self) -> None:
-            number, generator = len(self.fates), self.generator
-            station, kind = [1, 2, 16][number % 3], number % 2
-            self.fates.append(("answered", station, kind))
-            command, answer = ([generator.randrange(256) for _ in range(count)] for count in cabinet.LENGTHS[kind])
-            self.send(FLAG + body_of([station, 0x83, kind, *command]) + FLAG)
-            reply = FLAG + body_of([station, 0x83, kind + 128, *answer]) + FLAG
-            self.answers.append(Answer(self.count + generator.uniform(9, 150), reply))
-            self.send((fill * 1100)[: generator.randrange(900, 1100) // 8 * 8] + "1" * 16)
+    class Bus(HealthyBus):
+        def fill(self, count: int) -> None:
+            self.send((fill * count)[: count // 8 * 8] + "1" * 16)
 
         def filled(self, count: int) -> str:
             return fill * -(-count // len(fill))
 
-    bus = Bus(made)
-    for _ in range(POLLS):
-        bus.poll()
-    bus.send("1" * 64)
-    return recorded_from(made, bus).samples
+    return Bus(Cabinet(5, 80, gated, SAMPLES, POLLS)).samples()
 
 
 def held(channel: str, level: int, begin: float = 0, end: float = 1) -> Change:
@@ -149,11 +134,22 @@ def order(*channels: str) -> Change:
     return lambda samples: sum((samples >> place & 1) << at for at, place in enumerate(places)).astype(np.uint8)
 
 
-def glitches(channel: str) -> Change:
+def glitches(channel: str, begin: float = 0, end: float = 1) -> Change:
     def changed(samples: "np.ndarray") -> "np.ndarray":
         changed, generator = samples.copy(), np.random.default_rng(3)
-        changed[generator.integers(0, len(samples), 60)] ^= np.uint8(1 << NAMES.index(channel))
+        low, high = (round(part * len(samples)) for part in (begin, end))
+        changed[generator.integers(low, high, 60)] ^= np.uint8(1 << NAMES.index(channel))
         return changed
+
+    return changed
+
+
+def lost(*begins: float) -> Change:
+    """Samples that the analyser lost at parts of the recording, a bit and a half at each."""
+
+    def changed(samples: "np.ndarray") -> "np.ndarray":
+        count = round(1.5 * SAMPLES / cabinet.RATE)
+        return np.delete(samples, [round(begin * len(samples)) + at for begin in begins for at in range(count)])
 
     return changed
 
@@ -178,6 +174,10 @@ LOST_1 = "No frame came on line 1, where commands are, {}, but N frames on line 
 FROM_1, WHILE_1 = LOST_1.replace("{},", "from N s on,"), LOST_1.replace("{},", "from N s to N s,")
 NEVER_2 = "No frame came on line 2, where answers are: was the second pair recorded, or does no station answer?"
 MUTE = "No station answered from N s on: N commands in a row, to N stations."
+LOST_2 = "No station answered from N s to N s: N commands in a row, to N stations. Is a wire of the second pair loose?"
+SEAMS = "The recording lacks samples, or has wrong ones, where N stand: no station is to blame for what is wrong there."
+UNSURE = "Nothing of this recording is sure: record again. It has N; no station is to blame for what is wrong there."
+LOSSES = "the analyser lost samples: TXC is out of step from places on"
 MISREAD = (
     "Line {}, where {} are, has N damaged pieces and no frame: are its clock and its data the right wires, and are the"
     " two wires of a pair exchanged?"
@@ -208,6 +208,15 @@ def dead_wires() -> Iterator[Wiring]:
     yield Wiring("TXC and RXC are 0", both(held("TXC", 0), held("RXC", 0)), clocks, [])
     yield Wiring("TXC is 0 for a while", held("TXC", 0, 0.4, 0.5), [STOPS.format("TXC")], [WHILE_1])
     yield Wiring("TXD is 1 for a while", held("TXD", 1, 0.4, 0.6), [], [WHILE_1])
+    yield Wiring("TXC is 1 for a while, early", held("TXC", 1, 0.05, 0.2), [STOPS.format("TXC")], [WHILE_1])
+    yield Wiring("RXC is 0 for a while", held("RXC", 0, 0.4, 0.5), [], [LOST_2])
+    yield Wiring("RXD is 1 for a while", held("RXD", 1, 0.4, 0.6), [], [LOST_2])
+    yield Wiring("RXD is 0 for a while", held("RXD", 0, 0.4, 0.6), [], [LOST_2])
+    ends = [ENDS.format("TXC"), ENDS.format("TXD")]
+    yield Wiring("TXC and TXD are 0 from 0.4 on", both(held("TXC", 0, 0.4), held("TXD", 0, 0.4)), ends, [FROM_1])
+    ends, one = [ENDS.format("RXC"), ENDS.format("RXD")], [ENDS.format("RXD")]
+    elsewhere: Dict[str, Due] = {"free": (one, [MUTE]), "free, flags": (one, [MUTE])}
+    yield Wiring("RXC and RXD are 0 from 0.4 on", both(held("RXC", 0, 0.4), held("RXD", 0, 0.4)), ends, [MUTE], elsewhere)
 
 
 def turned_wires() -> Iterator[Wiring]:
@@ -258,11 +267,16 @@ def exchanged_wires() -> Iterator[Wiring]:
 
 
 def unsteady_wires() -> Iterator[Wiring]:
-    """Edges that are not the clock's, and too few samples: damage comes of both. A clock that rests has jumps anyway."""
-    yield Wiring("glitches on TXC", glitches("TXC"), [JUMPS.format("TXC")], None)
-    elsewhere: Dict[str, Due] = {"gated": ([], None), "gated, flags": ([], None)}
-    yield Wiring("glitches on RXC", glitches("RXC"), [JUMPS.format("RXC")], None, elsewhere)
-    yield Wiring("320 000 samples a second", lambda samples: samples[::PACE], [SLOW], None, pace=PACE)
+    """Edges that are not the clock's, samples that are lost, and too few: damage comes of all."""
+    elsewhere: Dict[str, Due] = {"gated": ([], []), "gated, flags": ([], [])}
+    yield Wiring("glitches on TXC", glitches("TXC"), [JUMPS.format("TXC")], [])
+    yield Wiring("glitches on RXC", glitches("RXC"), [JUMPS.format("RXC")], [], elsewhere)
+    yield Wiring("glitches on TXD", glitches("TXD"), [], [])
+    yield Wiring("glitches on RXD", glitches("RXD"), [], [])
+    yield Wiring("many glitches on TXC", glitches("TXC", 0.5, 0.55), [JUMPS.format("TXC")], None)
+    yield Wiring("many glitches on RXC", glitches("RXC", 0.5, 0.55), [JUMPS.format("RXC")], None, elsewhere)
+    yield Wiring("samples are lost", lost(0.2, 0.5, 0.8), [LOSSES], [SEAMS])
+    yield Wiring("320 000 samples a second", lambda samples: samples[::PACE], [SLOW], [UNSURE], pace=PACE)
 
 
 def wirings() -> List[Wiring]:
@@ -272,22 +286,19 @@ def wirings() -> List[Wiring]:
 Read = Tuple["np.ndarray", Setting, int]
 
 
-def taken(samples: "np.ndarray", setting: Setting, rate: int) -> Dict[str, Any]:
-    """The facts of a recording, and its listing, each as the programs write it."""
-    bit = rate / cabinet.RATE
-    options = ["--facts", f"--hold={int(bit / 16)}", f"--jump={max(3, int(1e-6 * rate) + 2)}", *setting.words()]
-    how: Dict[str, Any] = {"capture_output": True, "check": True, "timeout": SECONDS}
-    got = subprocess.run([sampler(), *options], input=samples.tobytes(), **how)
-    words = [os.environ["PORT1"], "list", "--bits", "--arrivals", "--dict", cabinet.DICTIONARY]
-    listing = subprocess.run(words, input=got.stdout, **how).stdout.decode()
-    return {"facts": got.stderr.decode().splitlines(), "samples": rate, "listing": listing}
-
-
 def said_of(recordings: Sequence[Read]) -> List[Said]:
-    """What is said of recordings."""
-    given = {"dictionary": cabinet.DICTIONARY, "names": NAMES, "recordings": [taken(*each) for each in recordings]}
-    words = ["node", SCRIPTS / "modules" / "tests" / "support" / "wirings.js"]
-    got = subprocess.run(words, input=json.dumps(given).encode(), capture_output=True, check=True, timeout=SECONDS)
+    """What is said of recordings, as the programs take and list them."""
+    with TemporaryDirectory() as folder:
+        given = []
+        for number, (samples, setting, rate) in enumerate(recordings):
+            file = Path(folder) / str(number)
+            samples.tofile(file)
+            how = {"channels": setting.channels, "options": setting.options(), "rate": rate}
+            given.append({"file": str(file), **how})
+        asked = json.dumps({"dictionary": cabinet.DICTIONARY, "names": NAMES, "recordings": given})
+        words = ["node", SCRIPTS / "modules" / "tests" / "support" / "wirings.js"]
+        sampling = {**os.environ, "PORT1_SAMPLE": str(sampler())}
+        got = subprocess.run(words, input=asked.encode(), env=sampling, stdout=subprocess.PIPE, check=True, timeout=SECONDS)
     return [said_in(each["warnings"], each["summary"]) for each in json.loads(got.stdout)]
 
 
@@ -296,7 +307,10 @@ def said_in(warnings: Sequence[str], summary: str) -> Said:
     texts = " ".join(line.strip() for line in head.splitlines()[1:] if re.match(r"   |\d+\. ", line))
     sentences = [re.sub(r"\d+(\.\d+)?(?= (frame|s|command|station|damaged|answer|piece|stray))", "N", text).strip()
                  for text in re.split(r"(?:^| )\d+\. (?=[A-Z0-9])", texts) if text]
-    return Said([re.sub(r" \([^()]*\)$", "", text) for text in warnings], sentences, summary)
+    # What lies beside lost samples is another on each bus, as is where they are.
+    sentences = [re.sub(r"(where|It has) N .*?( stand|;)s?", r"\1 N\2", text) for text in sentences]
+    warnings = [re.sub(r"places [\d, ]+", "places ", re.sub(r" \([^()]*\)$", "", text)) for text in warnings]
+    return Said(warnings, sentences, summary)
 
 
 # Cures in a row, each of which is said of what the one before makes.
@@ -354,7 +368,7 @@ def cures(_: Path) -> List[str]:
         left = [(what, samples, cured(setting, said)) for (what, samples, setting), said in sick]
         if not left:
             return []
-    return [f"{what}: in the end read with {setting.words()}: {said}" for (what, _, setting), said in sick]
+    return [f"{what}: in the end read with {setting}: {said}" for (what, _, setting), said in sick]
 
 
 def right_wiring(_: Path) -> List[str]:

@@ -1,19 +1,19 @@
 import { readFileSync } from "node:fs";
 import { basename } from "node:path";
 import { Fault } from "../fault.js";
-import { csvOf, jsonOf, junitOf, textOf, verdictOf } from "../limits/forms.js";
+import { csvOf, jsonOf, junitOf, textOf, gradeOf } from "../limits/forms.js";
 import { judge, worseThan } from "../limits/judge.js";
 import { limitsOf } from "../limits/limits.js";
 import { pageOf } from "../limits/page.js";
 import { RATE } from "../port1.js";
 import { Bus } from "../statistics/bus.js";
 import { objectOf } from "../statistics/object.js";
+import { misuse, positive, run, warn, wordsOf, writeText } from "../system/command.js";
+import { dateOf, piecesOf, sha256Of } from "../system/facts.js";
+import { textIn } from "../system/file.js";
+import { rowsOfInput } from "../system/input.js";
+import { writeTextFile } from "../system/output.js";
 import { plainPieces } from "../text.js";
-import { misuse, positive, run, warn, wordsOf, writeText } from "./command.js";
-import { dateOf, piecesOf, sha256Of } from "./facts.js";
-import { textIn } from "./file.js";
-import { rowsOfInput } from "./input.js";
-import { writeTextFile } from "./output.js";
 
 /** @typedef {import("../limits/judge.js").Unit} Unit */
 /** @typedef {import("../limits/limits.js").Statistics} Statistics */
@@ -122,9 +122,8 @@ async function judged({ name, listing, recording }, { limits, rate, before, with
   try {
     const source = { ...unit.source, sha256: sha256Of(recording ?? listing) };
     const statistics = await statisticsOf(listing, rate);
-    const judgements = judge(limits, statistics);
     const worse = before === null ? [] : worseThan(before(name), statistics, within);
-    return { ...unit, source, statistics, judgements, worse };
+    return { ...unit, source, statistics, ...judge(limits, statistics), worse };
   } catch (error) {
     const fault = /** @type {Error & { code?: string }} */ (error);
     if (!(fault instanceof Fault) && fault.code === undefined) throw error;
@@ -155,6 +154,6 @@ run(async () => {
   if (csv) await writeTextFile(csv, csvOf(found));
   if (json) await writeTextFile(json, jsonOf(found, date));
   if (page) await writeTextFile(page, pageOf(found, date, { file: basename(file), sha256: sha256Of(file) }));
-  const verdicts = found.map(verdictOf);
+  const verdicts = found.map(gradeOf);
   return verdicts.includes("FAULT") ? 2 : Number(verdicts.includes("FAIL"));
 });

@@ -2,17 +2,16 @@ import { spawnSync } from "node:child_process";
 import { closeSync, existsSync, mkdirSync, openSync, readFileSync, readSync, readdirSync } from "node:fs";
 import { rmSync, writeFileSync } from "node:fs";
 import { basename, join } from "node:path";
-import { fileURLToPath } from "node:url";
 import { readDictionary } from "../dictionary/dictionary.js";
 import { Fault } from "../fault.js";
 import { channelsOf, formOfRecording } from "../recording/forms.js";
 import { sessionOf } from "../recording/session.js";
 import { samplerate } from "../recording/units.js";
 import { wiresAmong } from "../recording/usual.js";
-import { misuse, run, warn, whole, wordOf, wordsOf, write, writeText } from "./command.js";
-import { piecesOf } from "./facts.js";
-import { FilePart, inflated, textIn } from "./file.js";
-import { page, programNamed } from "./program.js";
+import { misuse, run, warn, whole, wordOf, wordsOf, write, writeText } from "../system/command.js";
+import { piecesOf } from "../system/facts.js";
+import { openPart, inflated, textIn } from "../system/file.js";
+import { commandNamed, page, programNamed } from "../system/program.js";
 
 /** Octets of a recording that tell its form and its channels. */
 const HEAD = 1 << 22;
@@ -43,7 +42,7 @@ async function wiresOf(recording) {
     const form = formOfRecording(begin.subarray(0, 4096));
     if (form === "binary") throw new Fault("samples have no names: name the channels by their numbers");
     const isSession = form === "session";
-    const channels = isSession ? (await sessionOf(new FilePart(file), inflated)).names : channelsOf(begin, form);
+    const channels = isSession ? (await sessionOf(openPart(file), inflated)).names : channelsOf(begin, form);
     const wires = wiresAmong(channels);
     if (wires === null) throw new Fault(`which channels are TXC, TXD, RXC and RXD? There are: ${channels.join(", ")}`);
     return wires;
@@ -96,8 +95,7 @@ class Steps {
    * @param {string} [told]
    */
   command(name, words, input, output, told) {
-    const script = fileURLToPath(new URL(`${name}.js`, import.meta.url));
-    this.run(process.execPath, [script, ...words], input, output, told);
+    this.run(process.execPath, [commandNamed(name), ...words], input, output, told);
   }
 }
 
@@ -106,14 +104,18 @@ const OPTIONS = {
   falling: /** @type {true} */ (true),
 };
 
+/** @param {number} [rest] */
+const restOf = (rest) => (rest === undefined ? [] : [`--rest=${rest}`]);
+
 /**
  * Options of recording-to-bits, as they were given.
- * @param {{ samplerate?: string, invert?: string, falling?: boolean }} values
+ * @param {{ samplerate?: string, invert?: string, falling?: boolean, rest?: number }} values
  */
-const passedOn = ({ samplerate, invert, falling }) => [
+const passedOn = ({ samplerate, invert, falling, rest }) => [
   ...(samplerate ? [`--samplerate=${samplerate}`] : []),
   ...(invert ? [`--invert=${invert}`] : []),
   ...(falling ? ["--falling"] : []),
+  ...restOf(rest),
 ];
 
 /**
@@ -165,6 +167,19 @@ function hasFrames(listing) {
   return false;
 }
 
+/** The marks of a first line's bits in a text. */
+const MARKS = new Set(Buffer.from("01"));
+
+/**
+ * How many bits of the first line a text has.
+ * @param {string} bits
+ */
+function bitsIn(bits) {
+  let count = 0;
+  for (const piece of piecesOf(bits)) for (const octet of piece) if (MARKS.has(octet)) count += 1;
+  return count;
+}
+
 run(async () => {
   const { values, words } = wordsOf(OPTIONS, ["RECORDING", "FOLDER"], 6);
   const [recording, folder, ...named] = words;
@@ -172,14 +187,11 @@ run(async () => {
   const given = values.dictionary ? dictionaryIn(values.dictionary) : null;
   const channels = named.length > 0 ? named : await wiresOf(recording);
   if (values.invert) checkInverted(values.invert, channels);
-  if (channels.length <= 2 && values.rest !== undefined) throw misuse("--rest is for a recording of two lines");
   const steps = made(folder);
   const [bits, listing, dictionary] = [FILES.bits, FILES.listing, FILES.dictionary].map((name) => steps.path(name));
   warn(`channels ${channels.join(", ")}`);
   steps.command("recording-to-bits", [...passedOn(values), ...channels], recording, FILES.bits, FILES.notes);
-  const notes = readFileSync(steps.path(FILES.notes), "utf8");
-  const rest = values.rest === undefined ? [] : [`--rest=${values.rest}`];
-  const list = ["list", "--bits", ...(channels.length > 2 ? ["--arrivals"] : []), ...rest];
+  const list = ["list", "--bits", ...(channels.length > 2 ? ["--arrivals", ...restOf(values.rest)] : [])];
   if (given !== null) writeFileSync(dictionary, given);
   else {
     steps.run(programNamed("port1"), list, bits, FILES.listing);
@@ -190,8 +202,8 @@ run(async () => {
     const words = [...list, `--dict=${readFileSync(dictionary, "utf8")}`];
     steps.run(programNamed("port1"), words, bits, FILES.listing);
   }
-  const [, count = ""] = /has (\d+) edge/.exec(notes) ?? [];
-  const length = count > "0" ? [`--bits=${count}`] : [];
+  const count = bitsIn(bits);
+  const length = count > 0 ? [`--bits=${count}`] : [];
   const known = [...(isKnown ? [`--dictionary=${dictionary}`] : []), ...length];
   steps.command("bus-summary", [...known, `--notes=${steps.path(FILES.notes)}`], listing, FILES.summary);
   writeText(readFileSync(steps.path(FILES.summary), "utf8"));

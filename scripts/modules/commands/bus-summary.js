@@ -6,9 +6,9 @@ import { Bus } from "../statistics/bus.js";
 import { DayTime } from "../statistics/day-time.js";
 import { objectOf } from "../statistics/object.js";
 import { report } from "../statistics/report.js";
-import { positive, run, wordsOf, writeText } from "./command.js";
-import { textIn } from "./file.js";
-import { rowsOfInput } from "./input.js";
+import { positive, run, wordsOf, writeText } from "../system/command.js";
+import { textIn } from "../system/file.js";
+import { rowsOfInput } from "../system/input.js";
 
 /** @param {string} text */
 const begin = (text) => new DayTime(text);

@@ -1,6 +1,10 @@
 import { Fault } from "../fault.js";
 import { RATE } from "../port1.js";
 import { DayTime } from "../statistics/day-time.js";
+import { misuse, run, warn, whole, wordsOf, writeText } from "../system/command.js";
+import { textIn } from "../system/file.js";
+import { programNamed } from "../system/program.js";
+import { onEndOfStream } from "../system/signals.js";
 import { refusalOf } from "../watch/decoder.js";
 import { PAIRS, arrivalsOf } from "../watch/forms.js";
 import { roomOf } from "../watch/limits.js";
@@ -8,10 +12,6 @@ import { hold } from "../watch/lock.js";
 import { Input, Source } from "../watch/source.js";
 import { RecordedWall, Wall, iso } from "../watch/wall.js";
 import { Watch } from "../watch/watch.js";
-import { misuse, run, warn, whole, wordsOf, writeText } from "./command.js";
-import { textIn } from "./file.js";
-import { programNamed } from "./program.js";
-import { onEndOfStream } from "./signals.js";
 
 /** How long no input is a stall, in seconds, and how often that is looked at, in milliseconds. */
 const [STALL, BEAT] = [3, 500];
@@ -68,9 +68,9 @@ const OPTIONS = {
 class Duty {
   isOver = false;
   isToRead = false;
-  quiet = performance.now(); // when input came last, or a source began, in milliseconds
-  stalled = 0; // when input came last before it stalled
-  isStalled = false;
+  quiet = 0; // when input came last, or a source began, in milliseconds
+  /** @type {number|null} */
+  stalled = null; // the same before it stalled, if it does
   isTaking = false;
   input = /** @type {Input} */ (/** @type {unknown} */ (null)); // until it goes
 
@@ -80,7 +80,6 @@ class Duty {
     this.isLive = watch.wall instanceof Wall;
     this.readDictionary = readDictionary;
     this.source = command === undefined ? null : new Source(command, (text) => watch.log("doubt", { text }));
-    onEndOfStream(() => this.stop());
     process.on("SIGHUP", () => (this.isToRead = true));
   }
 
@@ -95,19 +94,19 @@ class Duty {
   beat() {
     this.watch.judge();
     if (this.watch.decoder.hasEnded) this.input.wake();
-    const isWaiting = this.isLive && !this.isStalled && !this.isTaking;
+    const isWaiting = this.isLive && this.stalled === null && !this.isTaking;
     if (!isWaiting || performance.now() - this.quiet < 1000 * STALL) return;
-    [this.isStalled, this.stalled] = [true, this.quiet];
+    this.stalled = this.quiet;
     this.watch.log("input stalled", { since: iso(this.watch.wall.now() - STALL) });
   }
 
   /** @param {Buffer} piece */
   async take(piece) {
-    if (this.isStalled) {
+    if (this.stalled !== null) {
       this.watch.incidents.seam(this.watch.packer.places);
       this.watch.log("input goes on", { seconds: Math.round((performance.now() - this.stalled) / 100) / 10 });
     }
-    [this.isStalled, this.isTaking] = [false, true];
+    [this.stalled, this.isTaking] = [null, true];
     await this.watch.take(piece);
     [this.isTaking, this.quiet] = [false, performance.now()];
   }
@@ -133,6 +132,8 @@ class Duty {
   }
 
   async go() {
+    onEndOfStream(() => this.stop());
+    this.quiet = performance.now();
     const timer = setInterval(() => this.beat(), BEAT);
     let isWell = true;
     do {
@@ -176,7 +177,8 @@ run(async () => {
     dictionary,
     ...{ prometheus: values.prometheus, run: values.run, write: safely(writeText), warn: safely(warn) },
   });
+  const duty = new Duty(watch, values.source, readDictionary);
   await watch.begin();
-  await new Duty(watch, values.source, readDictionary).go();
+  await duty.go();
   process.exit(0);
 });

@@ -1,10 +1,10 @@
 import { spawnSync } from "node:child_process";
 import { readFileSync } from "node:fs";
 import { join } from "node:path";
-import { findingsOfFile } from "../dictionary/check.js";
+import { remarksOfFile } from "../dictionary/check.js";
 import { Fault } from "../fault.js";
-import { run, wordsOf, writeText } from "./command.js";
-import { TOP, programNamed } from "./program.js";
+import { run, wordsOf, writeText } from "../system/command.js";
+import { TOP, programNamed } from "../system/program.js";
 
 /**
  * The fault that the program finds, as it says it; nothing where the dictionary is good.
@@ -26,9 +26,9 @@ function judgement(text) {
 run(() => {
   const [file] = wordsOf({}, ["FILE"]).words;
   const schema = JSON.parse(readFileSync(join(TOP, "examples/dictionary.schema.json"), "utf8"));
-  const findings = findingsOfFile(readFileSync(file), schema, judgement);
-  const faults = findings.filter(({ isFault }) => isFault).length;
-  const lines = findings.map(({ line, text }) => `${file}:${line}: ${text}\n`);
+  const remarks = remarksOfFile(readFileSync(file), schema, judgement);
+  const faults = remarks.filter(({ isFault }) => isFault).length;
+  const lines = remarks.map(({ line, text }) => `${file}:${line}: ${text}\n`);
   writeText(`${lines.join("")}${file}: ${faults || "no"} fault${faults === 1 ? "" : "s"}\n`);
   return faults ? 1 : 0;
 });

@@ -1,8 +1,8 @@
 import { readFileSync } from "node:fs";
 import { readDictionary } from "../dictionary/dictionary.js";
 import { Fault } from "../fault.js";
-import { run, wordsOf, writeText } from "./command.js";
-import { textOfInput } from "./input.js";
+import { run, wordsOf, writeText } from "../system/command.js";
+import { textOfInput } from "../system/input.js";
 
 /** The dissector, in which the dictionary has a place. */
 const DISSECTOR = new URL("dissector.lua", import.meta.url);

@@ -1,6 +1,6 @@
 import { Survey, draftOfSurvey } from "../dictionary/draft.js";
-import { run, wordsOf, writeText } from "./command.js";
-import { rowsOfInput } from "./input.js";
+import { run, wordsOf, writeText } from "../system/command.js";
+import { rowsOfInput } from "../system/input.js";
 
 run(async () => {
   wordsOf();

@@ -1,6 +1,6 @@
 import { hexOf } from "../listing/listing.js";
-import { positive, run, wordsOf, write } from "./command.js";
-import { rowsOfInput } from "./input.js";
+import { positive, run, wordsOf, write } from "../system/command.js";
+import { rowsOfInput } from "../system/input.js";
 
 /** The octets that are written at a time. */
 const SIZE = 1 << 16;

@@ -7,14 +7,15 @@ import { asHtml } from "../limits/forms.js";
 import { ListingReader } from "../listing/read.js";
 import { RATE } from "../port1.js";
 import { DayTime } from "../statistics/day-time.js";
+import { positive, run, wordsOf, writeText } from "../system/command.js";
+import { dateOf, sha256Of } from "../system/facts.js";
+import { textIn } from "../system/file.js";
+import { standardInput } from "../system/input.js";
+import { PAGES, page as builtPage } from "../system/program.js";
 import { plainPieces } from "../text.js";
-import { positive, run, wordsOf, writeText } from "./command.js";
-import { dateOf, sha256Of } from "./facts.js";
-import { textIn } from "./file.js";
-import { standardInput } from "./input.js";
-import { PAGES, page as builtPage } from "./program.js";
 
-const ENGINE = /<script type="application\/wasm\+base64" id="engine">.*?<\/script>/s;
+/** The decoders of a page, for 64-bit and for 32-bit memory. */
+const ENGINE = /<script type="application\/wasm\+base64" id="engine">.*?id="engine-32">.*?<\/script>/s;
 
 const ABOUT = /(?<=<script type="application\/json" id="about">).*?(?=<\/script>)/s;
 

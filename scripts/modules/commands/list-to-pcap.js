@@ -1,9 +1,9 @@
 import { PCAP_HEAD, PCAPNG_HEAD, pcapOf, pcapngOf, timeOf } from "../pcap/forms.js";
 import { Packets } from "../pcap/packets.js";
 import { DayTime } from "../statistics/day-time.js";
-import { misuse, positive, run, wordOf, wordsOf, write } from "./command.js";
-import { rowsOfInput } from "./input.js";
-import { writeFile } from "./output.js";
+import { misuse, positive, run, wordOf, wordsOf, write } from "../system/command.js";
+import { rowsOfInput } from "../system/input.js";
+import { writeFile } from "../system/output.js";
 
 /** @typedef {import("../pcap/packets.js").Packet} Packet */
 

@@ -4,12 +4,12 @@ import { ListingReader } from "../listing/read.js";
 import { PCAPNG_HEAD, pcapngOf } from "../pcap/forms.js";
 import { Packets } from "../pcap/packets.js";
 import { RATE, SILENCE } from "../port1.js";
+import { misuse, run, warn, whole, wordsOf, write, writeText } from "../system/command.js";
+import { textIn } from "../system/file.js";
+import { programNamed } from "../system/program.js";
+import { onEndOfStream } from "../system/signals.js";
 import { PAIRS, arrivalsOf } from "../watch/forms.js";
 import { Source } from "../watch/source.js";
-import { misuse, run, warn, whole, wordsOf, write, writeText } from "./command.js";
-import { textIn } from "./file.js";
-import { programNamed } from "./program.js";
-import { onEndOfStream } from "./signals.js";
 
 const RECORDER =
   "sigrok-cli -d fx2lafw -c samplerate=4m --continuous -O binary | recording-to-bits --samplerate 4M 0 1 2 3";

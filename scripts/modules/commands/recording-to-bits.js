@@ -2,17 +2,17 @@ import { fstatSync } from "node:fs";
 import { Fault } from "../fault.js";
 import { doubtsOf, edgesOf } from "../recording/doubts.js";
 import { Events } from "../recording/events.js";
-import { formOfRecording } from "../recording/forms.js";
+import { FORMS, formOfRecording } from "../recording/forms.js";
 import { Moments } from "../recording/moments.js";
 import { recordingOf } from "../recording/recording.js";
 import { samplingOf } from "../recording/sampling.js";
 import { sessionOf } from "../recording/session.js";
 import { PIECE } from "../recording/source.js";
 import { samplerate } from "../recording/units.js";
-import { misuse, run, warn, whole, wordsOf, write } from "./command.js";
-import { FilePart, inflated } from "./file.js";
-import { standardInput } from "./input.js";
-import { sampled } from "./sampler.js";
+import { misuse, run, warn, whole, wordsOf, write } from "../system/command.js";
+import { openPart, inflated } from "../system/file.js";
+import { standardInput } from "../system/input.js";
+import { sampled } from "../system/sampler.js";
 
 /** Octets that tell the form of a recording. */
 const HEAD = 4096;
@@ -20,12 +20,11 @@ const HEAD = 4096;
 /** How long a recording that comes slowly is gathered before its bits are taken, in milliseconds. */
 const SOON = 30;
 
-const FORMS = ["session", "binary", "vcd", "csv"];
-
 /** @param {string} text */
 function formNamed(text) {
-  if (!FORMS.includes(text)) throw new Fault(`${JSON.stringify(text)} is none of ${FORMS.join(", ")}`);
-  return /** @type {import("../recording/forms.js").Form|"binary"} */ (text);
+  const found = FORMS.find((form) => form === text);
+  if (found === undefined) throw new Fault(`${JSON.stringify(text)} is none of ${FORMS.join(", ")}`);
+  return found;
 }
 
 /**
@@ -40,7 +39,7 @@ async function* withFirst(first, more) {
 
 /**
  * The recording on standard input.
- * @param {import("./command.js").Values<typeof OPTIONS>} values
+ * @param {import("../system/command.js").Values<typeof OPTIONS>} values
  * @param {string[]} channels
  */
 async function opened(values, channels) {
@@ -50,7 +49,7 @@ async function opened(values, channels) {
   const wanted = { form, channels, ticks: values.samplerate };
   if (form === "session") {
     if (!fstatSync(0).isFile()) throw new Fault("a session of sigrok has to be a file: write `< tap.sr`");
-    const session = await sessionOf(new FilePart(0), inflated);
+    const session = await sessionOf(openPart(0), inflated);
     return recordingOf(session.pieces(() => undefined), { ...wanted, samples: session });
   }
   const width = values.octets ?? 1;
@@ -62,7 +61,7 @@ async function opened(values, channels) {
  * The options of the sampler.
  * @param {{ falling?: boolean, hold?: number, invert?: string }} values
  * @param {string[]} names of the wires
- * @param {{ hold: number, jump: number }} sampling
+ * @param {{ hold: number, jump: number, rest: number }} sampling
  */
 function optionsOf({ falling, hold, invert = "" }, names, sampling) {
   const inverted = invert === "" ? [] : invert.split(",");
@@ -70,7 +69,7 @@ function optionsOf({ falling, hold, invert = "" }, names, sampling) {
   if (unknown !== undefined) throw misuse(`--invert: ${unknown} is none of the channels`);
   const wires = ["txc", "txd", "rxc", "rxd"].filter((_, at) => inverted.includes(names[at]));
   const turned = [...(falling ? ["--falling"] : []), ...wires.map((wire) => `--invert-${wire}`)];
-  return [`--hold=${hold ?? sampling.hold}`, `--jump=${sampling.jump}`, ...turned];
+  return [`--hold=${hold ?? sampling.hold}`, `--jump=${sampling.jump}`, `--rest=${sampling.rest}`, ...turned];
 }
 
 /**
@@ -78,10 +77,10 @@ function optionsOf({ falling, hold, invert = "" }, names, sampling) {
  * @param {import("../recording/recording.js").Recording} recording
  * @param {boolean} rising whether bits are taken at rising edges
  */
-function lookAt({ names, ticks, begin }, rising) {
+function lookAt({ names, ticks, begin, losses }, rising) {
   const events = new Events(names, rising);
   return (/** @type {import("../recording/doubts.js").Facts} */ facts) => {
-    for (const text of events.look(facts, new Moments(ticks, begin()))) warn(`event: ${text}`);
+    for (const text of events.look(facts, new Moments(ticks, begin()), losses)) warn(`event: ${text}`);
   };
 }
 
@@ -91,7 +90,7 @@ function octetsOf(text) {
   return Number(text);
 }
 
-const NUMBERS = { octets: octetsOf, samplerate, hold: whole };
+const NUMBERS = { octets: octetsOf, samplerate, hold: whole, rest: whole };
 
 const FLAGS = { falling: /** @type {true} */ (true), events: /** @type {true} */ (true) };
 
@@ -102,7 +101,8 @@ run(async () => {
   const recording = await opened(values, channels);
   const { names, ticks } = recording;
   const look = values.events ? lookAt(recording, !values.falling) : undefined;
-  const arrivals = sampled(recording, optionsOf(values, names, samplingOf(recording)), look);
+  if (values.rest && ticks === null) throw misuse("--rest is a number of bits: it takes --samplerate, too");
+  const arrivals = sampled(recording, optionsOf(values, names, samplingOf(recording, values.rest)), look);
   let next = await arrivals.next();
   for (; !next.done; next = await arrivals.next()) write(next.value);
   const { facts, fault } = next.value;

@@ -10,7 +10,7 @@ import { TomlFault, readToml } from "./toml.js";
 
 /**
  * A fault or a remark, and the line that it is about.
- * @typedef {{line: number, text: string, isFault: boolean}} Finding
+ * @typedef {{line: number, text: string, isFault: boolean}} Remark
  */
 
 /**
@@ -33,10 +33,10 @@ const SHOWN = 60;
 // What the reader says of a dictionary: of an entry, by its number, or of a frame type.
 const JUDGEMENT = /^dictionary: ((?:frame (\d+)|type (\d+)( twice)?)?.*)/;
 
-/** @param {number} line @param {string} text @returns {Finding} */
+/** @param {number} line @param {string} text @returns {Remark} */
 const fault = (line, text) => ({ line, text, isFault: true });
 
-/** @param {number} line @param {string} text @returns {Finding} */
+/** @param {number} line @param {string} text @returns {Remark} */
 const remark = (line, text) => ({ line, text, isFault: false });
 
 /**
@@ -169,14 +169,10 @@ function remarks(table, place) {
  * @param {Table} table
  */
 function pathOfJudgement([, , number, type, twice], table) {
-  if (number !== undefined) {
-    return ["frame", Number(number) - 1];
-  }
+  if (number !== undefined) return ["frame", Number(number) - 1];
   const entries = [...tablesOfFrames(table).entries()];
   const having = entries.filter(([, entry]) => type !== undefined && entry.get("type") === BigInt(type));
-  if (having.length === 0) {
-    return [];
-  }
+  if (having.length === 0) return [];
   return ["frame", having[twice === undefined ? 0 : 1][0]];
 }
 
@@ -189,9 +185,7 @@ function judgement(text) {
     readDictionary(text);
     return undefined;
   } catch (found) {
-    if (found instanceof Fault) {
-      return found.message;
-    }
+    if (found instanceof Fault) return found.message;
     throw found;
   }
 }
@@ -199,9 +193,7 @@ function judgement(text) {
 /** @param {string} text @param {Table} table @param {Place} place @param {Judge} judge */
 function findingsOfProgram(text, table, place, judge) {
   const said = judge(text.replace(/\n+$/, ""));
-  if (said === undefined) {
-    return [];
-  }
+  if (said === undefined) return [];
   const found = JUDGEMENT.exec(said) ?? ["", said];
   const advice = text.includes("\r") ? "; the lines end with CR LF: `tr -d '\\r'` takes the CR away" : "";
   return [fault(place.lineOf(pathOfJudgement(found, table)), `port1 says: ${found[1]}${advice}`)];
@@ -209,7 +201,7 @@ function findingsOfProgram(text, table, place, judge) {
 
 /**
  * In the order of the lines, and each only once.
- * @param {Finding[]} findings
+ * @param {Remark[]} findings
  */
 function inOrder(findings) {
   const once = new Map(findings.map((finding) => [JSON.stringify(finding), finding]));
@@ -221,16 +213,14 @@ function inOrder(findings) {
  * @param {string} text
  * @param {Schema} schema examples/dictionary.schema.json
  * @param {Judge} [judge]
- * @returns {Finding[]}
+ * @returns {Remark[]}
  */
-export function findingsOf(text, schema, judge = judgement) {
+export function remarksOf(text, schema, judge = judgement) {
   let read;
   try {
     read = readToml(text);
   } catch (found) {
-    if (found instanceof TomlFault) {
-      return [fault(found.line, `not TOML: ${found.message}`)];
-    }
+    if (found instanceof TomlFault) return [fault(found.line, `not TOML: ${found.message}`)];
     throw found;
   }
   const { table, place } = read;
@@ -265,10 +255,10 @@ function spoiltLine(octets) {
  * @param {Uint8Array} octets
  * @param {Schema} schema examples/dictionary.schema.json
  * @param {Judge} [judge]
- * @returns {Finding[]}
+ * @returns {Remark[]}
  */
-export function findingsOfFile(octets, schema, judge = judgement) {
+export function remarksOfFile(octets, schema, judge = judgement) {
   const line = spoiltLine(octets);
   const text = () => new TextDecoder("utf-8", { ignoreBOM: true }).decode(octets);
-  return line > 0 ? [fault(line, "not UTF-8")] : findingsOf(text(), schema, judge);
+  return line > 0 ? [fault(line, "not UTF-8")] : remarksOf(text(), schema, judge);
 }

@@ -17,8 +17,10 @@ const NAME = /^[!-~]{1,40}$/;
 
 const TYPES = 256;
 const LENGTHS = 254;
-const LEAST_WINDOW = 8n;
-const MOST_WINDOW = 1_048_576n;
+
+/** The windows that an entry may have, in bits. */
+export const LEAST_WINDOW = 8;
+export const MOST_WINDOW = 1_048_576;
 
 /** @param {string} text */
 const faultOf = (text) => new Fault(`dictionary: ${text}`);
@@ -69,9 +71,7 @@ function answeredAt(table, type) {
  */
 function windowAt(table, version, answered) {
   const value = valueAt(table, "window");
-  if (value === undefined || version !== 2n) {
-    return 0;
-  }
+  if (value === undefined || version !== 2n) return 0;
   const isGood = typeof value === "bigint" && value >= LEAST_WINDOW && value <= MOST_WINDOW;
   return isGood && answered ? Number(value) : undefined;
 }
@@ -83,9 +83,7 @@ function windowAt(table, version, answered) {
  */
 function bitsAt(table, length) {
   const members = valueAt(table, "bits") ?? [];
-  if (!Array.isArray(members)) {
-    return undefined;
-  }
+  if (!Array.isArray(members)) return undefined;
   const bits = members.map((member) => ({ at: numberAt(member, "at", 8 * length), name: nameAt(member) }));
   const isGood = bits.every(({ at, name }) => at !== undefined && name !== undefined);
   const isOnce = new Set(bits.map(({ at }) => at)).size === bits.length;
@@ -101,9 +99,7 @@ function bitsAt(table, length) {
  * @returns {T}
  */
 function needed(value, number, part) {
-  if (value === undefined) {
-    throw faultOf(`frame ${number}: bad ${part}`);
-  }
+  if (value === undefined) throw faultOf(`frame ${number}: bad ${part}`);
   return value;
 }
 
@@ -121,9 +117,7 @@ function entryOf(table, number, version, types) {
   const answered = needed(answeredAt(table, type), number, "answered");
   const window = needed(windowAt(table, version, answered), number, "window");
   const bits = /** @type {Entry["bits"]} */ (needed(bitsAt(table, length), number, "bit"));
-  if (types.has(type)) {
-    throw faultOf(`type ${type} twice`);
-  }
+  if (types.has(type)) throw faultOf(`type ${type} twice`);
   types.add(type);
   return { type, name, length, answered, window, bits };
 }
@@ -132,7 +126,7 @@ function entryOf(table, number, version, types) {
  * The root table of a text.
  * @param {string} text
  */
-function tableOf(text) {
+function rootOf(text) {
   try {
     return readToml(text).table;
   } catch (fault) {
@@ -147,21 +141,15 @@ function tableOf(text) {
  * @throws {Fault} the first fault, as `port1` says it
  */
 export function readDictionary(text) {
-  const root = tableOf(text);
+  const root = rootOf(text);
   const version = root.get("version");
-  if (version !== 1n && version !== 2n) {
-    throw faultOf("version is not 1 or 2");
-  }
+  if (version !== 1n && version !== 2n) throw faultOf("version is not 1 or 2");
   const frames = root.get("frame");
-  if (!Array.isArray(frames) || frames.length === 0) {
-    throw faultOf("no frames");
-  }
+  if (!Array.isArray(frames) || frames.length === 0) throw faultOf("no frames");
   /** @type {Set<number>} */
   const types = new Set();
   const entries = frames.map((frame, at) => entryOf(frame, at + 1, version, types));
   const lacking = entries.find(({ type, answered }) => answered && !types.has(type + ANSWER));
-  if (lacking !== undefined) {
-    throw faultOf(`type ${lacking.type} has no answer entry`);
-  }
+  if (lacking !== undefined) throw faultOf(`type ${lacking.type} has no answer entry`);
   return entries;
 }

@@ -1,16 +1,13 @@
 import { Fault } from "../fault.js";
 import { DAMAGE } from "../listing/kinds.js";
 import { ALL_STATIONS, ANSWER, AROUND } from "../port1.js";
-import { counted } from "../statistics/units.js";
+import { counted } from "../text.js";
+import { LEAST_WINDOW, MOST_WINDOW } from "./dictionary.js";
 
 /** @typedef {import("../statistics/bus.js").Row} Row */
 
 // The most stations, or ranges of them, and the most lengths that a comment names.
 const MOST_NAMED = 16;
-
-// The windows that a dictionary may have, in bits.
-const LEAST_WINDOW = 8;
-const MOST_WINDOW = 1_048_576;
 
 const HEAD =
   "# Drafted from a listing: numbers, lengths and `answered` are as seen there, the names are to be given by hand.\n" +
@@ -35,9 +32,7 @@ const nothingSeen = () => ({ frames: 0, lengths: new Map(), stations: new Set(),
  * @param {Row|null} before
  */
 function isAnswer(row, before) {
-  if (before === null || before.type === null || before.station === ALL_STATIONS) {
-    return false;
-  }
+  if (before === null || before.type === null || before.station === ALL_STATIONS) return false;
   const isOnItsLine = before.line !== 2 && row.line !== 1;
   return isOnItsLine && before.type < ANSWER && before.station === row.station && before.type + ANSWER === row.type;
 }
@@ -107,9 +102,7 @@ function ranges(numbers) {
     }
   }
   return runs.flatMap(({ first, last }) => {
-    if (last > first + 1) {
-      return [`${first} to ${last}`];
-    }
+    if (last > first + 1) return [`${first} to ${last}`];
     return first === last ? [String(first)] : [String(first), String(last)];
   });
 }
@@ -160,9 +153,7 @@ function remarks(type, types) {
  * @param {Seen} seen
  */
 function windowLines({ replies, longest }) {
-  if (replies === 0) {
-    return ["# No answer came as the next thing after its command."];
-  }
+  if (replies === 0) return ["# No answer came as the next thing after its command."];
   const answers = replies === 1 ? "the one answer" : `all ${replies} answers`;
   const time = counted(longest, "bit");
   const told = `# The longest time from a command to its answer was ${time}; ${answers} began within it.`;
@@ -191,9 +182,7 @@ function entryText(type, types) {
  * @throws {Fault} where there is no typed frame
  */
 export function draftOfSurvey({ types, untyped }) {
-  if (types.size === 0) {
-    throw new Fault("the listing has no frame of a type");
-  }
+  if (types.size === 0) throw new Fault("the listing has no frame of a type");
   const frames = counted(untyped, "frame");
   const left = untyped > 0 ? `# Left out: ${frames} with another control octet than 131, or without a type.\n` : "";
   const numbers = [...types.keys()].sort((one, other) => (one % ANSWER) - (other % ANSWER) || one - other);

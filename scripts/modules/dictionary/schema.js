@@ -160,9 +160,7 @@ function* faultsOfParts(value, keyword, asked, root, path) {
     }
   } else if (keyword === "properties" && value instanceof Map) {
     for (const [key, inner] of Object.entries(/** @type {Schemas} */ (asked))) {
-      if (value.has(key)) {
-        yield* faults(value.get(key), inner, root, [...path, key]);
-      }
+      if (value.has(key)) yield* faults(value.get(key), inner, root, [...path, key]);
     }
   }
 }
@@ -181,9 +179,7 @@ function* faults(value, schema, root, path) {
   }
   for (const [keyword, asked] of /** @type {[keyof Schema, unknown][]} */ (Object.entries(schema))) {
     const isAgainst = /** @type {Against<unknown>|undefined} */ (FAULTS[keyword]);
-    if (isAgainst?.(value, asked, schema)) {
-      yield { keyword, asked, value, schema, path };
-    }
+    if (isAgainst?.(value, asked, schema)) yield { keyword, asked, value, schema, path };
     yield* faultsOfParts(value, keyword, asked, root, path);
   }
 }

@@ -67,9 +67,7 @@ function readArray(source, place) {
 function readPair(source, place) {
   const line = source.lineAt(source.at);
   const key = readKey(source);
-  if (!source.takes("=")) {
-    throw source.fault("Expected '=' after a key in a key/value pair");
-  }
+  if (!source.takes("=")) throw source.fault("Expected '=' after a key in a key/value pair");
   source.skipSpaces();
   let own = place;
   for (const part of key) {
@@ -90,9 +88,7 @@ function readInlineTable(source, place) {
     source.skipLines();
     isOver = source.takes("}");
     if (!isOver) {
-      if (!source.takes(",")) {
-        throw source.fault("Unclosed inline table");
-      }
+      if (!source.takes(",")) throw source.fault("Unclosed inline table");
       source.skipLines();
       isOver = source.takes("}");
     }
@@ -143,12 +139,8 @@ function readHead(source, tables, place) {
  * @param {Place} place of the document
  */
 function readStatement(source, tables, section, place) {
-  if (source.next() === "[") {
-    return readHead(source, tables, place);
-  }
-  if (!/[A-Za-z0-9_"'-]/.test(source.next())) {
-    throw source.fault("Invalid statement");
-  }
+  if (source.next() === "[") return readHead(source, tables, place);
+  if (!/[A-Za-z0-9_"'-]/.test(source.next())) throw source.fault("Invalid statement");
   const { key, value } = readPair(source, section.place);
   tables.define(section.table, section.head, key, value);
   return section;

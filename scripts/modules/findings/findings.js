@@ -1,8 +1,6 @@
-import { ABORT, ANSWERED, DAMAGED, FRAME, LATE, MISSING, OVERLONG, SPOILT, STRAY } from "../listing/kinds.js";
-import { UNKNOWN, WRONG_LENGTH } from "../listing/listing.js";
-import { ANSWER } from "../port1.js";
 import { Beside } from "../statistics/beside.js";
-import { lengthOf } from "../statistics/causes.js";
+import { FINDINGS } from "../statistics/findings.js";
+import { lengthOf } from "../statistics/units.js";
 import { judgedBus } from "../statistics/wrong.js";
 import { Gaps, Rows } from "./seekers.js";
 import { survey } from "./survey.js";
@@ -10,13 +8,12 @@ import { survey } from "./survey.js";
 /** @typedef {import("../listing/listing.js").Listing} Listing */
 /** @typedef {import("../statistics/gaps.js").Hole} Hole */
 /** @typedef {import("../statistics/rests.js").Place} Place */
-/** @typedef {import("../statistics/sentences.js").Sort} Sort */
 /** @typedef {import("../statistics/wrong.js").Judged} Judged */
 
 /**
  * What is wrong, as the page shows it.
  * @typedef {object} Finding
- * @property {Sort} sort
+ * @property {import("../statistics/sentences.js").Sort} sort
  * @property {"fault"|"doubt"} level
  * @property {string} text
  * @property {string} short for the verdict
@@ -24,6 +21,8 @@ import { survey } from "./survey.js";
  * @property {Place[]} places the first of them, in their order
  * @property {import("../statistics/sentences.js").Sentence["kind"]} kind
  * @property {boolean} isStretch whether its places are stretches of time, not lines
+ * @property {string} over what is written over its stretches, through all stations; nothing where it has none
+ * @property {import("../statistics/findings.js").Sign} sign
  */
 
 /**
@@ -32,91 +31,16 @@ import { survey } from "./survey.js";
  */
 
 /**
- * The sorts whose places are stretches of time.
- * @type {Set<Sort>}
- */
-const STRETCHES = new Set(["rest", "quiet", "gap", "beside"]);
-
-/**
- * The kinds of lines that a sentence is about, by its sort.
- * @type {Partial<Record<Sort, number[]>>}
- */
-const KINDS_OF = {
-  silent: [MISSING],
-  missing: [MISSING],
-  late: [LATE],
-  slow: [ANSWERED],
-  spoilt: [SPOILT],
-  damage: [DAMAGED, OVERLONG, ABORT],
-  length: [FRAME],
-  unknown: [FRAME],
-  stray: [STRAY],
-  lines: [FRAME],
-};
-
-/**
- * Whether a line is one that a sentence is about, of the kinds that its sort has.
- * @param {Listing} listing
- * @param {Judged} sentence
- * @returns {(at: number) => boolean}
- */
-function agreesOf(listing, { sort, kind, limit = Infinity }) {
-  const { stations, types, lines, heads } = listing;
-  if (sort === "lines") return (at) => lines[at] === 2 && types[at] >= 0 && types[at] < ANSWER;
-  if (sort === "length" || sort === "unknown") {
-    const head = sort === "length" ? WRONG_LENGTH : UNKNOWN;
-    return (at) => heads[at] === head;
-  }
-  if (!kind) return () => true;
-  /** @param {number} at */
-  const isOfKind = (at) => stations[at] === kind.station && (kind.type === null || types[at] === kind.type);
-  return sort === "slow" ? (at) => isOfKind(at) && (listing.replyBits(at) ?? 0) > limit : isOfKind;
-}
-
-/** @param {number} count @param {string} what */
-const answers = (count, what) => `${count} ${count === 1 ? "answer" : "answers"} ${what}`;
-
-/**
- * What a short text is made of. Its kind is null where the sort has none, and that text does not ask for it.
- * @typedef {{ kind: NonNullable<Finding["kind"]>, count: number, places: Place[], rate: number }} Facts
- */
-
-/**
- * What the verdict says of a sentence.
- * @type {Record<Sort, (facts: Facts) => string>}
- */
-const SHORT = {
-  lines: () => "The two lines seem exchanged",
-  rest: () => "The bus goes dead before the end",
-  mute: () => "No station answers",
-  wires: () => "A line has no frames: look at its wires",
-  quiet: ({ places: [{ first, past }], rate }) => `No command at all for ${lengthOf(past - first, rate)}`,
-  gap: ({ kind, places: [{ first, past }], rate }) =>
-    `Station ${kind.station}: nothing of type ${kind.type} for ${lengthOf(past - first, rate)}`,
-  silent: ({ kind }) => `Station ${kind.station} is silent${kind.type === null ? "" : ` to type ${kind.type}`}`,
-  missing: ({ kind, count }) => `Station ${kind.station}: ${answers(count, "missing")}`,
-  late: ({ kind, count }) => `Station ${kind.station}: ${answers(count, "late")}`,
-  slow: ({ kind, count }) => `Station ${kind.station}: ${answers(count, "far slower than usual")}`,
-  spoilt: ({ kind, count }) => `Station ${kind.station}: ${answers(count, "spoilt")}`,
-  damage: ({ count }) => `${count} damaged ${count === 1 ? "piece" : "pieces"}`,
-  length: ({ count }) => `${count} ${count === 1 ? "frame has" : "frames have"} another length than in the dictionary`,
-  unknown: ({ count }) => `${count} ${count === 1 ? "frame has" : "frames have"} a type that the dictionary lacks`,
-  stray: ({ count }) => `${count} ${count === 1 ? "stray" : "strays"}`,
-  beside: () => "The recording lacks samples",
-  more: () => "",
-};
-
-/**
  * @param {Judged} sentence
  * @param {{ places: Place[], count: number }} where
  * @param {number} rate
  * @returns {Finding}
  */
-function findingOf({ sort, level, text, shown = text, kind = null }, { places, count }, rate) {
-  return {
-    ...{ sort, kind, count, places, level, text: shown, isStretch: STRETCHES.has(sort) },
-    short: SHORT[sort]({ kind: /** @type {Facts["kind"]} */ (kind), count, places, rate }),
-  };
+function findingOf({ sort, level, text, shown = text, kind = null, isOver = false }, { places, count }, rate) {
+  const { short, shows, over, sign } = FINDINGS[sort];
+  const facts = /** @type {import("../statistics/findings.js").Facts} */ ({ kind, count, places, rate, isOver });
+  const drawn = { isStretch: shows === "stretches", over, sign };
+  return { sort, kind, count, places, level, text: shown, ...drawn, short: short(facts) };
 }
 
 /**
@@ -150,11 +74,13 @@ const sumOf = (counts) => counts.reduce((sum, count) => sum + count, 0);
  */
 export function findingsOf(bus, listing, known) {
   const { sentences, gaps: holes } = judgedBus(bus, known);
-  const gaps = new Gaps(listing, holes, bus.beside);
+  const gaps = new Gaps(listing, holes, bus);
   const others = rowsBeside(listing, bus.beside.stretches);
   const rows = sentences.map((sentence) => {
-    const agrees = agreesOf(listing, sentence);
-    return new Rows(listing, KINDS_OF[sentence.sort] ?? [], (at) => agrees(at) && !others.has(at));
+    const { shows } = FINDINGS[sentence.sort];
+    if (typeof shows === "string") return new Rows(listing, []);
+    const agrees = shows.agrees(listing, sentence);
+    return new Rows(listing, shows.kinds, (at) => agrees(at) && !others.has(at));
   });
   survey(listing, [gaps, ...rows]);
   /** @param {Judged} sentence @param {number} at */
@@ -163,7 +89,7 @@ export function findingsOf(bus, listing, known) {
     return places ? { places, count } : rows[at];
   };
   const findings = sentences.map((sentence, at) => findingOf(sentence, whereOf(sentence, at), bus.rate));
-  const ofCauses = sentences.filter(({ sort, places }) => places && STRETCHES.has(sort) && sort !== "beside");
+  const ofCauses = sentences.filter(({ sort }) => FINDINGS[sort].over !== "");
   return {
     findings,
     gaps: gapsOfStations(holes, gaps, bus.rate),

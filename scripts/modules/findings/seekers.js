@@ -1,4 +1,5 @@
-import { FRAME } from "../listing/kinds.js";
+import { DAMAGES, FRAME, KINDS } from "../listing/kinds.js";
+import { Rests } from "../statistics/rests.js";
 
 /** The most places of a sentence that are kept. */
 const MOST_PLACES = 200;
@@ -38,17 +39,29 @@ export class Rows {
   }
 }
 
+/**
+ * A kind of commands with its gaps, those apart that a rest of all commands explains.
+ * @typedef {object} Seen
+ * @property {number} limit
+ * @property {number} before the row of the last command
+ * @property {number} rested the longest rest of all commands since then
+ * @property {{ own: Place[], quiet: Place[] }} found
+ * @property {Map<number, number>} rows by the places where holes begin
+ */
+
 /** The times between commands of some kinds that are longer than the limit of each. */
 export class Gaps {
-  /** @param {Listing} listing @param {Hole[]} holes @param {import("../statistics/beside.js").Beside} beside */
-  constructor(listing, holes, beside) {
+  /** @param {Listing} listing @param {Hole[]} holes @param {import("../statistics/bus.js").Bus} bus */
+  constructor(listing, holes, { beside, rate }) {
     this.listing = listing;
     this.beside = beside;
-    this.kinds = [FRAME];
-    /** @type {Map<number, { limit: number, before: number, found: Place[], rows: Map<number, number> }>} */
+    this.rests = new Rests(rate, beside);
+    this.kinds = [FRAME, ...DAMAGES];
+    /** @type {Map<number, Seen>} */
     this.byKind = new Map();
     for (const { kind, limit, gap } of holes) {
-      const own = this.byKind.get(keyOf(kind)) ?? { limit, before: -1, found: [], rows: new Map() };
+      const fresh = { limit, before: -1, rested: 0, found: { own: [], quiet: [] }, rows: new Map() };
+      const own = this.byKind.get(keyOf(kind)) ?? fresh;
       own.rows.set(gap.first, -1);
       this.byKind.set(keyOf(kind), own);
     }
@@ -56,15 +69,29 @@ export class Gaps {
 
   /** @param {number} at */
   take(at) {
-    const { firsts, lines, stations, types } = this.listing;
-    const own = types[at] < 0 || lines[at] === 2 ? undefined : this.byKind.get(256 * stations[at] + types[at]);
+    const { firsts, pasts, lines, stations, types, kinds } = this.listing;
+    const line = /** @type {1|2|null} */ (lines[at] || null);
+    const rest = this.rests.take({ kind: KINDS[kinds[at]], first: firsts[at], past: pasts[at], line }, at);
+    if (rest > 0) this.byKind.forEach((one) => (one.rested = Math.max(one.rested, rest)));
+    if (kinds[at] !== FRAME || types[at] < 0 || line === 2) return;
+    const own = this.byKind.get(256 * stations[at] + types[at]);
     if (own === undefined) return;
     if (own.rows.has(firsts[at])) own.rows.set(firsts[at], at);
-    const isLong = own.before >= 0 && firsts[at] - firsts[own.before] > own.limit;
-    if (isLong && own.found.length < MOST_PLACES && !this.beside.isNear(firsts[own.before], firsts[at])) {
-      own.found.push({ row: own.before, first: firsts[own.before], past: firsts[at] });
-    }
-    own.before = at;
+    this.end(own, at);
+    [own.before, own.rested] = [at, 0];
+  }
+
+  /**
+   * Ends the gap of a kind.
+   * @param {Seen} own
+   * @param {number} at the row of its next command
+   */
+  end({ limit, before, rested, found }, at) {
+    const { firsts } = this.listing;
+    const length = before < 0 ? 0 : firsts[at] - firsts[before];
+    const places = 2 * rested >= length ? found.quiet : found.own;
+    if (length <= limit || places.length >= MOST_PLACES || this.beside.isNear(firsts[before], firsts[at])) return;
+    places.push({ row: before, first: firsts[before], past: firsts[at] });
   }
 
   /**
@@ -72,10 +99,10 @@ export class Gaps {
    * @param {Hole} hole
    * @returns {Place[]}
    */
-  placesOf({ kind, gap, where }) {
-    const { found, rows } = this.byKind.get(keyOf(kind)) ?? { found: [], rows: new Map() };
+  placesOf({ kind, gap, where, isQuiet }) {
+    const { found, rows } = this.byKind.get(keyOf(kind)) ?? { found: { own: [], quiet: [] }, rows: new Map() };
     const own = { row: rows.get(gap.first) ?? -1, first: gap.first, past: gap.first + gap.length };
     if (where !== "") return [own];
-    return [own, ...found.filter(({ first }) => first !== own.first)];
+    return [own, ...(isQuiet ? found.quiet : found.own).filter(({ first }) => first !== own.first)];
   }
 }

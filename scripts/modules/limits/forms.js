@@ -16,6 +16,9 @@ export function shown(value, key) {
 export const sentenceOf = ({ where, key, value, limit }) =>
   `${where}: ${measureOf(key).text} ${shown(value, key)}, limit ${shown(limit, key)}`;
 
+/** @param {import("./judge.js").Open} open */
+export const openText = ({ where, key, value }) => `${where}: ${measureOf(key).text} ${shown(value, key)}, no limit`;
+
 /** @param {import("./judge.js").Worse} worse */
 export const worseText = ({ where, key, value, was }) =>
   `${where}: ${measureOf(key).text} ${shown(value, key)}, before ${shown(was, key)}`;
@@ -24,7 +27,7 @@ export const worseText = ({ where, key, value, was }) =>
 export const brokenOf = ({ judgements }) => judgements.filter(({ isKept }) => !isKept);
 
 /** @param {Unit} unit */
-export const verdictOf = (unit) => {
+export const gradeOf = (unit) => {
   if (unit.fault) return "FAULT";
   return brokenOf(unit).length + unit.worse.length > 0 ? "FAIL" : "PASS";
 };
@@ -45,7 +48,8 @@ export function keptText(unit) {
 export function textOf(unit) {
   const broken = brokenOf(unit).map((judgement) => `     ${sentenceOf(judgement)}\n`);
   const worse = unit.worse.map((some) => `     worse: ${worseText(some)}\n`);
-  return [`${verdictOf(unit)} ${unit.name}: ${keptText(unit)}\n`, ...broken, ...worse].join("");
+  const open = (unit.open ?? []).map((some) => `     not judged: ${openText(some)}\n`);
+  return [`${gradeOf(unit)} ${unit.name}: ${keptText(unit)}\n`, ...broken, ...worse, ...open].join("");
 }
 
 /** @type {Record<string, string>} */
@@ -103,11 +107,12 @@ const csvCell = (value) => {
  */
 export function csvOf(units) {
   const rows = units.flatMap((unit) => {
-    const head = [unit.name, verdictOf(unit)];
+    const head = [unit.name, gradeOf(unit)];
     if (unit.fault) return [[...head, "", "", "", "", unit.fault]];
-    return unit.judgements.map(({ where, key, value, limit, isKept }) => {
+    const judged = unit.judgements.map(({ where, key, value, limit, isKept }) => {
       return [...head, where, key, value, limit, isKept ? "kept" : "not kept"];
     });
+    return [...judged, ...(unit.open ?? []).map(({ where, key, value }) => [...head, where, key, value, "", "not judged"])];
   });
   const heads = ["unit", "verdict", "where", "key", "value", "limit", "result"];
   return [heads, ...rows].map((row) => `${row.map(csvCell).join(",")}\r\n`).join("");
@@ -119,6 +124,6 @@ export function csvOf(units) {
  * @param {string} date
  */
 export function jsonOf(units, date) {
-  const told = units.map((unit) => ({ ...unit, verdict: verdictOf(unit) }));
+  const told = units.map((unit) => ({ ...unit, verdict: gradeOf(unit) }));
   return `${JSON.stringify({ date, units: told }, null, 2)}\n`;
 }

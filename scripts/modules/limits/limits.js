@@ -27,6 +27,7 @@ const verdicts = (text, key) => {
 export const BUS = {
   frames: { text: "frames", of: ({ frames }) => frames, unit: "", isLeast: true },
   damaged: { text: "damaged pieces", of: ({ damaged }) => damaged, unit: "" },
+  strays: { text: "strays", of: ({ strays }) => strays, unit: "", isJudged: true },
   pending: { text: "commands that still wait at the end", of: ({ pending }) => pending, unit: "", isJudged: true },
   damaged_percent: { text: "share of damaged pieces", of: ({ damagedPercent }) => damagedPercent, unit: "%" },
 };
@@ -62,7 +63,8 @@ class Reader {
 
   /** @param {Path} path @param {string} text */
   fault(path, text) {
-    return new Fault(`${this.file}:${this.place.lineOf(path)}: ${path.at(-1) ?? "limits"}: ${text}`);
+    const key = path.filter((part) => typeof part === "string").at(-1) ?? "limits";
+    return new Fault(`${this.file}:${this.place.lineOf(path)}: ${key}: ${text}`);
   }
 
   /** @param {unknown} value @param {Path} path @returns {Map<string, unknown>} */
@@ -92,15 +94,14 @@ class Reader {
   /** @param {Map<string, unknown>} table @param {Path} path @param {string} key @param {number} past */
   whole(table, path, key, past) {
     const value = table.get(key);
-    const own = [...path, key];
-    if (value === undefined) throw this.fault(own, "is lacking");
+    if (value === undefined) return null;
     const isGood = typeof value === "bigint" && value >= 0n && value < past;
-    if (!isGood) throw this.fault(own, `is no whole number below ${past}`);
+    if (!isGood) throw this.fault([...path, key], `is no whole number below ${past}`);
     return Number(value);
   }
 
   /**
-   * The limits of one station and type.
+   * The limits of one station and type, or of each for what is left out.
    * @param {unknown} value
    * @param {Path} path
    */
@@ -110,9 +111,18 @@ class Reader {
     const type = this.whole(table, path, "type", ANSWER);
     const others = [...table].filter(([key]) => key !== "station" && key !== "type");
     const limits = this.limits(others, path, KIND);
-    if (limits.length === 0) throw this.fault([...path, "station"], `station ${station} type ${type} has no limit`);
+    if (limits.length === 0) throw this.fault(path, `${whereOf({ station, type })} has no limit`);
     return { station, type, limits };
   }
+}
+
+/**
+ * The commands of a table, as words: of a station and type, or of each for what is null.
+ * @param {{ station: number|null, type: number|null }} commands
+ */
+export function whereOf({ station, type }) {
+  if (station === null) return type === null ? "each station and type" : `type ${type} of each station`;
+  return type === null ? `each type of station ${station}` : `station ${station} type ${type}`;
 }
 
 /** @param {string} file @param {string} text */
@@ -140,7 +150,7 @@ export function limitsOf(file, text) {
   const kinds = list.map((value, at) => reader.kind(value, ["limit", at]));
   kinds.forEach(({ station, type }, at) => {
     const isBefore = kinds.slice(0, at).some((kind) => kind.station === station && kind.type === type);
-    if (isBefore) throw reader.fault(["limit", at, "station"], `station ${station} type ${type} stands there twice`);
+    if (isBefore) throw reader.fault(["limit", at], `${whereOf({ station, type })} stands there twice`);
   });
   if (bus.length + kinds.length === 0) throw reader.fault([], "there is no limit");
   return { bus, kinds };

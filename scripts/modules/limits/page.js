@@ -1,4 +1,4 @@
-import { asHtml, brokenOf, keptText, sentenceOf, shown, verdictOf, worseText } from "./forms.js";
+import { asHtml, brokenOf, keptText, openText, sentenceOf, shown, gradeOf, worseText } from "./forms.js";
 
 /** @typedef {import("./judge.js").Unit} Unit */
 
@@ -47,7 +47,9 @@ function worst(values, key) {
 
 /** @param {Unit} unit */
 function itemsOf(unit) {
-  const texts = [...brokenOf(unit).map(sentenceOf), ...unit.worse.map((some) => `Worse: ${worseText(some)}`)];
+  const worse = unit.worse.map((some) => `Worse: ${worseText(some)}`);
+  const open = (unit.open ?? []).map((some) => `Not judged: ${openText(some)}`);
+  const texts = [...brokenOf(unit).map(sentenceOf), ...worse, ...open];
   const items = texts.map((text) => `<li>${asHtml(text)}</li>`).join("");
   return `<div>${keptText(unit)}${items && `<ul>${items}</ul>`}</div>`;
 }
@@ -67,7 +69,7 @@ function cellsOf({ statistics, ...unit }) {
 /** @param {Unit} unit */
 function rowOf(unit) {
   const { file, sha256 } = unit.source;
-  const verdict = verdictOf(unit);
+  const verdict = gradeOf(unit);
   const [reply, gap, damaged, limits] = cellsOf(unit);
   const source = `<div>${asHtml(file)}<br><code>${sha256 ?? "-"}</code></div>`;
   const cells = [asHtml(unit.name), source, `<span class="${verdict}">${verdict}</span>`, reply, gap, damaged, limits];
@@ -85,7 +87,7 @@ function rowOf(unit) {
  */
 export function pageOf(units, date, limits) {
   /** @param {"PASS"|"FAIL"|"FAULT"} wanted */
-  const count = (wanted) => units.filter((unit) => verdictOf(unit) === wanted).length;
+  const count = (wanted) => units.filter((unit) => gradeOf(unit) === wanted).length;
   const counts = `${units.length} units: ${count("PASS")} PASS, ${count("FAIL")} FAIL, ${count("FAULT")} FAULT.`;
   return `<!DOCTYPE html>
 <html lang="en"><head><meta charset="utf-8"><meta name="viewport" content="width=device-width, initial-scale=1">

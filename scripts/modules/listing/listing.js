@@ -60,10 +60,7 @@ export class Listing {
   heads = new Uint16Array(FIRST_CAPACITY); // of a frame, what stands after its octets
   heap = new OctetHeap();
   names = [...HEADS];
-  numbers = new Map([
-    [HEADS[UNKNOWN], UNKNOWN],
-    [HEADS[WRONG_LENGTH], WRONG_LENGTH],
-  ]);
+  numbers = new Map([[HEADS[UNKNOWN], UNKNOWN], [HEADS[WRONG_LENGTH], WRONG_LENGTH]]);
 
   columns() {
     const { firsts, pasts, begins, counts, kinds, causes, lines, stations, types, heads } = this;

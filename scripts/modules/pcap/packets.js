@@ -1,4 +1,4 @@
-import { DAMAGE } from "../listing/kinds.js";
+import { BAD_VERDICTS, DAMAGE } from "../listing/kinds.js";
 
 /** @typedef {import("../listing/listing.js").Row} Row */
 
@@ -6,7 +6,7 @@ import { DAMAGE } from "../listing/kinds.js";
 const CHECK = 2;
 
 /** What is said of a command or a frame; that a command was answered in time needs no comment. */
-const SAID = ["missing", "spoilt", "late", "pending", "stray"];
+const SAID = [...BAD_VERDICTS, "pending", "stray"];
 
 /** A verdict comes at once after the report that settles it, which may be a frame: it is about one of the last two. */
 const OPEN_PACKETS = 2;

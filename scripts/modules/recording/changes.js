@@ -32,9 +32,7 @@ export class ChangeList {
    * @param {number} levels
    */
   add(time, levels) {
-    if (this.count === this.times.length) {
-      this.grow();
-    }
+    if (this.count === this.times.length) this.grow();
     this.times[this.count] = time;
     this.levels[this.count] = levels;
     this.count += 1;

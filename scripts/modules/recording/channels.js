@@ -11,9 +11,7 @@ import { withSingleSpaces } from "./text.js";
 export function positionOf(name, names) {
   const wanted = withSingleSpaces(name);
   const found = [...names.keys()].filter((at) => withSingleSpaces(names[at]) === wanted);
-  if (found.length === 0 && /^[0-9]+$/.test(wanted) && Number(wanted) < names.length) {
-    return Number(wanted);
-  }
+  if (found.length === 0 && /^[0-9]+$/.test(wanted) && Number(wanted) < names.length) return Number(wanted);
   if (found.length !== 1) {
     const count = found.length === 0 ? "no channel has" : `${found.length} channels have`;
     throw new Fault(`${count} the name ${wanted}; there are: ${listed(names)}`);

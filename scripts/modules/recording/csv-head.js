@@ -46,12 +46,8 @@ export class TableHead {
   remark(text) {
     const [word] = text.split(":", 1);
     const value = text.slice(word.length + 1);
-    if (word.startsWith("Channels") && value !== "") {
-      this.names = value.split(",").map((name) => name.trim());
-    }
-    if (word === "Samplerate") {
-      this.ticks = hertz(value);
-    }
+    if (word.startsWith("Channels") && value !== "") this.names = value.split(",").map((name) => name.trim());
+    if (word === "Samplerate") this.ticks = hertz(value);
   }
 
   /** @returns {Table} */

@@ -79,9 +79,7 @@ export class RowReader {
     this.number += 1;
     const cells = this.hasTimes ? this.afterTime(octets, begin) : begin;
     this.time += this.hasTimes ? 0 : 1;
-    if (!isRepeated(octets, cells, this.known, this.length)) {
-      this.learn(octets, begin, cells);
-    }
+    if (!isRepeated(octets, cells, this.known, this.length)) this.learn(octets, begin, cells);
     return cells + this.length;
   }
 
@@ -177,9 +175,7 @@ export class RowReader {
   /** @param {number} time @param {Uint8Array} cell */
   faultOf(time, cell) {
     const told = `row ${this.number}: ${quoted(decoded(cell).trim())}`;
-    if (!Number.isFinite(time)) {
-      throw new Fault(`${told} is no time`);
-    }
+    if (!Number.isFinite(time)) throw new Fault(`${told} is no time`);
     return safeTime(time, told);
   }
 
@@ -190,9 +186,7 @@ export class RowReader {
     let cell = begin;
     while (column < this.width && cell <= past) {
       const end = endOfCell(octets, cell, past);
-      if (this.put[3 * column + HIGH] !== 0) {
-        level |= this.put[3 * column + valueOf(octets, cell, end)];
-      }
+      if (this.put[3 * column + HIGH] !== 0) level |= this.put[3 * column + valueOf(octets, cell, end)];
       column += 1;
       cell = end + 1;
     }
@@ -251,22 +245,16 @@ function endOfCell(octets, at, past) {
  * @param {number} length
  */
 function isRepeated(octets, at, known, length) {
-  if (length === 0 || at + length > octets.length) {
-    return false;
-  }
+  if (length === 0 || at + length > octets.length) return false;
   for (let offset = 0; offset < length; offset++) {
-    if (octets[at + offset] !== octets[known + offset]) {
-      return false;
-    }
+    if (octets[at + offset] !== octets[known + offset]) return false;
   }
   return true;
 }
 
 /** @param {Uint8Array} octets @param {number} begin @param {number} past @returns {number} */
 function valueOf(octets, begin, past) {
-  if (past - begin !== 1) {
-    return valueOfCell(octets, begin, past);
-  }
+  if (past - begin !== 1) return valueOfCell(octets, begin, past);
   return octets[begin] === ONE ? HIGH : octets[begin] === ZERO ? LOW : UNKNOWN;
 }
 
@@ -296,7 +284,7 @@ function valueOfText(text) {
  * @param {string[]} names
  * @returns {Promise<import("./changes.js").Changed>}
  */
-export async function tableOf(source, names) {
+export async function changesOfTable(source, names) {
   const head = new TableHead();
   let line = await source.line();
   while (line.length > 0 && !head.ends(line)) {

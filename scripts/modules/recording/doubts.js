@@ -1,7 +1,7 @@
 import { RATE } from "../port1.js";
+import { counted } from "../text.js";
 import { exchangedOf } from "./exchanged.js";
 import { placesOf, stretchesIn } from "./seams.js";
-import { counted } from "./text.js";
 
 /** @typedef {import("./moments.js").Moments} Moments */
 /** @typedef {import("./seams.js").Seam} Seam */
@@ -28,7 +28,7 @@ import { counted } from "./text.js";
  * What makes a result doubtful, by its sort, of a channel with a name, and of another.
  * @type {Record<string, (name: string, other: string) => string>}
  */
-const TEXTS = {
+export const TEXTS = {
   crossed: (name, clock) => `${name} has the edges of a clock, and ${clock} has not: are the two exchanged?`,
   clocks: (name, clock) =>
     `${name} always runs, as the controller's clock does, and ${clock} does not: are the two exchanged?`,
@@ -63,6 +63,8 @@ const TEXTS = {
  * @property {string} text as the script writes it
  * @property {number} [line] of the bus
  * @property {import("./seams.js").Stretch[]} [stretches] where the recording is not what was on the wires
+ * @property {number} [stood] for how many seconds the first clock stood still, by which later times are too early
+ * @property {number} [place] where it stood for longest
  */
 
 /** The sorts of data that changes at the edge that is taken. */
@@ -93,7 +95,9 @@ const LONG_REST = 1 / 4;
 /** Fewer samples of a bit do not show both its edges for certain. */
 const FEWEST_SAMPLES = 4;
 
-const WHEN = /^(.*?)(?: \((?:for [^()]* from )?(?:(\d+) times, first )?(?:at )?(?:([\d.]+) s|sample \d+)(?: on)?\))?$/;
+const COUNT = /(?:(?<count>\d+) times, (?:(?<all>[^(),]+) in all, )?(?:first |the longest )?)?/;
+const MOMENT = /(?:for (?<one>[^()]*) from )?(?:at )?(?:(?<second>[\d.]+) s|sample \d+)(?: on)?/;
+const WHEN = new RegExp(`^(?<what>.*?)(?: \\(${COUNT.source}${MOMENT.source}\\))?$`);
 
 /** The sorts that have places. */
 const PLACED = new Set(["samples", "piece", "checksum"]);
@@ -111,13 +115,15 @@ const PATTERNS = Object.entries(TEXTS).map(([sort, textOf]) => {
  * @returns {Warning}
  */
 export function warningOf(text) {
-  const [, what = "", count = "1", second] = WHEN.exec(text) ?? [];
+  const { what = "", count = "1", second, all, one = "" } = WHEN.exec(text)?.groups ?? {};
   for (const [sort, pattern] of PATTERNS) {
     const found = pattern.exec(what);
     if (!found) continue;
     const { name = "", other = "" } = found.groups ?? {};
     const stretches = PLACED.has(sort) ? { stretches: stretchesIn(other) } : {};
-    return { sort, name, count: Number(count), second: second ? Number(second) : null, text, ...stretches };
+    const length = all ?? one;
+    const stood = sort === "gap" && length.endsWith(" s") ? { stood: Number.parseFloat(length) } : {};
+    return { sort, name, count: Number(count), second: second ? Number(second) : null, text, ...stretches, ...stood };
   }
   return { sort: "other", name: "", count: 1, second: null, text };
 }
@@ -163,14 +169,17 @@ export function doubtsOf(facts, names, { rising, when, isSampled = false, seams 
     if (wires.some((wire) => wire >> 1 === at)) return [];
     const [clock, data] = names.slice(2 * at);
     const isOwn = isShared && at === 1;
-    const ofClock = isOwn ? [] : clockDoubts(line, clock, at, { facts, bit, when });
+    const stops = seams.find(({ sort }) => sort === "stops");
+    const ofClock = isOwn ? [] : clockDoubts(line, clock, at, { facts, bit, when, stops });
     const ofData = dataDoubts(line, at, { clock, data, isOwn, isAlone: names.length < 4, rising, facts, bit, when });
     // While the clock stands still, data may change at any level of it.
     return [...ofClock, ...ofData.filter(({ sort }) => ofClock.length === 0 || !EDGES.includes(sort))];
   });
-  const isCoarse = seams.some(({ sort }) => sort === "coarse");
+  // What is no clock shows neither that samples were lost nor that they are few.
+  const sure = wires.includes(0) ? seams.filter(({ sort }) => sort !== "coarse" && sort !== "samples") : seams;
+  const isCoarse = sure.some(({ sort }) => sort === "coarse");
   const slow = isSampled || isCoarse ? slowness(facts, names[0], when, isCoarse) : [];
-  const ofFile = seams.filter(({ sort }) => PLACED.has(sort) || sort === "rounded").map((seam) => seamTold(seam, when));
+  const ofFile = sure.filter(({ sort }) => PLACED.has(sort) || sort === "rounded").map((seam) => seamTold(seam, when));
   // Edges that are seen by chance jump, and those beside lost samples do.
   // Of edges without their times nothing is known.
   if (ofFile.some(({ sort }) => sort === "rounded")) return ofFile;
@@ -180,7 +189,7 @@ export function doubtsOf(facts, names, { rising, when, isSampled = false, seams 
 }
 
 /** Jumps beside samples that were lost: to the rise after them, and from there. */
-const MOST_JUMPS = 2;
+export const MOST_JUMPS = 2;
 
 /** @param {Seam} seam @param {Moments} when @returns {Warning} */
 function seamTold({ sort, name, from, count, stretches }, when) {
@@ -220,9 +229,9 @@ function warning(sort, name, more = {}) {
  * @param {Facts["lines"][0]} line
  * @param {string} name
  * @param {number} at 0 for the first clock, which ought to run all the time
- * @param {{ facts: Facts, bit: number, when: Moments }} all
+ * @param {{ facts: Facts, bit: number, when: Moments, stops?: Seam }} all
  */
-function clockDoubts({ bits, gap }, name, at, { facts, bit, when }) {
+function clockDoubts({ bits, gap }, name, at, { facts, bit, when, stops }) {
   if (bits.count === 0) return [warning("still", name)];
   if (bit === 0) return [];
   const { jumps, secondJumps, samples, wires } = facts;
@@ -231,8 +240,12 @@ function clockDoubts({ bits, gap }, name, at, { facts, bit, when }) {
   const end = isDead ? [warning("end", name, { when, sample: bits.last })] : [];
   const isFree = !isLong(gap.length) && !isLong(bits.first) && !isLong(samples - bits.last);
   if (at === 1) return [...end, ...(isFree ? lostOf(name, secondJumps, when) : [])];
-  const told = `for ${when.length(gap.length)} from ${when.of(gap.place)} on`;
-  const gaps = isLong(gap.length) ? [warning("gap", name, { when, sample: gap.place, told })] : [];
+  const { count = 1, samples: inAll = gap.length, place } = stops ?? {};
+  const times = count > 1 ? `${count} times, ${when.length(inAll)} in all, the longest ` : "";
+  const told = `${times}for ${when.length(gap.length)} from ${when.of(gap.place)} on`;
+  const stood = when.ticks ? { stood: Number((inAll / when.ticks).toFixed(6)) } : {};
+  const stop = { ...warning("gap", name, { when, sample: gap.place, told, count }), ...stood };
+  const gaps = isLong(gap.length) ? [place === undefined ? stop : { ...stop, place }] : [];
   const isOfStop = gaps.length > 0 || (isDead && jumps.first > bits.last - LONG * bit);
   return [...gaps, ...end, ...(isOfStop ? [] : lostOf(name, jumps, when))];
 }
@@ -255,7 +268,7 @@ function isDeadData({ bits }, { level, changes }, other, bit) {
   if (level === 1) return other !== null && other.last - changes.last > least;
   const begins = changes.count % 2; // the level of the wire before its first change, as the last one is 0
   if (changes.first > LONG * bit) return begins === 1;
-  return bits.last - changes.last > least;
+  return Math.max(bits.last, other?.last ?? 0) - changes.last > least;
 }
 
 /**

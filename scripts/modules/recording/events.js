@@ -1,7 +1,10 @@
 import { RATE } from "../port1.js";
-import { LONG, doubtsOf, samplesOfBit } from "./doubts.js";
+import { LONG, MOST_JUMPS, TEXTS, doubtsOf, samplesOfBit } from "./doubts.js";
+import { JUDGED } from "./losses.js";
+import { placesOf } from "./seams.js";
 
 /** @typedef {import("./doubts.js").Facts} Facts */
+/** @typedef {Pick<import("./losses.js").Losses, "samples"|"count"|"last">} Losses */
 /** @typedef {import("./moments.js").Moments} Moments */
 
 /** A wire that does not change for so many bits is told, and so long a recording is before it is judged as a whole. */
@@ -15,12 +18,22 @@ const STEADY = new Set([
 
 const WIRES = /** @type {const} */ (["txc", "txd", "rxc", "rxd"]);
 
+/**
+ * A text with its time, or the last one of several.
+ * @param {string} text
+ * @param {number} count
+ * @param {string} when
+ */
+const timed = (text, count, when) => `${text} (${count === 1 ? "" : `${count} times, last `}at ${when})`;
+
 /** What becomes doubtful while a recording comes: each event once, with its place. */
 export class Events {
   isJudged = false; // as a whole
   stopped = -1; // where the first clock stands still, if it does
   longest = 0; // distance of its edges
   jumps = 0; // of it
+  hasWaited = false; // whether the last ones were left to the next look
+  lost = 0; // how often samples were
   /** @type {Map<string, number>} */
   quiet = new Map(); // wires that were told, and where they last changed
 
@@ -34,12 +47,14 @@ export class Events {
    * The events since the last look.
    * @param {Facts} facts
    * @param {Moments} when
+   * @param {Losses} losses of the first clock
    * @returns {string[]}
    */
-  look(facts, when) {
+  look(facts, when, losses) {
     const bit = samplesOfBit(facts, when.ticks);
     if (bit === 0) return [];
-    return [this.ofWhole(facts, bit, when), this.ofClock(facts, bit, when), this.ofWires(facts, bit, when)].flat();
+    const ofClock = [...this.ofLosses(losses, when), ...this.ofClock(facts, bit, when, losses)];
+    return [...this.ofWhole(facts, bit, when), ...ofClock, ...this.ofWires(facts, bit, when)];
   }
 
   /** @param {Facts} facts @param {number} bit @param {Moments} when */
@@ -50,8 +65,17 @@ export class Events {
     return doubts.filter(({ sort }) => STEADY.has(sort)).map(({ text }) => text);
   }
 
-  /** @param {Facts} facts @param {number} bit @param {Moments} when */
-  ofClock({ lines: [{ bits, gap }], jumps, samples }, bit, when) {
+  /** @param {Losses} losses @param {Moments} when */
+  ofLosses({ count, last }, when) {
+    const lost = count - this.lost;
+    if (lost === 0 || last === null) return [];
+    this.lost = count;
+    const { place, sample } = last;
+    return [timed(TEXTS.samples(this.names[0], placesOf([{ first: place, past: place }])), lost, when.of(sample))];
+  }
+
+  /** @param {Facts} facts @param {number} bit @param {Moments} when @param {Losses} losses */
+  ofClock({ lines: [{ bits, gap }], jumps, samples }, bit, when, losses) {
     const [[name], { stopped, longest }, count] = [this.names, this, jumps.count - this.jumps];
     const isStill = bits.count > 0 && samples - bits.last > LONG * bit;
     Object.assign(this, { stopped: isStill ? bits.last : -1, longest: gap.length, jumps: jumps.count });
@@ -64,8 +88,12 @@ export class Events {
     if (gap.length > Math.max(longest, LONG * bit)) {
       return [`${name} stops (for ${when.length(gap.length)} from ${when.of(gap.place)} on)`];
     }
-    const times = `${count === 1 ? "" : `${count} times, last `}at ${when.of(jumps.last)}`;
-    return count > 0 ? [`the edges of ${name} jump: its wire has glitches, or samples were lost (${times})`] : [];
+    // Whether they are beside lost samples is known some bits later.
+    this.hasWaited = !this.hasWaited && count > 0 && losses.samples - jumps.last < JUDGED * bit;
+    if (this.hasWaited) this.jumps -= count;
+    const isBeside = losses.last !== null && Math.abs(jumps.last - losses.last.sample) <= LONG * bit;
+    const isTold = count > 0 && !this.hasWaited && !(isBeside && count <= MOST_JUMPS);
+    return isTold ? [timed(TEXTS.lost(name, ""), count, when.of(jumps.last))] : [];
   }
 
   /** @param {Facts} facts @param {number} bit @param {Moments} when */

@@ -6,10 +6,10 @@ import { otherForm } from "./others.js";
 import { namesOf, signalsOf } from "./signals.js";
 import { Words, characters } from "./words.js";
 
-/**
- * The forms of recordings that are read: value change dumps, tables, and sessions of sigrok.
- * @typedef {"vcd"|"csv"|"session"} Form
- */
+/** The forms of recordings: sessions of sigrok, samples without a head, value change dumps, and tables. */
+export const FORMS = /** @type {const} */ (["session", "binary", "vcd", "csv"]);
+
+/** @typedef {Exclude<typeof FORMS[number], "binary">} Form one that is told by its head */
 
 /** What may stand before the first word of a recording. */
 const BEFORE_TEXT = Uint8Array.from([0xef, 0xbb, 0xbf, 9, 10, 13, 32]);
@@ -24,13 +24,11 @@ const META = Uint8Array.from([77, 69, 84, 65, 32]);
  * @param {Uint8Array} octets its first 4096
  * @returns {Form|null} none where these octets are of neither form
  */
-export function formOf(octets) {
+export function formOfText(octets) {
   const head = plainHead(octets);
   const start = META.every((octet, at) => head[at] === octet) ? head.indexOf(LINE_END) + 1 : 0;
   const first = head.subarray(start).find((octet) => !BEFORE_TEXT.includes(octet));
-  if (first === DOLLAR) {
-    return "vcd";
-  }
+  if (first === DOLLAR) return "vcd";
   const isText = head.length > 0 && head.every((octet) => (octet >= 32 ? octet !== 127 : octet === 9 || octet === 10 || octet === 13));
   return isText && isTable(head) ? "csv" : null;
 }
@@ -51,7 +49,7 @@ const PRINTED = /^(?=[^]*[A-Za-z]{3})(?=[^]*[ \n])[\t\r\n -~]{16,}$/;
  */
 export function formOfRecording(head) {
   if (head.length === 0) throw new Fault("the recording is empty");
-  const [form, text] = [formOf(head), characters(head)];
+  const [form, text] = [formOfText(head), characters(head)];
   if (SESSION.test(text)) return "session";
   const other = form === null || ARCHIVE.every((octet, at) => head[at] === octet) ? otherForm(text) : null;
   if (other !== null) throw new Fault(`this is ${other}`);
@@ -69,9 +67,7 @@ export function formOfRecording(head) {
  */
 export function channelsOf(octets, form) {
   const head = plainHead(octets);
-  if (form === "vcd") {
-    return [...new Set(namesOf(signalsOf(new Words(head, head.length))))];
-  }
+  if (form === "vcd") return [...new Set(namesOf(signalsOf(new Words(head, head.length))))];
   const names = namesOfTable(headWithCommas(head));
   const shared = sharedNames(names);
   const all = new Set(names);
@@ -98,9 +94,7 @@ function namesOfTable(octets) {
   const head = new TableHead();
   let begin = 0;
   for (let end = octets.indexOf(10); end >= 0; end = octets.indexOf(10, begin)) {
-    if (head.ends(octets.subarray(begin, end))) {
-      break;
-    }
+    if (head.ends(octets.subarray(begin, end))) break;
     begin = end + 1;
   }
   return head.table().names;

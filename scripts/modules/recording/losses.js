@@ -17,8 +17,14 @@ const FIRST = 5 * BLOCK;
 const DRIFT = 32;
 const FEWEST = 4;
 
+/** So many bits after a rise it is known whether samples were lost there. */
+export const JUDGED = (FEWEST + 2) * BLOCK;
+
 /** A distance of two rises of so many bits is a stop: lost samples make none above two. */
 const STOP = 3;
+
+/** One of so many bits is told. */
+const LONG_STOP = 16;
 
 /** Of the rises of a clock nearly all are no farther from the usual distance than this part of it. */
 const NEAR = 0.6;
@@ -133,6 +139,7 @@ export class Losses {
     this.drift = 0; // of a block against the one before, in bits
     this.judged = 0;
     this.scattered = 0; // those whose edges are far apart within a bit
+    this.stops = { count: 0, samples: 0, longest: 0, place: 0 }; // how many, of how long in all, and the longest
     this.count = 0;
     /** @type {Loss[]} */
     this.kept = []; // the first of them
@@ -192,6 +199,7 @@ export class Losses {
 
   /** @param {number} time */
   rise(time) {
+    if (this.bit > 0 && time - this.before > LONG_STOP * this.bit) this.countStop(time - this.before);
     if (this.bit > 0 && time - this.before > STOP * this.bit) this.stop();
     this.before = time;
     this.bits += 1;
@@ -224,6 +232,14 @@ export class Losses {
     if (old < DRIFT) return;
     this.blocks.splice(0, old);
     this.next -= old;
+  }
+
+  /** @param {number} samples that a stop takes */
+  countStop(samples) {
+    const { stops } = this;
+    stops.count += 1;
+    stops.samples += samples;
+    if (samples > stops.longest) Object.assign(stops, { longest: samples, place: this.bits });
   }
 
   /** After a stop the clock may go on at any time of a bit. */

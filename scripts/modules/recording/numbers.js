@@ -61,9 +61,7 @@ export function plainDecimal(octets, begin, past) {
   }
   const count = past - first - (point < 0 ? 0 : 1);
   const decimals = point < 0 ? 0 : past - point - 1;
-  if (count < 1 || decimals > 22 || digits > Number.MAX_SAFE_INTEGER) {
-    return NaN;
-  }
+  if (count < 1 || decimals > 22 || digits > Number.MAX_SAFE_INTEGER) return NaN;
   const value = digits / TENS[decimals];
   return first > begin ? -value : value;
 }

@@ -3,7 +3,7 @@ import { joined } from "../octets.js";
 import { plainPieces } from "../text.js";
 import { piecesWithCommas } from "./cells.js";
 import { positionOf } from "./channels.js";
-import { tableOf } from "./csv.js";
+import { changesOfTable } from "./csv.js";
 import { Losses } from "./losses.js";
 import { Runs } from "./runs.js";
 import { samplingOf } from "./sampling.js";
@@ -11,7 +11,7 @@ import { seamsOf } from "./seams.js";
 import { Source } from "./source.js";
 import { dumpOf } from "./vcd.js";
 
-export { channelsOf, formOf } from "./forms.js";
+export { channelsOf, formOfText } from "./forms.js";
 
 /**
  * What is wanted of a recording.
@@ -39,7 +39,8 @@ export { channelsOf, formOf } from "./forms.js";
  * @property {string[]} names of these wires
  * @property {number|null} ticks samples a second
  * @property {() => number} begin the time of the first sample, in samples, once a piece was read
- * @property {() => import("./seams.js").Seam[]} seams what is lacking or wrong in the pieces that were read
+ * @property {Losses} losses of samples, in the pieces that were read
+ * @property {() => import("./seams.js").Seam[]} seams what is lacking or wrong in them
  * @property {AsyncGenerator<Uint8Array>} pieces
  */
 
@@ -80,7 +81,7 @@ export async function recordingOf(pieces, wanted) {
   if (form === "vcd" || form === "csv") {
     const plain = plainPieces(pieces);
     const source = new Source(form === "csv" ? piecesWithCommas(plain) : plain);
-    const { ticks, changes, positions, faults = () => [] } = await (form === "vcd" ? dumpOf : tableOf)(source, channels);
+    const { ticks, changes, positions, faults = () => [] } = await (form === "vcd" ? dumpOf : changesOfTable)(source, channels);
     checkOnce(positions, channels);
     const known = wanted.ticks ?? ticks;
     const unit = known === null ? 1 : Math.max(1, Math.floor(known / FINEST));
@@ -102,7 +103,7 @@ export async function recordingOf(pieces, wanted) {
 
 /**
  * A recording whose first clock is followed while its pieces are read.
- * @param {Omit<Recording, "pieces"|"seams">} recording
+ * @param {Omit<Recording, "pieces"|"losses"|"seams">} recording
  * @param {AsyncGenerator<Uint8Array>} pieces
  * @param {() => import("./seams.js").Seam[]} faults of the file, in samples
  * @returns {Recording}
@@ -121,7 +122,7 @@ function watched(recording, pieces, faults) {
       losses.end();
     }
   };
-  return { ...recording, pieces: watch(), seams: () => seamsOf(faults(), losses, name) };
+  return { ...recording, pieces: watch(), losses, seams: () => seamsOf(faults(), losses, name) };
 }
 
 /**

@@ -3,11 +3,13 @@
  * samples that are lacking, or that are not those that were recorded.
  *
  * @typedef {object} Seam
- * @property {"samples"|"piece"|"checksum"|"rounded"|"coarse"} sort
+ * @property {"samples"|"piece"|"checksum"|"rounded"|"coarse"|"stops"} sort
  * @property {string} name of what shows it: the clock, or a part of the file
  * @property {number} from where it is first, in samples
  * @property {number} count how often
  * @property {Stretch[]} stretches what is not to be blamed on the bus
+ * @property {number} [samples] in which the clock stood still, and the place of its longest stop
+ * @property {number} [place]
  */
 
 /**
@@ -53,7 +55,7 @@ function lostOf({ count, kept, last }, faults, name) {
  * @returns {Seam[]}
  */
 export function seamsOf(faults, losses, name) {
-  const { bits, samples, isCoarse } = losses;
+  const { bits, samples, isCoarse, stops } = losses;
   // The clock runs all the time, so that its bits are as far as the samples are.
   const placeOf = (/** @type {number} */ sample) => Math.round((bits * sample) / Math.max(1, samples));
   const placed = faults.map((fault) => ({
@@ -61,7 +63,9 @@ export function seamsOf(faults, losses, name) {
     stretches: fault.stretches.map(({ first, past }) => ({ first: placeOf(first), past: placeOf(past) })),
   }));
   const coarse = { sort: /** @type {const} */ ("coarse"), name, from: 0, count: 1, stretches: [WHOLE] };
-  return [...placed, ...(isCoarse ? [coarse] : []), ...lostOf(losses, placed, name)];
+  const stopped = { sort: /** @type {const} */ ("stops"), name, from: 0, ...stops, stretches: [] };
+  const ofClock = [...(isCoarse ? [coarse] : []), ...(stops.count > 0 ? [stopped] : [])];
+  return [...placed, ...ofClock, ...lostOf(losses, placed, name)];
 }
 
 /** @param {Stretch} stretch */

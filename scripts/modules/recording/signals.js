@@ -42,9 +42,7 @@ export function signalsOf(words) {
       const { section, isEnded } = sectionOf(words);
       define(signals, characters(word), isEnded ? section : []);
     }
-    if (signals.isWhole) {
-      break;
-    }
+    if (signals.isWhole) break;
   }
   return signals;
 }
@@ -104,9 +102,7 @@ export function namesOf(signals) {
  */
 function withoutBits(name) {
   const begin = name.indexOf("[", name.lastIndexOf("]", name.length - 2) + 1);
-  if (begin < 0 || !name.endsWith("]")) {
-    return name;
-  }
+  if (begin < 0 || !name.endsWith("]")) return name;
   return name.slice(0, name[begin - 1] === " " ? begin - 1 : begin);
 }
 
@@ -120,8 +116,6 @@ export function codeOf(name, signals) {
   const whole = namesOf(signals);
   const short = whole.map(withoutBits);
   const names = !whole.includes(withSingleSpaces(name)) && short.includes(name) ? short : whole;
-  if (!names.includes(name)) {
-    throw new Fault(`no channel has the name ${name}; there are: ${listed(names)}`);
-  }
+  if (!names.includes(name)) throw new Fault(`no channel has the name ${name}; there are: ${listed(names)}`);
   return [...signals.codes.values()].flatMap((codes) => [...codes])[positionOf(name, names)];
 }

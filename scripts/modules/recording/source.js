@@ -74,9 +74,7 @@ export class Source {
 
   async more() {
     const { done, value } = await this.pieces.next();
-    if (!done) {
-      this.append(value);
-    }
+    if (!done) this.append(value);
     return !done;
   }
 
@@ -107,8 +105,6 @@ export class Source {
  * @returns {Uint8Array}
  */
 export function notTooLong(rest) {
-  if (rest.length > LONGEST) {
-    throw new Fault(`a word is longer than ${LONGEST} octets`);
-  }
+  if (rest.length > LONGEST) throw new Fault(`a word is longer than ${LONGEST} octets`);
   return rest;
 }

@@ -30,13 +30,3 @@ export function decodedWithoutMark(octets) {
 export function withSingleSpaces(text) {
   return text.trim().split(/\s+/).join(" ");
 }
-
-/**
- * A count and what is counted.
- * @param {number} count
- * @param {string} what in the singular
- * @returns {string}
- */
-export function counted(count, what) {
-  return count === 1 ? `${count} ${what}` : `${count} ${what}s`;
-}

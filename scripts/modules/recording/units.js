@@ -28,9 +28,7 @@ export function samplerate(text) {
  */
 export function hertz(text) {
   const found = RATE.exec(text.trim());
-  if (found === null) {
-    throw new Fault(`${quoted(text)} is no rate`);
-  }
+  if (found === null) throw new Fault(`${quoted(text)} is no rate`);
   const [, whole, decimals = "", prefix] = found;
   const zeros = ZEROS.get(prefix) ?? 0;
   return Number(whole + decimals.slice(0, zeros).padEnd(zeros, "0"));

@@ -1,13 +1,15 @@
 /** Names of channels that say what they are: clock and data of the controller, clock and data of the answers. */
 const USUAL = [/^txc|tx.?clo?c?k/i, /^txd|tx.?data/i, /^rxc|rx.?clo?c?k/i, /^rxd|rx.?data/i];
 
-/** Names that are numbers alone, as analysers give them. */
+/** Names that are numbers alone, as analysers give them; of these, those of sigrok. */
 const NUMBERED = /^(?:d|ch|channel|probe)?[ _-]?(\d+)$/i;
+const ORDERED = /^d\d+$/i;
 
 /**
  * What channels are by their names.
  * @typedef {object} Usual
- * @property {"named"|"ordered"|"unknown"} how whether their names say which they are, their numbers do, or neither
+ * @property {"named"|"ordered"|"numbered"|"unknown"} how whether their names say which they are; or they are D0 and so
+ *   on, or have other numbers, so that these may; or neither
  * @property {string[][]} named those that each of the four may be, by name
  * @property {string[]} order all of them, by number
  */
@@ -21,8 +23,8 @@ export function usualOf(channels) {
   const order = [...channels].sort((one, other) => numberOf(one) - numberOf(other));
   const areNumbered = channels.length >= 4 && channels.every((name) => NUMBERED.test(name));
   if (named.every((names) => names.length === 1)) return { how: "named", named, order };
-  const isOrdered = areNumbered && named.every((names) => names.length === 0);
-  return { how: isOrdered ? "ordered" : "unknown", named, order };
+  if (!areNumbered || named.some((names) => names.length > 0)) return { how: "unknown", named, order };
+  return { how: channels.every((name) => ORDERED.test(name)) ? "ordered" : "numbered", named, order };
 }
 
 /**

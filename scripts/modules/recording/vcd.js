@@ -61,9 +61,7 @@ class Actions {
   /** @param {Uint8Array} octets @param {number} begin @param {number} past */
   codeAt(octets, begin, past) {
     for (let code = 0; code < this.codes.length; code++) {
-      if (isSame(octets, begin, past, this.codes[code])) {
-        return code;
-      }
+      if (isSame(octets, begin, past, this.codes[code])) return code;
     }
     return -1;
   }
@@ -71,13 +69,9 @@ class Actions {
 
 /** @param {Uint8Array} octets @param {number} begin @param {number} past @param {Uint8Array} wanted */
 function isSame(octets, begin, past, wanted) {
-  if (past - begin !== wanted.length) {
-    return false;
-  }
+  if (past - begin !== wanted.length) return false;
   for (let at = 0; at < wanted.length; at++) {
-    if (octets[begin + at] !== wanted[at]) {
-      return false;
-    }
+    if (octets[begin + at] !== wanted[at]) return false;
   }
   return true;
 }
@@ -140,9 +134,7 @@ export class DumpReader {
    */
   timeOf(octets, begin, past) {
     const time = timeOf(octets, begin, past);
-    if (time < this.time) {
-      throw new Fault(`#${time} stands after #${this.time}, which is a later time`);
-    }
+    if (time < this.time) throw new Fault(`#${time} stands after #${this.time}, which is a later time`);
     return time;
   }
 
@@ -201,14 +193,10 @@ const isTime = (word) => word[0] === HASH && word.subarray(1).every((digit) => d
  * @param {number} past
  */
 function timeOf(octets, begin, past) {
-  if (past - begin - 1 > EXACT_DIGITS || past - begin === 1) {
-    return otherTimeOf(octets, begin, past);
-  }
+  if (past - begin - 1 > EXACT_DIGITS || past - begin === 1) return otherTimeOf(octets, begin, past);
   let time = 0;
   for (let at = begin + 1; at < past; at++) {
-    if (octets[at] < ZERO || octets[at] > NINE) {
-      return otherTimeOf(octets, begin, past);
-    }
+    if (octets[at] < ZERO || octets[at] > NINE) return otherTimeOf(octets, begin, past);
     time = time * 10 + (octets[at] - ZERO);
   }
   return time;
@@ -218,9 +206,7 @@ function timeOf(octets, begin, past) {
 function otherTimeOf(octets, begin, past) {
   const text = decoded(octets.subarray(begin, past));
   const time = wholeOf(text.slice(1));
-  if (Number.isNaN(time)) {
-    throw new Fault(`${text} is no time`);
-  }
+  if (Number.isNaN(time)) throw new Fault(`${text} is no time`);
   return safeTime(time, text);
 }
 

@@ -3,13 +3,13 @@
  * blamed on the bus.
  */
 
+import { BAD_VERDICTS, DAMAGE } from "../listing/kinds.js";
+import { listed } from "./units.js";
+
 /** @typedef {import("../recording/seams.js").Stretch} Stretch */
 
 /** So many bits before and after are beside: no command and its answer take as many. */
 const NEAR = 1024;
-
-const PIECES = new Set(["damaged", "overlong", "abort"]);
-const VERDICTS = new Set(["missing", "spoilt", "late"]);
 
 /** What is told of each sort: in the singular and in the plural. */
 const WORDS = {
@@ -53,7 +53,7 @@ export class Beside {
    */
   takes({ kind, line, first, past: end }, past) {
     if (this.stretches.length === 0) return false;
-    const sort = PIECES.has(kind) ? "pieces" : VERDICTS.has(kind) ? "verdicts" : kind === "stray" ? "strays" : null;
+    const sort = DAMAGE.includes(kind) ? "pieces" : BAD_VERDICTS.includes(kind) ? "verdicts" : kind === "stray" ? "strays" : null;
     if (sort === null || !this.isNear(first, sort === "verdicts" ? past : end)) return false;
     this.counts[sort] += 1;
     if (sort === "pieces") this.lines[line ?? 1] += 1;
@@ -64,6 +64,6 @@ export class Beside {
   get text() {
     const sorts = /** @type {const} */ (["pieces", "verdicts", "strays"]).filter((sort) => this.counts[sort] > 0);
     const texts = sorts.map((sort) => `${this.counts[sort]} ${WORDS[sort][this.counts[sort] === 1 ? 0 : 1]}`);
-    return texts.length < 2 ? texts.join("") : `${texts.slice(0, -1).join(", ")} and ${texts[texts.length - 1]}`;
+    return listed(texts);
   }
 }

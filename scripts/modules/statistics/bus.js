@@ -40,10 +40,10 @@ export class Bus {
     this.pending = new Counts();
     /** @type {number|null} */
     this.waiting = null; // the place after the command that waits at the end
-    this.rests = new Rests(rate);
+    this.beside = new Beside(unsure);
+    this.rests = new Rests(rate, this.beside);
     this.answers = new Answers();
     this.alone = new Alone();
-    this.beside = new Beside(unsure);
     this.misfits = { length: new Counts(), unknown: new Counts() }; // frames without an entry that fits
     /** @type {Row|null} */
     this.before = null; // the line that settles a verdict: the last one that is no stray
@@ -82,9 +82,7 @@ export class Bus {
   takeFrame(row) {
     if (row.name !== "") {
       this.named = true;
-      if (isUnfit(row.name)) {
-        this.misfits[row.name === "length" ? "length" : "unknown"].add(row.station, row.type);
-      }
+      if (isUnfit(row.name)) this.misfits[row.name === "length" ? "length" : "unknown"].add(row.station, row.type);
     }
     if (row.type !== null && row.type >= ANSWER && row.line === 1) this.answersOnFirst += 1;
     if (row.type !== null && row.type < ANSWER) {
@@ -119,11 +117,6 @@ export class Bus {
       case "spoilt":
         this.commandsOf(row).judge(row.kind, row, before);
         break;
-      case "damaged":
-      case "overlong":
-      case "abort":
-        this.takeDamage(row);
-        break;
       case "stray":
         if (!this.answersWhatCameBefore) this.strays.add(row.station, row.type);
         break;
@@ -131,6 +124,11 @@ export class Bus {
         this.pending.add(row.station, row.type);
         this.waiting = row.past;
         break;
+      case "idle":
+      case "open":
+        break;
+      default:
+        this.takeDamage(row);
     }
   }
 
@@ -140,20 +138,17 @@ export class Bus {
    */
   takeSome(rows) {
     for (const row of rows) {
-      if (this.rows === 0 || row.first < this.first) {
-        this.first = row.first;
-      }
+      if (this.rows === 0 || row.first < this.first) this.first = row.first;
       this.past = Math.max(this.past, row.past);
       this.lines = row.line === null ? 1 : 2;
-      this.rests.take(row, this.rows);
+      const rest = this.rests.take(row, this.rows);
+      if (rest > 0) this.commands.each((commands) => (commands.rested = Math.max(commands.rested, rest)));
       const isBeside = this.beside.takes(row, this.past);
       if (!isBeside) this.answers.take(row, this.rows, this.damaged);
       if (!isBeside) this.alone.take(row, this.rows, this.damaged);
       this.rows += 1;
       if (!isBeside) this.take(row, this.before);
-      if (row.kind !== "stray") {
-        this.before = row;
-      }
+      if (row.kind !== "stray") this.before = row;
     }
   }
 

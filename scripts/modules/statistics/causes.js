@@ -1,22 +1,18 @@
 // Causes of several sentences: each is one sentence in place of these.
 
-import { usualGap } from "./gaps.js";
+import { counted } from "../text.js";
+import { FAR, usualGap } from "./gaps.js";
 import { REST_SECONDS } from "./rests.js";
-import { counted, unitsOf } from "./units.js";
+import { lengthOf } from "./units.js";
 
+/** @typedef {import("./sentences.js").Seen} Seen */
 /** @typedef {import("./sentences.js").Sentence} Sentence */
-
-/**
- * A sentence in place of those that it takes.
- * @typedef {Sentence & { takes: (sentence: Sentence) => boolean }} Cause
- */
 
 /**
  * A rest at the end is reported where it is so many times as long as any before, and as the least usual gap of commands.
  * Where no gap is usual yet, it has to last so many seconds.
  */
 const REST_TIMES = 3;
-const GAP_TIMES = 1.5;
 const LONG_SECONDS = 1;
 
 /** So many commands in a row without an answer, of all stations, are one sentence. */
@@ -26,26 +22,16 @@ const FEWEST_UNANSWERED = 3;
 const FEWEST_UNHEARD = 4;
 
 /**
- * A length of time, long ones in seconds.
- * @param {number} bits
- * @param {number} rate
- */
-export function lengthOf(bits, rate) {
-  return bits < rate ? unitsOf(rate).duration(bits) : `${(bits / rate).toFixed(1)} s`;
-}
-
-/**
  * That nothing came any more before the recording ended, which a listing alone does not show.
- * @param {import("./bus.js").Bus} bus
- * @param {number|null} end of the recording in bits, where it is known
- * @returns {Cause[]}
+ * @param {Seen} seen
+ * @returns {Sentence[]}
  */
-export function deadEnd(bus, end) {
+export function deadEnd({ bus, end }) {
   if (end === null || bus.beside.isAll) return [];
   const { reached, longest, last } = bus.rests;
   const rest = end - reached;
   const usual = bus.commands.sorted().map(([, commands]) => usualGap(commands)).filter((gap) => gap > 0);
-  const least = usual.length > 0 ? GAP_TIMES * Math.min(...usual) : LONG_SECONDS * bus.rate;
+  const least = usual.length > 0 ? FAR * Math.min(...usual) : LONG_SECONDS * bus.rate;
   if (last < 0 || rest < least || rest < REST_TIMES * longest || rest < REST_SECONDS * bus.rate) return [];
   const units = bus.units;
   const lines = bus.lines === 1 ? "the line" : "either line";
@@ -59,37 +45,43 @@ export function deadEnd(bus, end) {
 
 /**
  * That no command was sent at all for a while, of which otherwise each kind of commands has a sentence.
- * @param {import("./bus.js").Bus} bus
+ * @param {Seen} seen
  * @param {Sentence[]} sentences
- * @returns {Cause[]}
+ * @returns {Sentence[]}
  */
-export function quietBus(bus, sentences) {
-  const found = bus.rests.ofCommands.found.filter(({ first, past }) => !bus.beside.isNear(first, past));
-  const holes = sentences.flatMap(({ hole }) => (hole !== undefined && hole.where !== "end" ? [hole] : []));
-  const [longest] = [...found].sort((one, other) => other.past - other.first - (one.past - one.first));
+export function quietBus({ bus }, sentences) {
+  const found = bus.rests.longestOnes;
+  const [longest] = found;
   if (longest === undefined) return [];
-  const own = holes.filter(({ gap }) => gap.first <= longest.first && longest.past <= gap.first + gap.length);
-  if (own.length < 2) return [];
   const length = longest.past - longest.first;
   const places = found.filter((rest) => 2 * (rest.past - rest.first) >= length);
-  const others = counted(places.length - 1, "other time");
-  const more = places.length > 1 ? ` It was as quiet for half as long or longer ${others}.` : "";
+  const count = Math.max(places.length, bus.rests.countOf(length / 2));
+  /** @param {import("./gaps.js").Gap} gap */
+  const isQuiet = (gap) =>
+    places.some((rest) => {
+      const isWithin = gap.first <= rest.first && rest.past <= gap.first + gap.length;
+      return isWithin && (rest === longest || 2 * (rest.past - rest.first) >= gap.length);
+    });
+  const holes = sentences.flatMap(({ hole }) => (hole !== undefined && hole.where !== "end" ? [hole] : []));
+  const own = holes.filter(({ gap, where, isQuiet: isOfRests }) => (isOfRests || where === "begin") && isQuiet(gap));
+  if (own.length < 2) return [];
+  const more = count > 1 ? ` It was as quiet for half as long or longer ${counted(count - 1, "other time")}.` : "";
   const begin = bus.units.moment(longest.first);
   const text =
     `No command was sent to any station for ${lengthOf(length, bus.rate)} from ${begin} on, ` +
     `of ${counted(own.length, "type")} that otherwise come regularly.${more}`;
-  const sorted = [longest, ...places.filter((rest) => rest !== longest)];
+  const sorted = [longest, ...places.slice(1).sort((one, other) => one.first - other.first)];
   /** @param {Sentence} sentence */
   const takes = ({ hole }) => hole !== undefined && own.includes(hole);
-  return [{ sort: "quiet", text, count: places.length, places: sorted, takes }];
+  return [{ sort: "quiet", text, count, places: sorted, takes }];
 }
 
 /**
  * That some of what is wrong is the recording's fault.
- * @param {import("./bus.js").Bus} bus
- * @returns {Cause[]}
+ * @param {Seen} seen
+ * @returns {Sentence[]}
  */
-export function besideSeams({ beside }) {
+export function besideSeams({ bus: { beside } }) {
   const { isAll, total, text: what } = beside;
   if (total === 0 && !isAll) return [];
   const [blame, stands] = ["no station is to blame for what is wrong there.", total === 1 ? "stands" : "stand"];
@@ -140,11 +132,11 @@ function misread(bus, lines) {
 
 /**
  * Lines without a frame, or of which one does not have its own: then no other sentence says more of the wires.
- * @param {import("./bus.js").Bus} bus
+ * @param {Seen} seen
  * @param {Sentence[]} sentences
- * @returns {Cause[]}
+ * @returns {Sentence[]}
  */
-export function wrongWires(bus, sentences) {
+export function wrongWires({ bus }, sentences) {
   if (bus.lines === 1 || bus.beside.isAll || sentences.some(({ sort }) => sort === "lines")) return [];
   const { frames } = bus.alone;
   const damaged = { 1: damagedOn(bus, 1), 2: damagedOn(bus, 2) };
@@ -159,7 +151,7 @@ export function wrongWires(bus, sentences) {
 /**
  * That frames come on line 2, and none on line 1, from the beginning, from a time on or for a while.
  * @param {import("./bus.js").Bus} bus
- * @returns {Cause[]}
+ * @returns {Sentence[]}
  */
 function unheard(bus) {
   const { longest, run, frames } = bus.alone;
@@ -181,41 +173,51 @@ function unheard(bus) {
   const isWithin = (gap) => gap.first + gap.length > (begin?.first ?? bus.first) && gap.first < (past ?? Infinity);
   /** @param {Sentence} sentence */
   const takes = ({ sort, count, hole }) =>
-    (sort === "stray" && (isNever || count === strays)) ||
-    (isAllDamage && OF_DAMAGE.has(sort)) ||
+    (sort === "stray" && (isNever || count === strays)) || (isAllDamage && OF_DAMAGE.has(sort)) ||
     (hole !== undefined && isWithin(hole.gap));
   const place = begin ?? { row: 0, first: bus.first, past: bus.first };
   return [{ sort: "wires", text, line: 1, count: longest.frames, places: [place], takes }];
 }
 
 /**
- * That no station answers any more, of which otherwise each station has a sentence.
- * @param {import("./bus.js").Bus} bus
+ * That no station answers any more, or for a while, of which otherwise each station has a sentence.
+ * @param {Seen} seen
  * @param {Sentence[]} sentences
- * @returns {Cause[]}
+ * @returns {Sentence[]}
  */
-export function noAnswers(bus, sentences) {
-  const { answers, missing } = bus.answers;
-  if (bus.beside.isAll || sentences.some(({ sort }) => sort === "lines") || (bus.lines === 2 && bus.alone.frames[2] === 0)) return [];
-  const kinds = missing.kinds.sorted();
-  if (missing.begin === null || missing.total < FEWEST_UNANSWERED || kinds.length < 2) return [];
-  const when = answers === 0 ? "" : ` from ${bus.units.moment(missing.begin.first)} on`;
-  const stations = counted(new Set(kinds.map(([{ station }]) => station)).size, "station");
-  const text = `No station answered${when}: ${counted(missing.total, "command")} in a row, to ${stations}.`;
+export function noAnswers({ bus }, sentences) {
+  const isNever = bus.lines === 2 && bus.alone.frames[2] === 0;
+  if (bus.beside.isAll || sentences.some(({ sort }) => sort === "lines") || isNever) return [];
+  const { answers, within, rows, places, ofRows, longest, goesOn } = bus.answers.upTo(bus.past, bus.damaged);
+  if (longest === null) return [];
+  const { place, total, kinds } = longest;
+  const isLast = goesOn && place === places[places.length - 1];
+  const { units } = bus;
+  const [from, to] = [units.moment(place.first), units.moment(place.past)];
+  const when = answers === 0 ? "" : isLast ? ` from ${from} on` : ` from ${from} to ${to}`;
+  const stations = counted(new Set(kinds.sorted().map(([{ station }]) => station)).size, "station");
+  const others = rows > 1 ? ` So it was ${counted(rows - 1, "other time")}.` : "";
+  const cure = isLast ? "" : " Is a wire of the second pair loose?";
+  const text = `No station answered${when}: ${counted(total, "command")} in a row, to ${stations}.${others}${cure}`;
+  const ofStation = (/** @type {number|undefined} */ wanted) =>
+    ofRows.kinds.sorted().reduce((sum, [{ station }, { count }]) => sum + (station === wanted ? count : 0), 0);
   /** @param {Sentence} sentence */
-  const isOwn = ({ kind, commands }) =>
-    kind?.type == null ? answers === 0 : missing.of(kind) === commands?.verdicts.missing;
-  const isAllDamage = bus.answers.damaged === 0 && damagedOn(bus, 2) === bus.damaged;
+  const isOwn = ({ kind, commands, count }) => {
+    if (kind?.type == null) return answers === 0 || ofStation(kind?.station) === count;
+    return ofRows.of(kind) === commands?.verdicts.missing;
+  };
+  const isAllDamage = within === bus.damaged && damagedOn(bus, 2) === bus.damaged;
   /** @param {Sentence} sentence */
   const takes = (sentence) =>
     (isUnanswered(sentence) && isOwn(sentence)) || (isAllDamage && OF_DAMAGE.has(sentence.sort));
-  return [{ sort: "mute", text, count: missing.total, places: [missing.begin], takes }];
+  const sorted = [place, ...places.filter((other) => other !== place)];
+  return [{ sort: "mute", text, count: rows > 1 ? rows : total, places: sorted, isOver: !isLast, takes }];
 }
 
 /**
  * That no frame came on line 2.
  * @param {import("./bus.js").Bus} bus
- * @returns {Cause}
+ * @returns {Sentence}
  */
 function neverAnswered(bus) {
   const { first, damaged, answers: { missing } } = bus;

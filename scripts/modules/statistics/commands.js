@@ -1,12 +1,19 @@
-import { isUnfit } from "../listing/kinds.js";
+import { VERDICTS, isUnfit, noVerdicts } from "../listing/kinds.js";
 import { ANSWER } from "../port1.js";
 import { Histogram } from "./histogram.js";
+
+/** @typedef {import("../listing/kinds.js").Verdict} Verdict */
 
 /**
  * A place, the counts of damaged pieces before it, and how many frames there are before it and, with the frame that
  * begins there, after it.
  * @typedef {{place: number, damage: number[], framesBefore: number, framesAfter: number}} Moment
  */
+
+/** @typedef {{from: Moment, to: Moment}} Gap */
+
+/** @param {Gap|null} gap */
+const lengthOf = (gap) => (gap === null ? 0 : gap.to.place - gap.from.place);
 
 /**
  * Commands in a row that had no answer: the place of the first one, and how many.
@@ -38,13 +45,17 @@ export class Commands {
   constructor() {
     this.name = "";
     this.sent = 0;
-    this.verdicts = { answered: 0, late: 0, missing: 0, spoilt: 0 };
+    this.verdicts = noVerdicts();
     this.times = { late: new Times(), missing: new Times() };
     this.inTime = new Histogram(); // times to answers, in bits
     this.late = new Histogram();
-    this.gaps = new Histogram(); // from the first bit of one command to that of the next
-    /** @type {{from: Moment, to: Moment}|null} */
-    this.longest = null;
+    this.gaps = new Histogram(); // from the first bit of one command to that of the next,
+    this.quiets = new Histogram(); // and those of them that a rest of all commands explains
+    /** @type {Gap|null} */
+    this.longest = null; // of the others
+    /** @type {Gap|null} */
+    this.longestQuiet = null;
+    this.rested = 0; // the longest rest of all commands since the last one of this kind
     /** @type {Moment|null} */
     this.first = null;
     /** @type {Moment|null} */
@@ -62,8 +73,7 @@ export class Commands {
 
   /** How many have a verdict. */
   get decided() {
-    const { answered, late, missing, spoilt } = this.verdicts;
-    return answered + late + missing + spoilt;
+    return VERDICTS.reduce((sum, verdict) => sum + this.verdicts[verdict], 0);
   }
 
   /** How many have another verdict than answered. */
@@ -83,35 +93,41 @@ export class Commands {
    * @param {import("./beside.js").Beside} beside what a gap is not to be blamed on
    */
   send(name, now, beside) {
-    if (this.name === "" || isUnfit(this.name)) {
-      this.name = name;
-    }
+    if (this.name === "" || isUnfit(this.name)) this.name = name;
     this.sent += 1;
     this.first ??= now;
-    if (this.last !== null && !beside.isNear(this.last.place, now.place)) {
-      const length = now.place - this.last.place;
-      this.gaps.add(length);
-      if (this.longest === null || length > this.longest.to.place - this.longest.from.place) {
-        this.longest = { from: this.last, to: now };
-      }
-    }
+    if (this.last !== null && !beside.isNear(this.last.place, now.place)) this.addGap({ from: this.last, to: now });
     this.last = now;
+    this.rested = 0;
+  }
+
+  /** @param {Gap} gap which a rest of all commands explains that is at least half as long */
+  addGap(gap) {
+    const length = lengthOf(gap);
+    this.gaps.add(length);
+    if (2 * this.rested >= length) {
+      this.quiets.add(length);
+      if (length > lengthOf(this.longestQuiet)) this.longestQuiet = gap;
+    } else if (length > lengthOf(this.longest)) {
+      this.longest = gap;
+    }
+  }
+
+  /** The longest gap of all. */
+  get longestOfAll() {
+    return lengthOf(this.longestQuiet) > lengthOf(this.longest) ? this.longestQuiet : this.longest;
   }
 
   /**
    * Takes down what became of a command; the line before it in the listing tells why.
-   * @param {"answered"|"late"|"missing"|"spoilt"} kind
+   * @param {Verdict} kind
    * @param {import("./bus.js").Row} verdict
    * @param {import("./bus.js").Row|null} before
    */
   judge(kind, verdict, before) {
     this.verdicts[kind] += 1;
-    if (kind === "late" || kind === "missing") {
-      this.times[kind].add(verdict.first);
-    }
-    if (verdict.replyBits !== null) {
-      (kind === "late" ? this.late : this.inTime).add(verdict.replyBits);
-    }
+    if (kind === "late" || kind === "missing") this.times[kind].add(verdict.first);
+    if (verdict.replyBits !== null) (kind === "late" ? this.late : this.inTime).add(verdict.replyBits);
     if (kind === "missing") {
       this.miss(verdict, before);
     } else if (kind === "spoilt") {
@@ -128,13 +144,9 @@ export class Commands {
    */
   miss(verdict, before) {
     const { silence } = this;
-    if (silence.commands === 0) {
-      silence.first = verdict.first;
-    }
+    if (silence.commands === 0) silence.first = verdict.first;
     silence.commands += 1;
-    if (silence.commands > this.longestSilence.commands) {
-      this.longestSilence = { ...silence };
-    }
+    if (silence.commands > this.longestSilence.commands) this.longestSilence = { ...silence };
     if (before !== null && before.type !== null && before.type >= ANSWER && before.line !== 1) {
       this.replaced += 1;
       this.replacement = before;

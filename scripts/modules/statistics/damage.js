@@ -74,9 +74,7 @@ function stretchesOf(bus, many) {
 function stretches(bus) {
   for (const many of SLOTS) {
     const found = stretchesOf(bus, many).sort((one, other) => other.pieces - one.pieces);
-    if (found.length > 0) {
-      return found.slice(0, SHOWN_STRETCHES);
-    }
+    if (found.length > 0) return found.slice(0, SHOWN_STRETCHES);
   }
   return [];
 }
@@ -101,9 +99,7 @@ function toldStretch({ begin, length, pieces }, { dayTime, damaged, first, rate 
  * @returns {{sentence: string, where: string, stretches: Stretch[]}}
  */
 export function damageOf(bus) {
-  if (bus.damaged === 0) {
-    return { sentence: "", where: "", stretches: [] };
-  }
+  if (bus.damaged === 0) return { sentence: "", where: "", stretches: [] };
   const found = stretches(bus).map((stretch) => toldStretch(stretch, bus));
   const spread = bus.damaged >= FEWEST_PIECES ? "It is spread over the time." : "";
   return {

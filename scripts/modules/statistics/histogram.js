@@ -8,9 +8,7 @@ const EXACT = 2 ** DIGITS;
  * @param {number} number
  */
 function classOf(number) {
-  if (number < EXACT && number > -EXACT) {
-    return number;
-  }
+  if (number < EXACT && number > -EXACT) return number;
   let width = 2;
   for (let rest = Math.abs(number); rest >= 2 * EXACT; rest /= 2) {
     width *= 2;
@@ -37,12 +35,8 @@ export class Histogram {
   add(number) {
     const key = classOf(number);
     this.counts.set(key, (this.counts.get(key) ?? 0) + 1);
-    if (number < this.least || this.total === 0) {
-      this.least = number;
-    }
-    if (number > this.most) {
-      this.most = number;
-    }
+    if (number < this.least || this.total === 0) this.least = number;
+    if (number > this.most) this.most = number;
     this.total += 1;
   }
 
@@ -82,9 +76,7 @@ export class Histogram {
     let passed = 0;
     for (const [key, count] of this.pairs()) {
       passed += count;
-      if (passed >= wanted) {
-        return Math.max(this.least, key);
-      }
+      if (passed >= wanted) return Math.max(this.least, key);
     }
     return 0;
   }

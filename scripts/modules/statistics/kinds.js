@@ -34,6 +34,11 @@ export class Kinds {
     return found;
   }
 
+  /** @param {(value: V) => void} say */
+  each(say) {
+    for (const types of this.stations.values()) types.forEach(say);
+  }
+
   /**
    * The kinds with their values, by station and then by type.
    * @returns {[Kind, V][]}
@@ -67,6 +72,14 @@ export class Counts {
   add(station, type) {
     this.kinds.at(station, type, newCount).count += 1;
     this.total += 1;
+  }
+
+  /** @param {Counts} others */
+  addAll(others) {
+    for (const [{ station, type }, { count }] of others.kinds.sorted()) {
+      this.kinds.at(station, type, newCount).count += count;
+    }
+    this.total += others.total;
   }
 
   /**

@@ -11,7 +11,7 @@ import { NOTHING_KNOWN, wrong } from "./wrong.js";
  * @param {Commands} commands
  * @param {Bus} bus
  */
-function longestGap({ first, last, longest }, bus) {
+function longestGap({ first, last, longestOfAll: longest }, bus) {
   if (first === null || last === null) return null;
   const between = longest === null ? 0 : longest.to.place - longest.from.place;
   return Math.max(between, first.place - bus.first, bus.past - last.place);
@@ -56,7 +56,7 @@ export function objectOf(bus, known = NOTHING_KNOWN) {
   const { lacks, notes } = verdictOf(bus, known, sentences);
   return {
     ...{ rate, lines, seconds: (bus.past - bus.first) / rate, frames, damaged, hasDictionary: named },
-    pending: bus.pending.total,
+    ...{ pending: bus.pending.total, strays: bus.strays.total },
     damagedPercent: percent(damaged, frames + damaged),
     damage: bus.damage.sorts.map(({ line, cause, count }) => ({ line, cause, count })),
     kinds: bus.commands.sorted().map((kind) => kindOf(kind, bus)),

@@ -35,9 +35,7 @@ export class Tally {
    */
   sortOf(line, cause) {
     for (const sort of this.sorts) {
-      if (sort.line === line && sort.cause === cause) {
-        return sort;
-      }
+      if (sort.line === line && sort.cause === cause) return sort;
     }
     const sort = { line, cause, count: 0 };
     this.sorts.push(sort);

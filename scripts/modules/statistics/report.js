@@ -1,7 +1,7 @@
+import { counted } from "../text.js";
 import { damageOf } from "./damage.js";
 import { headLine } from "./sentences.js";
 import { tableOf } from "./table.js";
-import { counted } from "./units.js";
 import { verdictOf } from "./verdict.js";
 import { NOTHING_KNOWN, wrong } from "./wrong.js";
 

@@ -1,6 +1,7 @@
 import { isUnfit } from "../listing/kinds.js";
+import { counted } from "../text.js";
 import { piecesNamed, sumOf } from "./pieces.js";
-import { counted, spanOf } from "./units.js";
+import { spanOf } from "./units.js";
 
 // How many kinds are named in a sentence on frames.
 const MOST_NAMED = 6;
@@ -24,6 +25,17 @@ const MOST_NAMED = 6;
  * @property {import("./gaps.js").Hole} [hole]
  * @property {number} [limit] of replies, in bits
  * @property {import("./rests.js").Place[]} [places] of a common cause
+ * @property {boolean} [isOver] whether it is a common cause that has come to an end
+ * @property {(sentence: Sentence) => boolean} [takes] whether it stands in place of another
+ */
+
+/**
+ * All that is looked at: what was counted, where the recording ends, the dictionary, and times without a command.
+ * @typedef {object} Seen
+ * @property {import("./bus.js").Bus} bus
+ * @property {number|null} end
+ * @property {import("../dictionary/dictionary.js").Entry[]|null} entries
+ * @property {import("./gaps.js").Hole[]} gaps
  */
 
 /** @typedef {[import("./kinds.js").Kind, import("./commands.js").Commands]} KindOfCommands */
@@ -56,9 +68,7 @@ function contentsOf(gap, bus) {
     const meaning = isOnFirst ? "commands may have been destroyed" : "but none on line 1, where commands are";
     return `${damaged} damaged ${lay} within (${piecesNamed(gap.damage)}): ${meaning}.`;
   }
-  if (gap.frames !== 0) {
-    return "Nothing damaged lay within, but other frames: it seems that none were sent.";
-  }
+  if (gap.frames !== 0) return "Nothing damaged lay within, but other frames: it seems that none were sent.";
   return `No frame and nothing damaged lay within: the ${bus.lines === 1 ? "line was" : "lines were"} at rest.`;
 }
 
@@ -89,15 +99,16 @@ function sentenceOfHole(hole, bus, units) {
   return { sort: "gap", text, shown, kind, line: bus.lines === 1 ? null : 1, count: 1 + others, commands, hole };
 }
 
+/** @param {Seen} seen @returns {Sentence[]} */
+export const ofGaps = ({ bus, gaps }) => gaps.map((hole) => sentenceOfHole(hole, bus, bus.units));
+
 /**
  * What came in place of answers, if it was another answer.
  * @param {import("./commands.js").Commands} commands
  */
 function replacement(commands) {
   const row = commands.replacement;
-  if (row === null) {
-    return "";
-  }
+  if (row === null) return "";
   const name = isUnfit(row.name) ? `, ${row.name}` : "";
   const times = commands.replaced === 1 ? "once" : `${commands.replaced} times`;
   return ` In place of the answer came ${times} another one, last of station ${row.station}, type ${row.type}${name}.`;
@@ -120,9 +131,7 @@ function byStation(bus) {
   /** @type {Map<number, KindOfCommands[]>} */
   const stations = new Map();
   for (const [kind, commands] of bus.commands.sorted()) {
-    if (commands.decided > 0) {
-      stations.set(kind.station, [...(stations.get(kind.station) ?? []), [kind, commands]]);
-    }
+    if (commands.decided > 0) stations.set(kind.station, [...(stations.get(kind.station) ?? []), [kind, commands]]);
   }
   return stations;
 }
@@ -136,13 +145,11 @@ function sentenceOfSilentStation(station, kinds) {
   return { sort: "silent", text, kind: { station, type: null }, count: total };
 }
 
-/** @param {import("./bus.js").Bus} bus @returns {Sentence[]} */
-function sentencesOfSilent(bus) {
+/** @param {Seen} seen @returns {Sentence[]} */
+export function ofSilent({ bus }) {
   return [...byStation(bus)].flatMap(([station, kinds]) => {
     const quiet = kinds.filter(([, commands]) => isSilent(commands));
-    if (quiet.length === kinds.length) {
-      return [sentenceOfSilentStation(station, kinds)];
-    }
+    if (quiet.length === kinds.length) return [sentenceOfSilentStation(station, kinds)];
     return quiet.map(([kind, commands]) => {
       const text =
         `Station ${station} answered none of ${counted(commands.decided, "command")} of` +
@@ -174,8 +181,9 @@ function whenOf({ count, places, last }, units) {
   return `at ${units.moments(places)}`;
 }
 
-/** @param {import("./bus.js").Bus} bus @param {import("./units.js").Units} units @returns {Sentence[]} */
-function sentencesOfMissing(bus, units) {
+/** @param {Seen} seen @returns {Sentence[]} */
+export function ofMissing({ bus }) {
+  const { units } = bus;
   const some = worst(bus, "missing").filter(([, commands]) => !isSilent(commands));
   return some.map(([kind, commands]) => {
     const { missing } = commands.verdicts;
@@ -193,16 +201,15 @@ function sentencesOfMissing(bus, units) {
 
 /** @param {import("./commands.js").Commands} commands @param {import("./units.js").Units} units */
 function repliesOfLate(commands, units) {
-  if (commands.late.total === 0) {
-    return "";
-  }
+  if (commands.late.total === 0) return "";
   const { inTime } = commands;
   const others = inTime.total > 0 ? `in time after ${spanOf(inTime, units)}` : "none in time";
   return `: after ${spanOf(commands.late, units)}; ${others}`;
 }
 
-/** @param {import("./bus.js").Bus} bus @param {import("./units.js").Units} units @returns {Sentence[]} */
-function sentencesOfLate(bus, units) {
+/** @param {Seen} seen @returns {Sentence[]} */
+export function ofLate({ bus }) {
+  const { units } = bus;
   return worst(bus, "late").map(([kind, commands]) => {
     const { late } = commands.verdicts;
     const what =
@@ -214,8 +221,8 @@ function sentencesOfLate(bus, units) {
   });
 }
 
-/** @param {import("./bus.js").Bus} bus @returns {Sentence[]} */
-function sentencesOfSpoilt(bus) {
+/** @param {Seen} seen @returns {Sentence[]} */
+export function ofSpoilt({ bus }) {
   return worst(bus, "spoilt").map(([kind, commands]) => {
     const numbered = /** @type {const} */ ([1, 2]).filter((line) => commands.spoiltBy.has(line));
     const lines = numbered.map((line) => `${commands.spoiltBy.get(line)} on line ${line}`).join(" and ");
@@ -234,33 +241,39 @@ function kindsCounted(counts) {
   return most.map(([{ station, type }, count]) => `station ${station} type ${type}: ${count}`).join(", ");
 }
 
+/** @param {Seen} seen @returns {Sentence[]} */
+export function ofDamage({ bus: { damaged } }) {
+  const text = `${counted(damaged, "piece")} ${isOrAre(damaged)} damaged`;
+  return damaged === 0 ? [] : [{ sort: "damage", count: damaged, text: `${text}; see below.`, shown: `${text}.` }];
+}
+
 /**
- * What else is wrong: damage, frames that are no answers, and what the dictionary does not fit.
- * @param {import("./bus.js").Bus} bus
+ * @param {Sort} sort
+ * @param {import("./kinds.js").Counts} counts
+ * @param {string} what they are
  * @returns {Sentence[]}
  */
-function sentencesOfRest(bus) {
-  const { length, unknown: lacking } = bus.misfits;
-  const damaged = `${counted(bus.damaged, "piece")} ${isOrAre(bus.damaged)} damaged`;
-  /** @param {import("./kinds.js").Counts} counts @param {string} meaning */
-  const framesOf = (counts, meaning) =>
-    `${counted(counts.total, "frame")} of ${meaning}, most of ${kindsCounted(counts)}.`;
-  const strays = `${counted(bus.strays.total, "stray")}, frames of answers to no command`;
-  /** @type {Sentence[]} */
-  const found = [
-    { sort: "damage", count: bus.damaged, text: `${damaged}; see below.`, shown: `${damaged}.` },
-    { sort: "length", count: length.total, text: framesOf(length, "another length than in the dictionary") },
-    { sort: "unknown", count: lacking.total, text: framesOf(lacking, "a type that it lacks") },
-    { sort: "stray", count: bus.strays.total, text: `${strays}, most of ${kindsCounted(bus.strays)}.` },
-  ];
-  return found.filter(({ count }) => count !== 0);
+function sentencesOfFrames(sort, counts, what) {
+  return counts.total === 0 ? [] : [{ sort, count: counts.total, text: `${what}, most of ${kindsCounted(counts)}.` }];
 }
+
+/** @param {Seen} seen */
+export const ofLength = ({ bus: { misfits: { length } } }) =>
+  sentencesOfFrames("length", length, `${counted(length.total, "frame")} of another length than in the dictionary`);
+
+/** @param {Seen} seen */
+export const ofUnknown = ({ bus: { misfits: { unknown } } }) =>
+  sentencesOfFrames("unknown", unknown, `${counted(unknown.total, "frame")} of a type that it lacks`);
+
+/** @param {Seen} seen */
+export const ofStrays = ({ bus: { strays } }) =>
+  sentencesOfFrames("stray", strays, `${counted(strays.total, "stray")}, frames of answers to no command`);
 
 /** Lines that are exchanged read well: where much is damaged, data is read with the clock of the other line. */
 const MUCH_DAMAGE = 0.1;
 
-/** @param {import("./bus.js").Bus} bus @returns {Sentence[]} */
-function sentencesOfLines(bus) {
+/** @param {Seen} seen @returns {Sentence[]} */
+export function ofLines({ bus }) {
   const forward = sum(bus.commands.sorted().map(([, commands]) => commands.sent));
   if (Math.max(bus.backward, bus.answersOnFirst) <= forward) return [];
   const isOfData = bus.backward <= forward || bus.damaged > MUCH_DAMAGE * bus.frames;
@@ -269,27 +282,6 @@ function sentencesOfLines(bus) {
   const [count, line] = isOnFirst ? [counted(bus.answersOnFirst, "answer"), 1] : [counted(bus.backward, "command"), 2];
   const text = `${count} came on line ${line}: are the ${what} exchanged?`;
   return [{ sort: "lines", text, line: isOnFirst ? 1 : 2, count: isOnFirst ? bus.answersOnFirst : bus.backward }];
-}
-
-/**
- * What is wrong, in sentences by their sort: those that can put a cabinet into flash come first.
- * @param {import("./bus.js").Bus} bus
- * @param {import("./gaps.js").Hole[]} gaps times without a command
- * @param {Sentence[]} slow replies
- * @returns {Sentence[][]}
- */
-export function sentencesBySort(bus, gaps, slow) {
-  const units = bus.units;
-  return [
-    sentencesOfLines(bus),
-    gaps.map((hole) => sentenceOfHole(hole, bus, units)),
-    sentencesOfSilent(bus),
-    sentencesOfMissing(bus, units),
-    sentencesOfLate(bus, units),
-    slow,
-    sentencesOfSpoilt(bus),
-    sentencesOfRest(bus),
-  ];
 }
 
 /**

@@ -1,5 +1,5 @@
+import { counted } from "../text.js";
 import { typeNamed } from "./sentences.js";
-import { counted } from "./units.js";
 
 /** @typedef {import("./bus.js").Bus} Bus */
 /** @typedef {import("./sentences.js").Sentence} Sentence */
@@ -9,16 +9,15 @@ const FEWEST = 10;
 const TIMES = 3;
 const LEAST_SECONDS = 0.001;
 
-/** Where more than one in so many takes as long, that is how the station is. */
+/** Where more than one in so many takes as long, that is how the station is, which is said. */
 const RARE = 5;
 
 /**
  * Replies that stand far out, of kinds of commands that have no window: nothing else judges them.
- * @param {Bus} bus
- * @param {import("../dictionary/dictionary.js").Entry[]|null} entries of the dictionary, where it is known
+ * @param {import("./sentences.js").Seen} seen
  * @returns {Sentence[]}
  */
-export function slowOf(bus, entries) {
+export function slowOf({ bus, entries }) {
   const timed = new Set((entries ?? []).filter(({ window }) => window > 0).map(({ type }) => type));
   return bus.commands.sorted().flatMap(([kind, commands]) => {
     const { inTime, late } = commands;
@@ -26,7 +25,7 @@ export function slowOf(bus, entries) {
     const usual = inTime.quantile(50);
     const limit = Math.max(TIMES * usual, usual + LEAST_SECONDS * bus.rate);
     const count = inTime.above(limit);
-    if (count === 0 || count * RARE > inTime.total) return [];
+    if (count === 0) return [];
     return [sentenceOf(kind, commands, { usual, limit, count, isKnown: entries !== null }, bus)];
   });
 }
@@ -45,7 +44,8 @@ function sentenceOf(kind, commands, { usual, limit, count, isKnown }, bus) {
   const times = least === most ? least : `${least.slice(0, -" ms".length)} to ${most}`;
   const text =
     `Station ${kind.station} took ${times} for ${count} of ${counted(commands.inTime.total, "answer")} to ` +
-    `${typeNamed(kind, commands.name)}, where ${duration(usual)} is usual.` +
+    `${typeNamed(kind, commands.name)}, where ${duration(usual)} is usual` +
+    (count * RARE > commands.inTime.total ? ": that is how the station is, or its load." : ".") +
     (isKnown ? " No window says whether that is late." : "");
   return { sort: "slow", text, kind, count, commands, limit };
 }

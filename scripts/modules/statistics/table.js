@@ -1,3 +1,4 @@
+import { VERDICTS } from "../listing/kinds.js";
 import { usualGap } from "./gaps.js";
 
 /** @typedef {import("./commands.js").Commands} Commands */
@@ -14,15 +15,11 @@ import { usualGap } from "./gaps.js";
  */
 
 const NAMES = [
-  ...["station", "type", "name", "sent", "answered", "late", "missing", "spoilt", "%"],
+  ...["station", "type", "name", "sent", ...VERDICTS, "%"],
   ...["min", "median", "99 %", "max", "usual", "longest", "from s"],
 ];
 
-const GROUPS = new Map([
-  ["%", "bad"],
-  ["min", "reply"],
-  ["usual", "gap"],
-]);
+const GROUPS = new Map([["%", "bad"], ["min", "reply"], ["usual", "gap"]]);
 
 /** @type {readonly Head[]} */
 export const HEADS = Object.freeze(
@@ -40,11 +37,8 @@ const headsOf = ({ dayTime }) =>
 /** @param {Commands} commands */
 function verdictCells(commands) {
   const { decided, verdicts, bad } = commands;
-  if (decided === 0) {
-    return ["-", "-", "-", "-", "-"];
-  }
-  const counts = [verdicts.answered, verdicts.late, verdicts.missing, verdicts.spoilt];
-  return [...counts.map(String), ((100 * bad) / decided).toFixed(1)];
+  if (decided === 0) return [...VERDICTS.map(() => "-"), "-"];
+  return [...VERDICTS.map((verdict) => String(verdicts[verdict])), ((100 * bad) / decided).toFixed(1)];
 }
 
 /** @param {import("./histogram.js").Histogram} times @param {Units} units */
@@ -57,10 +51,9 @@ function replyCells(times, units) {
 function gapCells(commands, units) {
   const usual = usualGap(commands);
   const shown = usual === 0 ? "-" : units.milliseconds(usual);
-  if (commands.longest === null) {
-    return [shown, "-", "-"];
-  }
-  const { from, to } = commands.longest;
+  const { longestOfAll } = commands;
+  if (longestOfAll === null) return [shown, "-", "-"];
+  const { from, to } = longestOfAll;
   return [shown, units.milliseconds(to.place - from.place), units.clock(from.place)];
 }
 

@@ -51,6 +51,13 @@ function durationText(milliseconds) {
 }
 
 /**
+ * A length of time, long ones in seconds.
+ * @param {number} bits
+ * @param {number} rate
+ */
+export const lengthOf = (bits, rate) => (bits < rate ? unitsOf(rate).duration(bits) : `${(bits / rate).toFixed(1)} s`);
+
+/**
  * From the least to the most of some times.
  * @param {import("./histogram.js").Histogram} times
  * @param {Units} units
@@ -59,13 +66,6 @@ export function spanOf(times, units) {
   const [least, most] = [units.duration(times.least), units.duration(times.most)];
   return least === most ? least : `${least.slice(0, -" ms".length)} to ${most}`;
 }
-
-/**
- * @param {number} count
- * @param {string} what
- * @returns {string} as `1 frame` or `2 frames`
- */
-export const counted = (count, what) => (count === 1 ? `1 ${what}` : `${count} ${what}s`);
 
 /**
  * Several words in a sentence, as `a, b and c`.

@@ -1,4 +1,4 @@
-import { counted } from "./units.js";
+import { counted } from "../text.js";
 import { NOTHING_KNOWN, wrong } from "./wrong.js";
 
 /** @typedef {import("./bus.js").Bus} Bus */

@@ -1,7 +1,5 @@
-import { besideSeams, deadEnd, noAnswers, quietBus, wrongWires } from "./causes.js";
+import { FINDINGS, SORTS } from "./findings.js";
 import { holes } from "./gaps.js";
-import { sentencesBySort } from "./sentences.js";
-import { slowOf } from "./slow.js";
 
 /** @typedef {import("./sentences.js").Sentence} Sentence */
 
@@ -23,24 +21,11 @@ export const NOTHING_KNOWN = { end: null, entries: null };
 // The most sentences of one sort; the table has the rest.
 const MOST_TOLD = 6;
 
-/** The sorts that can put a cabinet into flash. */
-const FAULTS = new Set(["lines", "wires", "rest", "quiet", "mute", "gap", "silent"]);
-
 /** The sorts that exchanged lines explain. */
 const OF_EXCHANGED = new Set(["stray", "damage"]);
 
-/** So many missing answers in a row, or one in so many commands, can, too. */
-const ROW = 3;
-const SHARE = 100;
-
-/** @param {Sentence} sentence */
-function isFault({ sort, count = 0, commands }) {
-  if (sort !== "missing" || commands === undefined) return FAULTS.has(sort);
-  return commands.longestSilence.commands >= ROW || count * SHARE >= commands.decided;
-}
-
 /** @param {Sentence} sentence @returns {Judged} */
-const judged = (sentence) => ({ ...sentence, level: isFault(sentence) ? "fault" : "doubt" });
+const judged = (sentence) => ({ ...sentence, level: FINDINGS[sentence.sort].isFault(sentence) ? "fault" : "doubt" });
 
 /**
  * The first sentences of a sort, and how many more there are.
@@ -56,6 +41,20 @@ function told(sentences) {
 }
 
 /**
+ * The causes, each of which stands in place of sentences that no cause before it takes.
+ * @param {import("./sentences.js").Seen} seen
+ * @param {Sentence[]} all
+ */
+function causesOf(seen, all) {
+  /** @type {Sentence[]} */
+  const causes = [];
+  for (const sort of SORTS.filter((name) => FINDINGS[name].isCause)) {
+    causes.push(...FINDINGS[sort].find(seen, all.filter((sentence) => !causes.some(({ takes }) => takes?.(sentence)))));
+  }
+  return causes;
+}
+
+/**
  * What is wrong, in sentences, the most serious first, one for a common cause of several; and the times without a
  * command that have no such cause.
  * @param {import("./bus.js").Bus} bus
@@ -64,15 +63,14 @@ function told(sentences) {
  */
 export function judgedBus(bus, { end, entries }) {
   const gaps = holes(bus);
-  const sorts = sentencesBySort(bus, gaps, slowOf(bus, entries));
+  const seen = { bus, end, entries, gaps };
+  const sorts = SORTS.filter((sort) => !FINDINGS[sort].isCause).map((sort) => FINDINGS[sort].find(seen, []));
   const all = sorts.flat();
-  const wires = wrongWires(bus, all);
-  const others = all.filter((sentence) => !wires.some(({ takes }) => takes(sentence)));
-  const causes = [...besideSeams(bus), ...wires, ...deadEnd(bus, end), ...noAnswers(bus, others), ...quietBus(bus, others)];
+  const causes = causesOf(seen, all);
   const areExchanged = all.some(({ sort }) => sort === "lines");
   /** @param {Sentence} sentence */
   const isOwn = (sentence) =>
-    !causes.some(({ takes }) => takes(sentence)) && !(areExchanged && OF_EXCHANGED.has(sentence.sort));
+    !causes.some(({ takes }) => takes?.(sentence)) && !(areExchanged && OF_EXCHANGED.has(sentence.sort));
   const left = sorts.flatMap((sentences) => told(sentences.filter(isOwn).map(judged)));
   const found = [...causes.map(judged), ...left];
   const ofLevel = (/** @type {string} */ wanted) => found.filter(({ level }) => level === wanted);

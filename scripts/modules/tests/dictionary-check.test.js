@@ -4,7 +4,7 @@ import assert from "node:assert/strict";
 import { readFileSync } from "node:fs";
 import { test } from "node:test";
 
-import { findingsOf, findingsOfFile } from "../dictionary/check.js";
+import { remarksOf, remarksOfFile } from "../dictionary/check.js";
 import { faultsBySchema } from "../dictionary/schema.js";
 import { TOP } from "./support/scripts.js";
 
@@ -25,7 +25,7 @@ const said = (findings) => findings.map(({ line, text }) => `${line}: ${text}`);
 test("the dictionaries of examples/vectors", () => {
   assert.ok(VECTORS.length > 25);
   for (const row of VECTORS) {
-    const findings = findingsOf(textOf(row), SCHEMA);
+    const findings = remarksOf(textOf(row), SCHEMA);
     const inOrder = [...row.findings].sort((one, other) => Number.parseInt(one, 10) - Number.parseInt(other, 10));
     assert.deepEqual(said(findings), inOrder, textOf(row));
     assert.ok(findings.every((finding) => finding.isFault !== finding.text.includes(": remark: ")));
@@ -50,7 +50,7 @@ test("files that are no UTF-8 or no TOML, too deep, empty, or with line ends of 
     [Buffer.from(POLL), []],
   ];
   for (const [octets, wanted] of rows) {
-    assert.deepEqual(said(findingsOfFile(octets, SCHEMA)), wanted);
+    assert.deepEqual(said(remarksOfFile(octets, SCHEMA)), wanted);
   }
 });
 

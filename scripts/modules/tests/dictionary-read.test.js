@@ -65,11 +65,7 @@ test("rows of the program's tests that are taken, with their entries", () => {
   for (const [at, text] of texts.entries()) {
     assert.deepEqual(readDictionary(text), wanted[at], text);
   }
-  const bits = [
-    { at: 0, name: "call1" },
-    { at: 7, name: "ped" },
-    { at: 9, name: "flash" },
-  ];
+  const bits = [{ at: 0, name: "call1" }, { at: 7, name: "ped" }, { at: 9, name: "flash" }];
   const state = { type: 129, name: "state", length: 2, answered: false, window: 0, bits };
   assert.deepEqual(readDictionary(readFileSync(`${TOP}examples/poll-and-state.toml`, "utf8"))[1], state);
 });

@@ -33,12 +33,8 @@ json.dump([read(text) for text in json.load(sys.stdin)], sys.stdout)
 `;
 
 function tagged(value) {
-  if (value instanceof Map) {
-    return ["table", [...value].map(([key, inner]) => [key, tagged(inner)])];
-  }
-  if (Array.isArray(value)) {
-    return ["array", value.map(tagged)];
-  }
+  if (value instanceof Map) return ["table", [...value].map(([key, inner]) => [key, tagged(inner)])];
+  if (Array.isArray(value)) return ["array", value.map(tagged)];
   switch (typeof value) {
     case "bigint":
       return ["integer", String(value)];
@@ -55,9 +51,7 @@ function read(text) {
   try {
     return { table: tagged(readToml(text).table) };
   } catch (fault) {
-    if (fault instanceof TomlFault) {
-      return { fault: fault.message };
-    }
+    if (fault instanceof TomlFault) return { fault: fault.message };
     throw fault;
   }
 }
@@ -195,12 +189,7 @@ test("brackets in one another", () => {
 
 test("a fault has a line and a column, which count characters", () => {
   /** @type {[string, number, number][]} */
-  const rows = [
-    ['a = 1\n"😀" = ?', 2, 7],
-    ["a = 'x", 1, 7],
-    ["a = [\n1,\n", 3, 1],
-    ["\r\n\r\na = \r\n", 3, 5],
-  ];
+  const rows = [['a = 1\n"😀" = ?', 2, 7], ["a = 'x", 1, 7], ["a = [\n1,\n", 3, 1], ["\r\n\r\na = \r\n", 3, 5]];
   for (const [text, line, column] of rows) {
     assert.throws(
       () => readToml(text),

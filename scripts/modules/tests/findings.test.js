@@ -86,8 +86,21 @@ const CASES = [
     name: "a station that answers slowly as a rule",
     talk: talk(100, { "station 1": (made, at, station) => made.answered(at, station, 0, at % 300 === 10 ? 9 : 1) }),
     entries: WITHOUT_WINDOW,
-    level: "unknown",
+    found: [["slow", "doubt", 34, 0.01]],
+    level: "doubt",
     lacks: ["windows"],
+  },
+  {
+    name: "one command left out of forty",
+    talk: talk(40, times(["1 20"], null)),
+    found: [["gap", "doubt", 1, 1.91]],
+    level: "doubt",
+  },
+  {
+    name: "all stations silent for a while, three times",
+    talk: talk(60, times(["round 20", "round 21", "round 30", "round 31", "round 32", "round 40", "round 41"], missing)),
+    found: [["mute", "fault", 3, 3.01]],
+    level: "fault",
   },
   {
     name: "a gap of one station",
@@ -135,30 +148,18 @@ const CASES = [
   {
     name: "no frame on line 2, and damage on line 1: a sentence each",
     talk: talk(50, { "station 1": missing, "station 2": missing }).damaged(1, 100),
-    found: [
-      ["mute", "fault", 100, 0.01],
-      ["damage", "doubt", 1, 0.1],
-    ],
+    found: [["mute", "fault", 100, 0.01], ["damage", "doubt", 1, 0.1]],
     level: "fault",
   },
   { name: "a dead end", talk: talk(50), end: 10, found: [["rest", "fault", 1, 4.922]], level: "fault" },
   { name: "an end within a round", talk: talk(50), end: 5.05, level: "well" },
   { name: "one round, and a rest that may be usual", talk: talk(1), end: 0.1, level: "well" },
-  {
-    name: "lines exchanged",
-    talk: exchanged,
-    found: [["lines", "fault", 20, 0]],
-    level: "fault",
-    lacks: ["lines"],
-  },
+  { name: "lines exchanged", talk: exchanged, found: [["lines", "fault", 20, 0]], level: "fault", lacks: ["lines"] },
   { name: "damage", talk: talk(50).damaged(1, 333).damaged(2, 444), found: [["damage", "doubt", 2, 0.333]], level: "doubt" },
   {
     name: "frames that the dictionary does not fit",
     talk: talk(50).frame(1, 555, 9, 7, "unknown").frame(1, 666, 9, 8, "length"),
-    found: [
-      ["length", "doubt", 1, 0.666],
-      ["unknown", "doubt", 1, 0.555],
-    ],
+    found: [["length", "doubt", 1, 0.666], ["unknown", "doubt", 1, 0.555]],
     level: "doubt",
   },
   {

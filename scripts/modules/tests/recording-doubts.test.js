@@ -201,3 +201,27 @@ test("a text that is no warning", () => {
 });
 
 test("a fact that is not there", () => assert.throws(() => factsIn(["samples 5"]), /port1-sample wrote no fact txc-level/));
+
+test("stops of the first clock, of which the longest has its place, are counted", () => {
+  /** @type {import("../recording/seams.js").Seam[]} */
+  const seams = [{ sort: "stops", name: "TXC", from: 0, count: 15, stretches: [], samples: 700, place: 200 }];
+  const how = { rising: true, when: new Moments(null), seams };
+  const [{ sort, count, text, stood, place }] = doubtsOf(factsWith({ "first-gap": "65 800" }), NAMES, how);
+  assert.deepEqual([sort, count, stood, place], ["gap", 15, undefined, 200]);
+  assert.equal(text, "TXC stops (15 times, 700 samples in all, the longest for 65 samples from sample 800 on)");
+});
+
+/** Texts of stops, how often, when, and for how long in all; recordings of before say only the longest of several. */
+const STOPS = /** @type {const} */ ([
+  ["TXC stops (15 times, 12.500000 s in all, the longest for 1.000007 s from 5.000017 s on)", 15, 5.000017, 12.5],
+  ["TXC stops (for 1.000007 s from 5.000017 s on)", 1, 5.000017, 1.000007],
+  ["TXC stops (for 65 samples from sample 800 on)", 1, null, undefined],
+]);
+
+test("texts of stops say for how long the clock stood still", () => {
+  for (const [text, count, second, stood] of STOPS) {
+    const read = warningOf(text);
+    assert.deepEqual([read.sort, read.name, read.count, read.second, read.stood], ["gap", "TXC", count, second, stood]);
+  }
+});
+

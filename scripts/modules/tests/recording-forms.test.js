@@ -1,8 +1,8 @@
 import assert from "node:assert/strict";
 import { readFileSync } from "node:fs";
 import { test } from "node:test";
-import { channelsOf, formOf, formOfRecording } from "../recording/forms.js";
 import { Fault } from "../fault.js";
+import { channelsOf, formOfText, formOfRecording } from "../recording/forms.js";
 import { recordingOf } from "../recording/recording.js";
 import { samplingOf } from "../recording/sampling.js";
 import { hertz } from "../recording/units.js";
@@ -25,7 +25,7 @@ test("the form by the beginning", () => {
     for (const beginning of beginnings) {
       const octets = Uint8Array.from(Buffer.from(beginning, "latin1"));
       assert.equal(formOfRecording(octets), form, JSON.stringify(beginning));
-      if (form !== "session") assert.equal(formOf(octets), form === "binary" ? null : form);
+      if (form !== "session") assert.equal(formOfText(octets), form === "binary" ? null : form);
     }
   }
   for (const [refused, why] of [["", "the recording is empty"], ["\x89PNG", "this is a picture"]]) {
@@ -63,7 +63,7 @@ test("channels of a table whose times have no unit", () => {
 
 test("channels of the example of four wires", () => {
   const head = readFileSync(new URL("../../../examples/four-wires.csv", import.meta.url)).subarray(0, 4096);
-  assert.equal(formOf(head), "csv");
+  assert.equal(formOfText(head), "csv");
   assert.deepEqual(channelsOf(head, "csv"), ["TXC", "TXD", "RXC", "RXD"]);
 });
 

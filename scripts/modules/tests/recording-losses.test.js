@@ -74,3 +74,16 @@ test("few samples", () => {
   const isCoarse = [320e3, 614.4e3, 1e6].map((rate) => followed(edgesOf({ rate, jitter: 0, ppm: 80 }, 9), rate).isCoarse);
   assert.deepEqual(isCoarse, [true, false, false]);
 });
+
+test("stops of a clock are counted, each once, and shorter ones are none", () => {
+  const clock = { rate: 4e6, jitter: 250e-9, ppm: 80 };
+  const pause = (edges, edge, bits) => edges.map((time, at) => time + (at >= edge ? Math.round((bits * clock.rate) / RATE) : 0));
+  const often = [3000, 8000, 8100, 20000].reduce((edges, edge) => pause(edges, edge, 40), edgesOf(clock, 7));
+  const long = Math.round((41 * clock.rate) / RATE); // each stop, and the bit about it
+  for (const edges of [often, pause(often, 12000, 10)]) {
+    const { count, samples, longest, place } = followed(edges, clock.rate).stops;
+    assert.equal(count, 4);
+    assert.ok(Math.abs(samples - 4 * long) < 16 && Math.abs(longest - long) < 4, `${samples}, ${longest}`);
+    assert.ok([3000, 8000, 8100, 20000].some((edge) => Math.abs(place - edge / 2) <= 1), `${place}`);
+  }
+});

@@ -37,9 +37,7 @@ const exchange = (first, replyBits, word) =>
 
 // Four commands each 10 ms, of which the second is answered late and the last one not; damage in between.
 const LISTING =
-  exchange(8, 100, "answered") +
-  exchange(1544, 400, "late") +
-  exchange(3080, 100, "answered") +
+  exchange(8, 100, "answered") + exchange(1544, 400, "late") + exchange(3080, 100, "answered") +
   "2 4000 4040 damaged fcs\n" +
   command(4616, "10", "00") +
   verdict("missing", 4616);
@@ -157,14 +155,8 @@ test("times to answers by kinds, and of all", () => {
     [17, 1, "poll", [[9, 1]], []],
     [17, 2, "ask", [], [[259, 1]]],
   ]);
-  const both = [
-    [9, 1],
-    [100, 2],
-  ];
-  const ofLate = [
-    [259, 1],
-    [400, 1],
-  ];
+  const both = [[9, 1], [100, 2]];
+  const ofLate = [[259, 1], [400, 1]];
   assert.deepEqual([all.inTime.pairs(), all.late.pairs()], [both, ofLate]);
 });
 

@@ -7,7 +7,7 @@ import { join } from "node:path";
 import { test } from "node:test";
 
 import { DISK } from "../watch/disk.js";
-import { ARRIVALS, PAIRS, Packer, octetsBefore } from "../watch/forms.js";
+import { ARRIVALS, PAIRS, TextPacker, octetsBefore } from "../watch/forms.js";
 import { Incidents } from "../watch/incidents.js";
 import { Journal } from "../watch/journal.js";
 import { untold } from "../watch/memory.js";
@@ -34,7 +34,7 @@ for (const [form, marks, counted] of FORMS) {
   test(`octets and places of ${form.options}, in pieces of any size`, () => {
     const random = randomOf(3);
     const text = Array.from({ length: 4000 }, () => random.one([...marks, "\n"])).join("");
-    const packer = new Packer(form);
+    const packer = new TextPacker(form);
     /** @type {number[][]} */
     const parts = [];
     for (let at = 0; at < text.length; ) {
@@ -163,7 +163,7 @@ function toldOfRow(before, after, isNear, isAnswered = false) {
   const rows = (kind, count) => rowsOf(Array.from({ length: count }, (_, at) => line(kind, at)));
   first.hear(rows("missing", before));
   if (isAnswered) first.hear(rows("answered", 1));
-  second.restore(first.kept(() => 7).kinds, 0, isNear);
+  second.restore(first.kept(() => 7).kinds, isNear);
   second.hear(rows("missing", after));
   return told;
 }

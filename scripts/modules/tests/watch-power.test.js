@@ -10,7 +10,7 @@ import { RATE } from "../port1.js";
 import { PAIRS } from "../watch/forms.js";
 import { Journal } from "../watch/journal.js";
 import { read } from "../watch/memory.js";
-import { RecordedWall } from "../watch/wall.js";
+import { CLOCKS, RecordedWall } from "../watch/wall.js";
 import { Watch } from "../watch/watch.js";
 import { Left, Quick, Slow, TakenDown, lay } from "./support/cut_disk.js";
 import { randomOf } from "./support/random.js";
@@ -172,6 +172,27 @@ for (const isFlushed of [false, true]) {
     }
   });
 }
+
+test("power fails while bits come as fast as the bus sends them: ten seconds of them are lost at most", () =>
+  inFolder(async (folder) => {
+    const [disk, left, { steady }] = [new TakenDown(folder), new Left(), CLOCKS];
+    const watch = new Tried(folder, disk);
+    watch.keepBits = watch.ring.segment = Infinity;
+    await watch.begin();
+    watch.decoder.hear = () => undefined; // nothing is wrong on the bus
+    try {
+      for (let second = 1; second <= 35; second++) {
+        CLOCKS.steady = () => second;
+        await watch.take(Buffer.from("0".repeat(RATE)));
+        await disk.idle;
+        disk.steps.splice(0).forEach((step) => left.step(step));
+        const lost = second - bitsIn(left.files(true)) / RATE;
+        assert.ok(lost < 10, `${lost} s of bits are lost after ${second} s`);
+      }
+    } finally {
+      CLOCKS.steady = steady;
+    }
+  }));
 
 for (const flushes of [0, 1]) {
   test(`bits come while a slow disk flushes ${flushes} things a second, and power fails after each step`, async () => {

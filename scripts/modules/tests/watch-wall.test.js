@@ -4,7 +4,7 @@ import assert from "node:assert/strict";
 import { test } from "node:test";
 
 import { Incidents } from "../watch/incidents.js";
-import { Wall, iso, stepAt } from "../watch/wall.js";
+import { Wall, iso, zeroAt } from "../watch/wall.js";
 import { randomOf } from "./support/random.js";
 
 const RATE = 153600;
@@ -122,7 +122,7 @@ function watchOf(seconds, lost, after) {
   const made = new Made(5).run(30);
   const records = [];
   const office = {
-    zero: (place) => stepAt(made.wall.zeros, place)?.zero ?? made.wall.zero,
+    zero: (place) => zeroAt(made.wall, place),
     settled: () => made.wall.settled,
     ...{ keep() {}, log() {} },
     save: (incident) => records.push(incidents.recordOf(incident)),
@@ -166,7 +166,7 @@ function keptAt(until, seconds) {
   incidents.close();
   const { zero, zeros } = wall.atEnd;
   const unsettled = wall.settled < place ? [wall.settled] : [];
-  const { waiting } = incidents.kept((at) => stepAt(zeros, at)?.zero ?? zero, unsettled);
+  const { waiting } = incidents.kept((at) => zeroAt({ zero, zeros }, at), unsettled);
   const timeOf = ({ zero, first }) => zero + first / RATE - 1000 - made.shift;
   const told = waiting.map((incident) => ({ time: timeOf(incident), seam: incident.seam ?? false }));
   return { told, lost: wall.settle(), after: wall.zero - zero, seam: wall.zeros[0]?.place };
@@ -202,8 +202,10 @@ for (const [until, wanted] of ENDS) {
 }
 
 test("what was late and is being caught up where nothing comes any more is not lost", () => {
-  for (const rate of [1.6, 2, 10]) {
-    const made = new Made().run(30).lose(5);
+  for (const [rate, before] of [[1.6, 0], [2, 0], [10, 0], [1.6, 0.6], [10, 0.6]]) {
+    const made = new Made().run(30);
+    made.ahead = before; // it was late before it stalled, too
+    made.run(0.5).lose(5);
     for (let left = 5; left > 0.7; left -= (rate - 1) * 0.2) {
       made.ahead = left;
       made.run(0.2);

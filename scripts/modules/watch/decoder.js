@@ -25,7 +25,7 @@ export function refusalOf(program, dictionary) {
 }
 
 /** The running `port1`, which is fed bits and whose lines are heard. */
-export class Decoder {
+export class ListProgram {
   reader = new ListingReader();
   said = "";
 

@@ -1,17 +1,6 @@
 /** The forms of captures of two lines, as text and packed: four marks in an octet, the first one lowest. */
 
-/** No mark: a space, a line end. */
-const BLANK = 255;
-
-/**
- * The octets of a text that are marks, with their numbers.
- * @param {string} marks
- */
-function tableOf(marks) {
-  const table = new Uint8Array(256).fill(BLANK);
-  [...marks].forEach((mark, number) => (table[mark.charCodeAt(0)] = number));
-  return table;
-}
+import { FORMS, SKIPPED, headOf, marksByOctet } from "../capture/forms.js";
 
 /**
  * How many places each packed octet takes.
@@ -20,27 +9,25 @@ function tableOf(marks) {
 const widthsOf = (steps) =>
   Uint8Array.from({ length: 256 }, (_, octet) => [0, 2, 4, 6].reduce((sum, at) => sum + steps[(octet >> at) & 3], 0));
 
-/** @param {string[]} options of `port1 list` @param {string} magic @param {string} marks @param {number[]} steps */
-function formOf(options, magic, marks, steps) {
-  return { options, magic, steps, table: tableOf(marks), widths: widthsOf(steps) };
-}
+/** @param {string[]} options of `port1 list` @param {import("../capture/forms.js").Form} form @param {number[]} steps */
+const placed = (options, form, steps) => ({ ...form, options, steps, table: marksByOctet(form), widths: widthsOf(steps) });
 
-/** @typedef {ReturnType<typeof formOf>} Form */
+/** @typedef {ReturnType<typeof placed>} Form */
 
 /** Pairs of bits, one of each line, at the places of one clock. */
-export const PAIRS = formOf(["--two"], "TS2BITS2", "0123", [1, 1, 1, 1]);
+export const PAIRS = placed(["--two"], FORMS[2], [1, 1, 1, 1]);
 
 /**
  * The bits of both lines as they arrived: a place is a bit of the first one.
  * @param {number} [rest] after how many of them without one of the second line this is brought to rest
  */
 export const arrivalsOf = (rest) =>
-  formOf(["--arrivals", ...(rest === undefined ? [] : [`--rest=${rest}`])], "TS2BITS3", "01oi", [1, 1, 0, 0]);
+  placed(["--arrivals", ...(rest === undefined ? [] : [`--rest=${rest}`])], FORMS.arrivals, [1, 1, 0, 0]);
 
 export const ARRIVALS = arrivalsOf();
 
 /** Packs a text that comes in pieces. */
-export class Packer {
+export class TextPacker {
   places = 0; // of all that was taken
   held = 0; // marks that fill no octet yet,
   shift = 0; // their bits,
@@ -66,7 +53,7 @@ export class Packer {
       if (shift === 0 && at + 4 <= text.length) {
         const [one, two] = [table[text[at]], table[text[at + 1]]];
         const [three, four] = [table[text[at + 2]], table[text[at + 3]]];
-        if ((one | two | three | four) !== BLANK) {
+        if ((one | two | three | four) < SKIPPED) {
           const octet = one | (two << 2) | (three << 4) | (four << 6);
           octets[count++] = octet;
           places += widths[octet];
@@ -75,7 +62,7 @@ export class Packer {
         }
       }
       const mark = table[text[at]];
-      if (mark === BLANK) continue;
+      if (mark >= SKIPPED) continue;
       held |= mark << shift;
       shift += 2;
       places += steps[mark];
@@ -107,9 +94,4 @@ export function octetsBefore({ widths }, octets, places) {
  * @param {Form} form
  * @param {Uint8Array} octets
  */
-export function captureOf({ magic }, octets) {
-  const head = Buffer.alloc(16);
-  head.write(magic, 0, "latin1");
-  head.writeBigUInt64LE(BigInt(4 * octets.length), 8);
-  return Buffer.concat([head, octets]);
-}
+export const captureOf = (form, octets) => Buffer.concat([headOf(form, 4 * octets.length), octets]);

@@ -1,5 +1,5 @@
 import { RATE } from "../port1.js";
-import { iso } from "./wall.js";
+import { iso, rounded } from "./wall.js";
 
 /** What comes within so many seconds of the beginning of a run may go on from the one before. */
 const GOES_ON = 60;
@@ -31,7 +31,7 @@ const NEAR_SEAM = 1;
  * @property {(id: string, cause: string, first: number) => boolean} [isTaken] whether another incident has an id
  * @property {() => number} [settled] the place up to which that is sure
  * @property {() => void} keep writes down what is known, which outlives the watch
- * @property {(record: import("./journal.js").Entry) => void} log
+ * @property {(record: import("./journal.js").JournalEntry) => void} log
  * @property {(incident: Incident) => void} save
  */
 
@@ -197,7 +197,7 @@ export class Incidents {
   tellWell({ about, first, past, since = null }) {
     if (this.open) this.open.past = Math.max(this.open.past, past);
     const time = this.office.zero(past) + past / RATE;
-    const seconds = Number((since === null ? (past - first) / RATE : time - since).toFixed(3));
+    const seconds = rounded(since === null ? (past - first) / RATE : time - since);
     this.office.log({ event: "well again", wall: iso(time), run: this.run, place: past, ...about, seconds });
   }
 

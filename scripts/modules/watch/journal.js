@@ -3,7 +3,7 @@ import { dirname } from "node:path";
 import { DISK } from "./disk.js";
 import { isRun } from "./memory.js";
 
-/** @typedef {{ event: string, wall: string, run: number, place: number } & Record<string, unknown>} Entry of the log */
+/** @typedef {{ event: string, wall: string, run: number, place: number } & Record<string, unknown>} JournalEntry of the log */
 
 /** How much of the end of a log is read for what it has. */
 const END = 1 << 18;
@@ -16,7 +16,7 @@ const MOST_WAITING = 1000;
 /**
  * An event of the log, if a line is one.
  * @param {string} line
- * @returns {(Entry & { id: string })|null}
+ * @returns {(JournalEntry & { id: string })|null}
  */
 function entryOf(line) {
   try {
@@ -68,7 +68,7 @@ export class Journal {
 
   /**
    * The last events that the log has.
-   * @returns {(Entry & { id: string })[]} of which those that are about an incident have its id
+   * @returns {(JournalEntry & { id: string })[]} of which those that are about an incident have its id
    */
   told() {
     return this.end().toString().split("\n").flatMap((line) => entryOf(line) ?? []);
@@ -79,7 +79,7 @@ export class Journal {
     return Math.max(0, ...this.told().map(({ run }) => run).filter(isRun));
   }
 
-  /** @param {Entry} record */
+  /** @param {JournalEntry} record */
   log(record) {
     const line = `${JSON.stringify(record)}\n`;
     this.write(line);

@@ -1,4 +1,6 @@
+import { noVerdicts } from "../listing/kinds.js";
 import { RATE } from "../port1.js";
+import { graveGap } from "../statistics/gaps.js";
 
 /** The fewest gaps of which one is called usual, and how many of them are kept. */
 const [FEWEST_GAPS, GAPS_KEPT] = [16, 64];
@@ -14,7 +16,7 @@ export class Kind {
   /** @type {number[]} */
   gaps = [];
   sent = 0;
-  verdicts = { answered: 0, late: 0, missing: 0, spoilt: 0 };
+  verdicts = noVerdicts();
   bad = 0; // commands in a row whose answer was bad,
   badFrom = 0; // and where the first one began
   isBad = false; // whether that was told,
@@ -33,7 +35,7 @@ export class Kind {
   /** The longest gap that is no fault; none while the usual one is not known. */
   get limit() {
     if (this.fixed !== undefined) return this.fixed;
-    return this.usual === 0 ? Infinity : Math.max(3 * this.usual, this.usual + RATE / 10);
+    return this.usual === 0 ? Infinity : graveGap(this.usual, RATE);
   }
 
   /**

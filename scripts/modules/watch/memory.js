@@ -132,13 +132,13 @@ export function untold({ open, waiting }, told) {
 
 /**
  * The incidents that the log has begun and not told, and of which nothing else is known.
- * @param {(import("./journal.js").Entry & { id: string, cause?: unknown })[]} entries
+ * @param {(import("./journal.js").JournalEntry & { id: string, cause?: unknown })[]} entries
  * @param {{ id: string }[]} known
  * @returns {import("./incidents.js").Incident[]}
  */
 export function onlyBegun(entries, known) {
   const told = new Set([...known, ...entries.filter(({ event }) => event === "incident")].map(({ id }) => id));
-  const isWhole = (/** @type {{ id: string } & import("./journal.js").Entry} */ { id, wall, run, place }) =>
+  const isWhole = (/** @type {{ id: string } & import("./journal.js").JournalEntry} */ { id, wall, run, place }) =>
     typeof id === "string" && !Number.isNaN(Date.parse(wall)) && isRun(run) && isPlace(place);
   const begun = entries.filter((entry) => entry.event === "begun" && isWhole(entry) && !told.has(entry.id));
   return begun.map(({ id, run, place, wall, cause }) => ({

@@ -1,14 +1,14 @@
 import { spawn } from "node:child_process";
-import { rowsOfInput } from "../commands/input.js";
 import { RATE } from "../port1.js";
+import { rowsOfInput } from "../system/input.js";
 import { wordsOfList } from "./decoder.js";
 import { captureOf } from "./forms.js";
 import { Incidents } from "./incidents.js";
 import { SURE, Triggers } from "./triggers.js";
-import { stepAt } from "./wall.js";
+import { zeroAt } from "./wall.js";
 
 /** @typedef {import("../listing/listing.js").Row} Row */
-/** @typedef {import("./journal.js").Entry} Entry */
+/** @typedef {import("./journal.js").JournalEntry} JournalEntry */
 
 /**
  * How far before the last line that was judged bits are read again, so that it is found; and how far before a line all
@@ -24,7 +24,7 @@ const MOST = 8;
 
 /**
  * What tells an event from the others of a log.
- * @param {Entry} record
+ * @param {JournalEntry} record
  */
 const keyOf = ({ event, run, place, id, kind, line, cause }) =>
   JSON.stringify([event, run, place, id, kind, line, cause]);
@@ -58,8 +58,7 @@ async function* linesAfter(rows, last) {
 
 /** @param {Row} row @param {import("./triggers.js").Mark} last */
 const isLast = (row, last) =>
-  row.first > last.past + SLACK ||
-  (row.past === last.past && row.line === last.line && row.kind === last.kind);
+  row.first > last.past + SLACK || (row.past === last.past && row.line === last.line && row.kind === last.kind);
 
 /**
  * Judges what a run had taken, and not judged when it was killed: from the bits that the ring has of it.
@@ -68,12 +67,13 @@ const isLast = (row, last) =>
  * @param {import("./limits.js").Asked} asked
  * @param {import("./journal.js").Journal} journal
  */
-export async function judgedRest({ run, zero: last, zeros, triggers: known, incidents: before }, ring, asked, journal) {
-  const zero = (/** @type {number} */ place) => stepAt(zeros ?? [], place)?.zero ?? last;
+export async function judgedRest(old, ring, asked, journal) {
+  const { run, triggers: known, incidents: before } = old;
+  const zero = (/** @type {number} */ place) => zeroAt(old, place);
   const entries = journal.told();
   const told = new Set(entries.map(keyOf));
   const begun = new Map(entries.filter(({ event }) => event === "begun").map((entry) => [entry.id, entry]));
-  const log = (/** @type {Entry} */ record) => (told.has(keyOf(record)) ? undefined : journal.log(record));
+  const log = (/** @type {JournalEntry} */ record) => (told.has(keyOf(record)) ? undefined : journal.log(record));
   /** @type {NonNullable<import("./incidents.js").Office["isTaken"]>} */
   const isTaken = (id, cause, first) => {
     const entry = begun.get(id);
@@ -82,10 +82,7 @@ export async function judgedRest({ run, zero: last, zeros, triggers: known, inci
   const incidents = new Incidents(run, asked.limits, { zero, keep() {}, save() {}, log, isTaken });
   incidents.resume(before);
   if (before.open && !begun.has(before.open.id)) incidents.tellBegun(before.open);
-  const triggers = new Triggers({
-    trigger: (cause, first, past) => incidents.trigger(cause, first, past),
-    wellAgain: (about, first, past, since) => incidents.wellAgain(about, first, past, since),
-  }, asked.gaps);
+  const triggers = new Triggers(incidents, asked.gaps);
   triggers.resume(known);
   const past = await judge(triggers, incidents, ring, asked);
   const { kinds } = triggers.kept((place) => zero(place) + place / RATE);

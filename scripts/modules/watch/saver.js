@@ -1,15 +1,14 @@
 import { spawn } from "node:child_process";
 import { closeSync, mkdirSync, openSync, readdirSync, rmSync, statSync, writeFileSync } from "node:fs";
 import { join } from "node:path";
-import { fileURLToPath } from "node:url";
-import { piecesOf } from "../commands/facts.js";
-import { rowsOfInput } from "../commands/input.js";
-import { page } from "../commands/program.js";
 import { readDictionary } from "../dictionary/dictionary.js";
 import { ANSWER, RATE } from "../port1.js";
 import { Bus } from "../statistics/bus.js";
 import { DayTime } from "../statistics/day-time.js";
 import { report } from "../statistics/report.js";
+import { piecesOf } from "../system/facts.js";
+import { rowsOfInput } from "../system/input.js";
+import { commandNamed, page } from "../system/program.js";
 import { wordsOfList } from "./decoder.js";
 import { DISK } from "./disk.js";
 import { captureOf, octetsBefore } from "./forms.js";
@@ -55,12 +54,6 @@ function runOn(program, words, input, output) {
     child.on("close", (status) => (status === 0 ? done(undefined) : end(status)));
   });
 }
-
-/**
- * A command of these scripts, which Node runs.
- * @param {string} name
- */
-const script = (name) => fileURLToPath(new URL(`../commands/${name}.js`, import.meta.url));
 
 /**
  * The octets of a folder.
@@ -205,11 +198,11 @@ export class Saver {
     bus.end();
     const summary = report(bus, { end: null, entries: readDictionary(dictionary) });
     writeFileSync(path("summary.txt"), `${sentencesOf(record.holes ?? [])}${summary}`);
-    const packets = [script("list-to-pcap"), "--begin", begin, String(RATE), path("frames.pcapng")];
+    const packets = [commandNamed("list-to-pcap"), "--begin", begin, String(RATE), path("frames.pcapng")];
     await runOn(process.execPath, packets, listing, null);
     if (page() === null) return;
     const words = ["--begin", begin, "--dictionary", path("cabinet.toml"), titleOf(about)];
-    await runOn(process.execPath, [script("list-to-page"), ...words], listing, path("report.html"));
+    await runOn(process.execPath, [commandNamed("list-to-page"), ...words], listing, path("report.html"));
   }
 
   /**

@@ -1,5 +1,6 @@
+import { BAD_VERDICTS, DAMAGE } from "../listing/kinds.js";
 import { ANSWER, RATE } from "../port1.js";
-import { DAMAGE } from "../listing/kinds.js";
+import { SAVED } from "../statistics/findings.js";
 import { Kind } from "./kind.js";
 
 /** @typedef {import("../listing/listing.js").Row} Row */
@@ -16,7 +17,8 @@ import { Kind } from "./kind.js";
 /** @typedef {Pick<Row, "kind"|"line"|"past">} Mark what tells a line from the others */
 
 /** Numbers of a trigger: answers in a row, damaged pieces in a second, and a rest of both lines in places. */
-export const USUAL = { row: 5, burst: 5, rest: RATE };
+const { row: ROW, burst: BURST } = SAVED;
+const REST = SAVED.rest * RATE;
 
 /** How far before a place that has been heard all frames are known: none is longer. */
 export const SURE = RATE / 10;
@@ -36,11 +38,10 @@ export class Triggers {
   /** @type {Mark|null} */
   judged = null; // the last line that was
 
-  /** @param {Ears} ears @param {Map<string, number>} gaps by kind, in places @param {typeof USUAL} [numbers] */
-  constructor(ears, gaps, numbers = USUAL) {
+  /** @param {Ears} ears @param {Map<string, number>} gaps by kind, in places */
+  constructor(ears, gaps) {
     this.ears = ears;
     this.given = gaps;
-    this.numbers = numbers;
   }
 
   /** @param {string} name of a kind, as 16/0 */
@@ -74,14 +75,13 @@ export class Triggers {
   /**
    * What an earlier run knew.
    * @param {Record<string, ReturnType<Kind["kept"]>>} kept
-   * @param {number} place
-   * @param {boolean} [isNear] whether so little lies between that a row of bad answers goes on
+   * @param {boolean} isNear whether so little lies between that a row of bad answers goes on
    */
-  restore(kept, place, isNear = false) {
+  restore(kept, isNear) {
     for (const [name, { usual, isBad, isGone, since, bad }] of Object.entries(kept)) {
       const row = isNear && !isBad ? bad : 0;
       const when = isBad || isGone || row > 0 ? since : null;
-      Object.assign(this.kind(name), { usual, isBad, isGone, since: when, last: place, badFrom: place, bad: row });
+      Object.assign(this.kind(name), { usual, isBad, isGone, since: when, last: 0, badFrom: 0, bad: row });
     }
   }
 
@@ -104,7 +104,7 @@ export class Triggers {
       if (row.kind === "frame") this.frame(row);
       else if (DAMAGE.includes(row.kind)) this.piece(row);
       else if (row.kind === "answered") this.answered(row);
-      else if (row.kind === "late" || row.kind === "missing" || row.kind === "spoilt") this.badAnswer(row);
+      else if (BAD_VERDICTS.includes(row.kind)) this.badAnswer(row);
       else continue;
       this.judged = { kind: row.kind, line: row.line, past: row.past };
     }
@@ -113,8 +113,8 @@ export class Triggers {
   /** @param {Row} row */
   heard({ first, past }) {
     const { lastHeard } = this;
-    if (lastHeard !== null && past - lastHeard > this.numbers.rest) {
-      const due = lastHeard + this.numbers.rest;
+    if (lastHeard !== null && past - lastHeard > REST) {
+      const due = lastHeard + REST;
       if (!this.isAtRest) this.ears.trigger("rest", lastHeard, due);
       this.ears.wellAgain({ line: "both" }, lastHeard, Math.max(first, due), null);
     }
@@ -153,9 +153,7 @@ export class Triggers {
     const kind = this.kind(name);
     kind.verdicts.answered += 1;
     if (row.replyBits !== null) kind.reply(row.replyBits);
-    if (kind.isBad) {
-      this.ears.wellAgain({ kind: name, commands: kind.bad }, kind.badFrom, row.first, kind.since);
-    }
+    if (kind.isBad) this.ears.wellAgain({ kind: name, commands: kind.bad }, kind.badFrom, row.first, kind.since);
     if (!kind.isGone) kind.since = null;
     kind.isBad = false;
     kind.bad = 0;
@@ -165,11 +163,11 @@ export class Triggers {
   badAnswer(row) {
     const name = `${row.station}/${row.type}`;
     const kind = this.kind(name);
-    kind.verdicts[/** @type {"late"|"missing"|"spoilt"} */ (row.kind)] += 1;
+    kind.verdicts[/** @type {import("../listing/kinds.js").Verdict} */ (row.kind)] += 1;
     if (row.replyBits !== null) kind.reply(row.replyBits);
     if (kind.bad === 0 && !kind.isBad) kind.badFrom = row.first;
     kind.bad += 1;
-    if (kind.isBad || kind.bad < this.numbers.row) return;
+    if (kind.isBad || kind.bad < ROW) return;
     kind.isBad = true;
     this.ears.trigger(`${row.kind} ${name}`, kind.badFrom, row.past);
   }
@@ -180,8 +178,8 @@ export class Triggers {
     const cause = `${row.line} ${row.cause || row.kind}`;
     this.damage.set(cause, (this.damage.get(cause) ?? 0) + 1);
     this.pieces.push(row.first);
-    if (this.pieces.length > this.numbers.burst) this.pieces.shift();
-    const isFull = this.pieces.length === this.numbers.burst;
+    if (this.pieces.length > BURST) this.pieces.shift();
+    const isFull = this.pieces.length === BURST;
     if (isFull && row.first - this.pieces[0] < RATE) this.ears.trigger("burst", this.pieces[0], row.past);
   }
 
@@ -195,8 +193,8 @@ export class Triggers {
       kind.isGone = true;
       this.ears.trigger(`gap ${name}`, kind.last, Math.ceil(kind.last + kind.limit));
     }
-    if (this.isAtRest || this.lastHeard === null || mark - this.lastHeard <= this.numbers.rest) return;
+    if (this.isAtRest || this.lastHeard === null || mark - this.lastHeard <= REST) return;
     this.isAtRest = true;
-    this.ears.trigger("rest", this.lastHeard, this.lastHeard + this.numbers.rest);
+    this.ears.trigger("rest", this.lastHeard, this.lastHeard + REST);
   }
 }

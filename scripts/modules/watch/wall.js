@@ -22,12 +22,17 @@ export const CLOCKS = { steady: () => performance.now() / 1000, wall: () => Date
 const MOST_STEPS = 100;
 
 /**
- * When place 0 was by the clock of some place: a step is for the places up to its own.
- * @template {{ place: number }} Step
- * @param {Step[]} steps
+ * A length as it is told.
+ * @param {number} seconds
+ */
+export const rounded = (seconds) => Number(seconds.toFixed(3));
+
+/**
+ * When place 0 was by the clock of some place: by the last one, or by a step for the places up to its own.
+ * @param {{ zero: number, zeros?: { place: number, zero: number }[] }} known
  * @param {number} place
  */
-export const stepAt = (steps, place) => steps.find((step) => place <= step.place);
+export const zeroAt = ({ zero, zeros = [] }, place) => zeros.find((step) => place <= step.place)?.zero ?? zero;
 
 /**
  * The time of day of places. A place came at the least delay that was seen in ten seconds; a delay that gets greater
@@ -100,7 +105,7 @@ export class Wall {
   take(place) {
     const now = this.clocks.steady();
     const delay = now - place / RATE;
-    if (this.window.length === 0 || now - this.last > 1) [this.window, this.since] = [[], now];
+    if (this.window.length === 0 || now - this.last > 1) [this.window, this.since, this.risen] = [[], now, null];
     const elapsed = now - this.last;
     this.last = now;
     while (this.window.length > 0 && this.window[this.window.length - 1].delay >= delay) this.window.pop();
@@ -170,6 +175,7 @@ export class Wall {
 export class RecordedWall {
   place = 0;
   settled = Infinity;
+  lostAtEnd = 0;
   /** @type {{ place: number, zero: number }[]} */
   zeros = [];
 

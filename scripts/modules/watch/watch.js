@@ -1,9 +1,9 @@
 import { join } from "node:path";
 import { RATE } from "../port1.js";
 import { called } from "./call.js";
-import { Decoder } from "./decoder.js";
+import { ListProgram } from "./decoder.js";
 import { DISK } from "./disk.js";
-import { Packer } from "./forms.js";
+import { TextPacker } from "./forms.js";
 import { Incidents } from "./incidents.js";
 import { Journal } from "./journal.js";
 import { onceAMinute } from "./limits.js";
@@ -13,7 +13,7 @@ import { judgedRest } from "./rest.js";
 import { Ring } from "./ring.js";
 import { Saver } from "./saver.js";
 import { SURE, Triggers } from "./triggers.js";
-import { iso, stepAt } from "./wall.js";
+import { CLOCKS, iso, rounded, zeroAt } from "./wall.js";
 
 /** How often what is known is written down, in seconds, and of bits that come faster; incidents that wait, at most. */
 const [KEEP, KEEP_BITS, MOST_WAITING] = [10, 60 * RATE, 4];
@@ -26,11 +26,12 @@ export class Watch {
   lost = 0;
   unsaved = 0;
   saving = Promise.resolve();
-  kept = { time: 0, place: 0 }; // when what is known was written down, in seconds, and where
+  /** When what is known was written down last, in seconds, where, and whether it had a loss. */
+  kept = { time: 0, place: 0, isLost: false };
   keepBits = KEEP_BITS;
   known = { number: 0, text: "" }; // what is to be written down, and how often that was so
 
-  decoder = /** @type {Decoder} */ (/** @type {unknown} */ (null)); // until it begins
+  decoder = /** @type {ListProgram} */ (/** @type {unknown} */ (null)); // until it begins
 
   /** @param {Asked} asked */
   constructor(asked) {
@@ -44,7 +45,7 @@ export class Watch {
     this.complain = onceAMinute(asked.warn);
     this.old = read(this.state, this.complain, disk);
     this.journal = new Journal(this.path("incidents.jsonl"), asked.write, this.complain, disk);
-    this.packer = new Packer(asked.form);
+    this.packer = new TextPacker(asked.form);
     const { ring: most, floor } = asked.limits;
     const missed = (/** @type {import("./pieces.js").Hole} */ hole) => this.missed(hole);
     this.ring = new Ring(this.path("ring"), 0, { most, floor, warn: this.complain, missed, disk });
@@ -52,10 +53,7 @@ export class Watch {
     this.ring.run = this.number;
     this.saver = new Saver(this.path("incidents"), this.ring, { ...asked, dictionary: () => this.dictionary });
     this.incidents = new Incidents(this.number, asked.limits, this.office());
-    this.triggers = new Triggers({
-      trigger: (cause, first, past) => this.incidents.trigger(cause, first, past),
-      wellAgain: (about, first, past, since) => this.incidents.wellAgain(about, first, past, since),
-    }, asked.gaps);
+    this.triggers = new Triggers(this.incidents, asked.gaps);
   }
 
   /** @param {string} name */
@@ -69,7 +67,7 @@ export class Watch {
    */
   office() {
     return {
-      zero: (place) => this.zeroAt(place),
+      zero: (place) => zeroAt(this.wall, place),
       settled: () => this.wall.settled,
       keep: () => this.keep(),
       log: (record) => this.journal.log(record),
@@ -79,17 +77,9 @@ export class Watch {
     };
   }
 
-  /**
-   * When place 0 was, by the clock of a place.
-   * @param {number} place
-   */
-  zeroAt(place) {
-    return stepAt(this.wall.zeros, place)?.zero ?? this.wall.zero;
-  }
-
   /** @param {number} place */
   timeOf(place) {
-    return this.zeroAt(place) + place / RATE;
+    return zeroAt(this.wall, place) + place / RATE;
   }
 
   /** @param {string} event @param {Record<string, unknown>} [more] */
@@ -104,7 +94,7 @@ export class Watch {
     this.log("start", since);
     const { kinds, incidents, tally, past } = await this.rest();
     const isNear = past !== null && Math.abs(this.wall.now() - past) <= this.asked.limits.after;
-    this.triggers.restore(kinds, 0, isNear);
+    this.triggers.restore(kinds, isNear);
     this.incidents.seam(0);
     this.incidents.tally = tally;
     const entries = this.journal.told();
@@ -134,16 +124,16 @@ export class Watch {
    */
   async decode(place) {
     const hear = (/** @type {Iterable<Row>} */ rows) => this.triggers.hear(rows);
-    this.decoder = new Decoder(this.asked.program, this.asked.form, this.dictionary, place, hear);
+    this.decoder = new ListProgram(this.asked.program, this.asked.form, this.dictionary, place, hear);
     await this.decoder.begin();
   }
 
   /** Writes down what outlives the watch. */
   keep(isOver = false) {
     const { zero, zeros } = this.wall.atEnd;
-    const zeroAt = (/** @type {number} */ place) => stepAt(zeros, place)?.zero ?? zero;
-    const triggers = this.triggers.kept((place) => zeroAt(place) + place / RATE);
-    const [wall, incidents] = [this.wall.now(), this.incidents.kept(zeroAt, this.unsettled())];
+    const zeroOf = (/** @type {number} */ place) => zeroAt({ zero, zeros }, place);
+    const triggers = this.triggers.kept((place) => zeroOf(place) + place / RATE);
+    const [wall, incidents] = [this.wall.now(), this.incidents.kept(zeroOf, this.unsettled())];
     /** @type {import("./memory.js").Kept} */
     const known = { run: this.number, isOver, wall, zero, zeros, triggers, incidents };
     this.ring.sync();
@@ -182,7 +172,7 @@ export class Watch {
    */
   look(lost) {
     const set = this.wall.set();
-    if (set !== 0) this.log("clock set", { seconds: Number(set.toFixed(3)) });
+    if (set !== 0) this.log("clock set", { seconds: rounded(set) });
     this.lose(lost);
   }
 
@@ -192,7 +182,7 @@ export class Watch {
     this.lost += lost;
     const place = this.wall.zeros.at(-1)?.place ?? 0;
     this.incidents.seam(place);
-    this.log("input lost", { wall: iso(this.timeOf(place)), place, seconds: Number(lost.toFixed(3)) });
+    this.log("input lost", { wall: iso(this.timeOf(place)), place, seconds: rounded(lost) });
   }
 
   /** The place, if there is one, after which it is not known yet whether input was lost. */
@@ -212,7 +202,7 @@ export class Watch {
    * @param {import("./pieces.js").Hole} hole
    */
   missed({ first, past }) {
-    const seconds = Number(((past - first) / RATE).toFixed(3));
+    const seconds = rounded((past - first) / RATE);
     this.log("bits not kept", { wall: iso(this.timeOf(first)), place: first, seconds });
   }
 
@@ -221,19 +211,21 @@ export class Watch {
     const { mark } = this.decoder;
     this.triggers.tick(mark - SURE);
     this.incidents.tick(mark);
-    const [time, place] = [performance.now() / 1000, mark];
-    if (time - this.kept.time < KEEP && place - this.kept.place < this.keepBits) return;
-    this.kept = { time, place };
+    const { kept } = this;
+    const [time, isLost] = [CLOCKS.steady(), this.wall.lostAtEnd > 0];
+    const isLong = time - kept.time >= KEEP || mark - kept.place >= this.keepBits;
+    if (!isLong && (kept.isLost || !isLost)) return;
+    this.kept = { time, place: mark, isLost };
     this.keep();
     this.measure();
   }
 
   /** Writes the metrics. */
   measure() {
-    const { lost, unsaved, ring, packer: { places } } = this;
     const { prometheus } = this.asked;
-    const counts = { lost, unsaved, failed: ring.failed, places, last: this.timeOf(places) };
     if (!prometheus) return;
+    const { lost, unsaved, ring, packer: { places } } = this;
+    const counts = { lost, unsaved, failed: ring.failed, places, last: this.timeOf(places) };
     try {
       this.disk.replace(prometheus, metricsOf(this.triggers, this.incidents.tally, counts));
     } catch (fault) {

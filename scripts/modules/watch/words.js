@@ -1,37 +1,36 @@
 /** An incident in words. */
 
-/**
- * Causes by their sort, the most serious first, with their type of commands in place of #.
- * @type {[sort: string, words: string][]}
- */
-const CAUSES = [
-  ["rest", "nothing on either line"],
-  ["gap", "no commands of type #"],
-  ["missing", "answers to type # missing"],
-  ["spoilt", "answers to type # spoilt"],
-  ["late", "answers to type # late"],
-  ["burst", "burst of damage"],
-];
+import { FINDINGS } from "../statistics/findings.js";
+import { counted } from "../text.js";
+
+/** What a watch calls a finding, with its type of commands in place of #. */
+const WORDS = new Map(
+  Object.values(FINDINGS).flatMap(({ incident }) => (incident ? [[incident.name, incident.words]] : [])),
+);
 
 /**
  * A cause, as an incident's record names it: `gap 16/0`.
  * @param {string} text
  */
-function causeOf(text) {
+export function causeOf(text) {
   const [, sort = "", station = "", type = ""] = /^(\w+)(?: (\d+)\/(\d+))?$/.exec(text) ?? [];
-  const rank = CAUSES.findIndex(([known]) => known === sort);
-  const words = rank < 0 ? text : CAUSES[rank][1].replace("#", type);
-  return { rank: rank < 0 ? CAUSES.length : rank, station, words };
+  return { sort, station, type, words: WORDS.get(sort)?.replace("#", type) ?? text };
 }
 
 /**
- * What an incident is about: the most serious cause, how many others there are, and the stations of all.
- * @param {Record<string, number>} causes how often each came
+ * What an incident is about: the cause that began it, how many others there are, and the stations of all. A rest of both
+ * lines explains the gap that comes before it is told.
+ * @param {Record<string, number>} causes how often each came, in their order
  */
 export function aboutOf(causes) {
-  const all = Object.keys(causes).map(causeOf).sort((one, other) => one.rank - other.rank);
-  const stations = [...new Set(all.flatMap(({ station }) => (station === "" ? [] : [Number(station)])))];
-  return { words: all[0]?.words ?? "", others: Math.max(0, all.length - 1), stations: stations.sort((a, b) => a - b) };
+  const names = Object.keys(causes);
+  const isOfRest = names[0]?.startsWith("gap ") && names.includes("rest");
+  const cause = isOfRest ? "rest" : names[0] ?? "";
+  const { station, words } = causeOf(cause);
+  const all = names.map(causeOf).flatMap((other) => (other.station === "" ? [] : [Number(other.station)]));
+  const more = names.length > 1 ? `, and ${counted(names.length - 1, "other cause")}` : "";
+  const stations = [...new Set(all)].sort((one, other) => one - other);
+  return { cause, words: `${words}${more}`, station, stations };
 }
 
 /**
@@ -39,8 +38,7 @@ export function aboutOf(causes) {
  * @param {{ wall: string, causes: Record<string, number> }} incident
  */
 export function titleOf({ wall, causes }) {
-  const { words, others, stations } = aboutOf(causes);
-  const where = stations.length === 1 ? `station ${stations[0]}, ` : "";
-  const more = others > 0 ? ` and ${others} more` : "";
-  return `${wall.slice(0, 19).replace("T", " ")} UTC: ${where}${words}${more}`;
+  const { words, station } = aboutOf(causes);
+  const where = station === "" ? "" : `station ${station}, `;
+  return `${wall.slice(0, 19).replace("T", " ")} UTC: ${where}${words}`;
 }

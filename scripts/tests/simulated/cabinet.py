@@ -203,6 +203,30 @@ class Bus:
         return "1" * count
 
 
+class HealthyBus(Bus):
+    """A bus on which all commands are answered, by three stations in turn."""
+
+    def poll(self) -> None:
+        number, generator = len(self.fates), self.generator
+        station, kind = [1, 2, 16][number % 3], number % 2
+        self.fates.append(("answered", station, kind))
+        command, answer = ([generator.randrange(256) for _ in range(count)] for count in LENGTHS[kind])
+        self.send(FLAG + body_of([station, 0x83, kind, *command]) + FLAG)
+        reply = FLAG + body_of([station, 0x83, kind + 128, *answer]) + FLAG
+        self.answers.append(Answer(self.count + generator.uniform(9, 150), reply))
+        self.fill(generator.randrange(900, 1100))
+
+    def fill(self, count: int) -> None:
+        self.send("1" * count)
+
+    def samples(self) -> "np.ndarray":
+        """Its recording, when all polls have been sent."""
+        for _ in range(self.cabinet.polls):
+            self.poll()
+        self.send("1" * 64)
+        return recorded_from(self.cabinet, self).samples
+
+
 @dataclass
 class Wire:
     """The samples in which a channel changes, and its levels from there on."""
@@ -287,9 +311,7 @@ def recorded_from(cabinet: Cabinet, bus: Bus) -> Recorded:
     rest = bus.generator.choice([0, 1])
     bits = "".join(bus.first)
     edges = analyser.record(wires[TXC], wires[TXD], Stretch(0.5 / RATE, bits, RATE, bus.pauses), 0)
-    second = [
-        (analyser.record(wires[RXC], wires[RXD], stretch, rest), stretch.bits) for stretch in bus.stretches()
-    ]
+    second = [(analyser.record(wires[RXC], wires[RXD], stretch, rest), stretch.bits) for stretch in bus.stretches()]
     count = int(edges[-1]) + cabinet.samples // RATE
     recorded = Recorded(samples_of(analyser, wires, count, rest), (edges, bits), second)
     if cabinet.whole:

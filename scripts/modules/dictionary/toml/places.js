@@ -39,9 +39,7 @@ export class Place {
     let place = this;
     for (const part of path) {
       place = place.parts.get(part);
-      if (place === undefined) {
-        break;
-      }
+      if (place === undefined) break;
       line = place.line || line;
     }
     return line;

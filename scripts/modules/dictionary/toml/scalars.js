@@ -44,9 +44,7 @@ function daysIn(year, month) {
 function dateTime(source) {
   const begin = source.at;
   const found = source.match(DATE_TIME);
-  if (found === null) {
-    return undefined;
-  }
+  if (found === null) return undefined;
   const [text, year, month, day] = found;
   if (Number(day) > daysIn(Number(year), Number(month))) {
     source.at = begin;
@@ -64,27 +62,21 @@ function localTime(source) {
 /** @param {Source} source @param {string} text */
 function integer(source, text) {
   const value = BigInt(text);
-  if (value < LEAST_INTEGER || value >= -LEAST_INTEGER) {
-    throw source.fault("Integer out of range");
-  }
+  if (value < LEAST_INTEGER || value >= -LEAST_INTEGER) throw source.fault("Integer out of range");
   return value;
 }
 
 /** @param {Source} source @param {string} text */
 function float(source, text) {
   const value = Number(text);
-  if (!Number.isFinite(value)) {
-    throw source.fault("Float out of range");
-  }
+  if (!Number.isFinite(value)) throw source.fault("Float out of range");
   return value;
 }
 
 /** @param {Source} source */
 function number(source) {
   const found = source.match(NUMBER);
-  if (found === null) {
-    return undefined;
-  }
+  if (found === null) return undefined;
   const text = found[0].replaceAll("_", "");
   return found[1] ? float(source, text) : integer(source, text);
 }
@@ -92,17 +84,13 @@ function number(source) {
 /** @param {Source} source */
 function specialFloat(source) {
   const found = source.match(SPECIAL_FLOAT);
-  if (found === null) {
-    return undefined;
-  }
+  if (found === null) return undefined;
   return found[2] === "nan" ? NaN : Number(`${found[1]}Infinity`);
 }
 
 /** @param {Source} source */
 function truthValue(source) {
-  if (source.takes("true")) {
-    return true;
-  }
+  if (source.takes("true")) return true;
   return source.takes("false") ? false : undefined;
 }
 
@@ -114,9 +102,7 @@ function truthValue(source) {
 export function readScalar(source) {
   for (const read of [truthValue, dateTime, localTime, number, specialFloat]) {
     const value = read(source);
-    if (value !== undefined) {
-      return value;
-    }
+    if (value !== undefined) return value;
   }
   throw source.fault("Invalid value");
 }

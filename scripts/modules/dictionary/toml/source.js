@@ -74,9 +74,7 @@ export class Source {
 
   /** Passes over a comment, if there is one, up to the end of its line. */
   skipComment() {
-    if (this.takes("#")) {
-      this.skipTo("\n", CONTROLS, false);
-    }
+    if (this.takes("#")) this.skipTo("\n", CONTROLS, false);
   }
 
   /** Passes over white space, line ends and comments. */
@@ -100,9 +98,7 @@ export class Source {
     const begin = this.at;
     const found = this.text.indexOf(end, begin);
     this.at = found < 0 ? this.text.length : found;
-    if (found < 0 && isNeeded) {
-      throw this.fault(`Expected ${end}`);
-    }
+    if (found < 0 && isNeeded) throw this.fault(`Expected ${end}`);
     const passed = this.text.slice(begin, this.at);
     const bad = passed.search(forbidden);
     if (bad >= 0) {

@@ -28,11 +28,7 @@ const ESCAPES = new Map([
   ["\\", "\\"],
 ]);
 
-const HEX_DIGITS = new Map([
-  ["x", 2],
-  ["u", 4],
-  ["U", 8],
-]);
+const HEX_DIGITS = new Map([["x", 2], ["u", 4], ["U", 8]]);
 
 /** @param {number} code */
 const isScalar = (code) => code < 0xd800 || (code > 0xdfff && code < 0x110000);
@@ -40,14 +36,10 @@ const isScalar = (code) => code < 0xd800 || (code > 0xdfff && code < 0x110000);
 /** @param {Source} source @param {number} count */
 function hexCharacter(source, count) {
   const digits = source.text.slice(source.at, source.at + count);
-  if (digits.length !== count || !/^[0-9A-Fa-f]+$/.test(digits)) {
-    throw source.fault("Invalid hex value");
-  }
+  if (digits.length !== count || !/^[0-9A-Fa-f]+$/.test(digits)) throw source.fault("Invalid hex value");
   source.at += count;
   const code = Number.parseInt(digits, 16);
-  if (!isScalar(code)) {
-    throw source.fault("Escaped character is not a Unicode scalar value");
-  }
+  if (!isScalar(code)) throw source.fault("Escaped character is not a Unicode scalar value");
   return String.fromCodePoint(code);
 }
 
@@ -57,9 +49,7 @@ function hexCharacter(source, count) {
  */
 function cutLine(source) {
   source.match(CUT_SPACES);
-  if (source.next() !== "\n" && source.next() !== "") {
-    throw source.fault("Unescaped '\\' in a string");
-  }
+  if (source.next() !== "\n" && source.next() !== "") throw source.fault("Unescaped '\\' in a string");
   source.match(CUT_LINES);
   return "";
 }
@@ -77,13 +67,9 @@ function escape(source, isOfLines) {
   }
   source.at += 2;
   const count = HEX_DIGITS.get(letter);
-  if (count !== undefined) {
-    return hexCharacter(source, count);
-  }
+  if (count !== undefined) return hexCharacter(source, count);
   const character = ESCAPES.get(letter);
-  if (character === undefined) {
-    throw source.fault("Unescaped '\\' in a string");
-  }
+  if (character === undefined) throw source.fault("Unescaped '\\' in a string");
   return character;
 }
 
@@ -96,24 +82,16 @@ function basicBody(source, isOfLines) {
   let text = "";
   for (;;) {
     text += /** @type {RegExpExecArray} */ (source.match(isOfLines ? PLAIN_WITH_ENDS : PLAIN))[0];
-    if (source.takes(isOfLines ? '"""' : '"')) {
-      return text;
-    }
-    if (source.next() === "") {
-      throw source.fault("Unterminated string");
-    }
-    if (source.next() !== "\\") {
-      throw source.fault(`Illegal character ${JSON.stringify(source.next())}`);
-    }
+    if (source.takes(isOfLines ? '"""' : '"')) return text;
+    if (source.next() === "") throw source.fault("Unterminated string");
+    if (source.next() !== "\\") throw source.fault(`Illegal character ${JSON.stringify(source.next())}`);
     text += escape(source, isOfLines);
   }
 }
 
 /** @param {Source} source */
 function lineString(source) {
-  if (source.takes('"')) {
-    return basicBody(source, false);
-  }
+  if (source.takes('"')) return basicBody(source, false);
   source.at += 1;
   const text = source.skipTo("'", CONTROLS, true);
   source.at += 1;
@@ -154,12 +132,8 @@ export function readString(source) {
 /** @param {Source} source */
 function keyPart(source) {
   const bare = source.match(BARE);
-  if (bare !== null) {
-    return bare[0];
-  }
-  if (source.next() === "'" || source.next() === '"') {
-    return lineString(source);
-  }
+  if (bare !== null) return bare[0];
+  if (source.next() === "'" || source.next() === '"') return lineString(source);
   throw source.fault("Invalid initial character for a key part");
 }
 
@@ -175,8 +149,6 @@ export function readKey(source) {
     parts.push(keyPart(source));
     source.skipSpaces();
   } while (source.takes("."));
-  if (parts.length > MOST_KEY_PARTS) {
-    throw source.fault("Too many parts in a key");
-  }
+  if (parts.length > MOST_KEY_PARTS) throw source.fault("Too many parts in a key");
   return parts;
 }

@@ -66,9 +66,7 @@ export class Tables {
       if (origin === NAMED || origin === ELEMENTS) {
         throw this.source.fault(`Cannot redefine namespace ${[...head, ...parents.slice(0, at + 1)].join(".")}`);
       }
-      if (origin === undefined) {
-        throw this.inTheWay(found, frozen);
-      }
+      if (origin === undefined) throw this.inTheWay(found, frozen);
       this.origins.set(found, DOTTED);
       table = found;
     }
@@ -96,9 +94,7 @@ export class Tables {
   define(section, head, key, value) {
     const parents = key.slice(0, -1);
     const table = this.alongDots(section, head, parents, [...head, ...parents]);
-    if (table.has(lastOf(key))) {
-      throw this.source.fault("Cannot overwrite a value");
-    }
+    if (table.has(lastOf(key))) throw this.source.fault("Cannot overwrite a value");
     table.set(lastOf(key), value);
   }
 
@@ -129,9 +125,7 @@ export class Tables {
     for (const part of parents) {
       const found = table.get(part) ?? this.make(table, part, PASSED);
       const origin = this.origins.get(found);
-      if (origin === undefined) {
-        throw this.source.fault(isCollection(found) ? frozen : "Cannot overwrite a value");
-      }
+      if (origin === undefined) throw this.source.fault(isCollection(found) ? frozen : "Cannot overwrite a value");
       const elements = /** @type {Table[]} */ (found);
       at = at.part(part);
       at = origin === ELEMENTS ? at.part(elements.length - 1) : at;

@@ -21,18 +21,14 @@ function frameRow(row, digits, name) {
  */
 export function rowOf(text) {
   const found = LINE.exec(text);
-  if (found === null) {
-    throw new Error(`no line of a listing: ${text}`);
-  }
+  if (found === null) throw new Error(`no line of a listing: ${text}`);
   const [, number, first, past, digits, name, cause, bare, kind, station, type] = found;
   const line = number === undefined ? null : Number(number);
   const row = {
     ...{ line, first: Number(first), past: Number(past), kind: bare ?? "damaged", octets: null },
     ...{ station: null, type: null, name: "", cause: cause ?? "", replyBits: null },
   };
-  if (digits !== undefined) {
-    return frameRow(row, digits, name ?? "");
-  }
+  if (digits !== undefined) return frameRow(row, digits, name ?? "");
   return kind === undefined ? row : { ...row, kind, station: Number(station), type: Number(type) };
 }
 

@@ -26,21 +26,11 @@ const STRANGE = [
 function entry(random, type, answered) {
   const pick = (key, good) => `${key} = ${random.once(12) ? random.one(VALUES[key]) : good}`;
   const lines = [pick("type", type), pick("name", `'n${type}'`), pick("length", random.below(4))];
-  if (answered || random.once(12)) {
-    lines.push(pick("answered", "true"));
-  }
-  if (random.once(answered ? 2 : 8)) {
-    lines.push(pick("window", "16"));
-  }
-  if (random.once(4)) {
-    lines.push(`bits = ${random.one(VALUES.bits)}`);
-  }
-  if (random.once(8)) {
-    lines.splice(random.below(lines.length), 1);
-  }
-  if (random.once(8)) {
-    lines.push(random.one(STRANGE));
-  }
+  if (answered || random.once(12)) lines.push(pick("answered", "true"));
+  if (random.once(answered ? 2 : 8)) lines.push(pick("window", "16"));
+  if (random.once(4)) lines.push(`bits = ${random.one(VALUES.bits)}`);
+  if (random.once(8)) lines.splice(random.below(lines.length), 1);
+  if (random.once(8)) lines.push(random.one(STRANGE));
   return ["[[frame]]", ...lines].join("\n");
 }
 
@@ -56,12 +46,8 @@ export function madeDictionary(random) {
     const type = random.below(random.one([3, 128]));
     const answered = random.once(2);
     parts.push(entry(random, type, answered));
-    if (answered && !random.once(10)) {
-      parts.push(entry(random, type + 128, false));
-    }
+    if (answered && !random.once(10)) parts.push(entry(random, type + 128, false));
   }
-  if (random.once(10)) {
-    parts.push(random.one(["[other]", "frame = 1", "extra = [ 1,\n2 ]", "[[frame]]", "# end", "["]));
-  }
+  if (random.once(10)) parts.push(random.one(["[other]", "frame = 1", "extra = [ 1,\n2 ]", "[[frame]]", "# end", "["]));
   return parts.join("\n");
 }

@@ -81,9 +81,7 @@ const FATES = {
 
 function exchange(bus, kind, first) {
   if (bus.random.once(kind.lack)) {
-    if (bus.random.once(2)) {
-      damage(bus, 1, first);
-    }
+    if (bus.random.once(2)) damage(bus, 1, first);
     return;
   }
   bus.frame(bus.commandLine, first, kind.station, kind.type, bus.named(kind.name));
@@ -108,9 +106,7 @@ function extra(bus, first) {
 }
 
 function ending(bus, kind, place) {
-  if (bus.random.once(3)) {
-    bus.write(1, place, place + 1, "open");
-  }
+  if (bus.random.once(3)) bus.write(1, place, place + 1, "open");
   for (let count = bus.random.one([0, 0, 1, 2]); count > 0; count -= 1) {
     bus.verdict("pending", place, kind);
   }

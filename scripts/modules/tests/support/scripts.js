@@ -1,4 +1,4 @@
-// Runs the scripts, from which the expected values of tests come.
+// Runs programs of Python, from which the expected values of tests come.
 
 import { spawnSync } from "node:child_process";
 import { fileURLToPath } from "node:url";
@@ -6,43 +6,22 @@ import { fileURLToPath } from "node:url";
 /** The top of the repository. */
 export const TOP = fileURLToPath(new URL("../../../../", import.meta.url));
 
-const SCRIPTS = `${TOP}scripts/port1_scripts`;
-
 const ENVIRONMENT = { ...process.env, PYTHONDONTWRITEBYTECODE: "1" };
 
 const MOST_OUTPUT = 2 ** 30;
 
-function run(program, words, input, environment) {
-  const ran = spawnSync(program, words, { input, env: environment, maxBuffer: MOST_OUTPUT });
-  if (ran.error !== undefined) {
-    throw ran.error;
-  }
-  return { status: ran.status, stdout: ran.stdout.toString(), stderr: ran.stderr.toString() };
-}
-
 /**
- * A run of a script.
- * @param {string} name
- * @param {string[]} words
- * @param {string} input
- */
-export function runScript(name, words, input) {
-  return run(`${TOP}scripts/${name}`, words, input, ENVIRONMENT);
-}
-
-/**
- * What a Python program writes as JSON for an input that it reads as JSON; it can import the scripts.
+ * What a Python program writes as JSON for an input that it reads as JSON.
  * @param {string} program
  * @param {unknown} input
  * @param {...string} words
  */
 export function askPython(program, input, ...words) {
-  const environment = { ...ENVIRONMENT, PYTHONPATH: SCRIPTS };
-  const ran = run("python3", ["-c", `import json, sys\n${program}`, ...words], JSON.stringify(input), environment);
-  if (ran.status !== 0) {
-    throw new Error(ran.stderr);
-  }
-  return JSON.parse(ran.stdout);
+  const how = { input: JSON.stringify(input), env: ENVIRONMENT, maxBuffer: MOST_OUTPUT };
+  const { error, status, stdout, stderr } = spawnSync("python3", ["-c", `import json, sys\n${program}`, ...words], how);
+  if (error) throw error;
+  if (status !== 0) throw new Error(stderr.toString());
+  return JSON.parse(stdout.toString());
 }
 
 /** Whether this run is one of all tests, also those that take long. */

@@ -2,9 +2,10 @@
 //
 // Rounds of 40 ms: type 0 to station 16, a poll of 1 and one of 2, each with its answer. All is a function of seed and
 // place, so that another process can go on from any place. A line of the schedule has the places of a fault, its kind
-// and a number. SPEED 0 is as fast as it goes. Standard error has the places written, in the end.
+// and a number; at a `wait`, it waits for a file named go. SPEED 0 is as fast as it goes, and waits for nothing.
+// Standard error has the places written, in the end.
 
-import { readFileSync, writeSync } from "node:fs";
+import { existsSync, readFileSync, writeSync } from "node:fs";
 
 const [ROUND, RATE] = [6144, 153600];
 
@@ -162,6 +163,9 @@ function copyFaulty(base, at, past) {
   }
 }
 
+/** @param {number} milliseconds */
+const pause = (milliseconds) => Atomics.wait(new Int32Array(new SharedArrayBuffer(4)), 0, 0, milliseconds);
+
 const begun = performance.now() - (1000 * from) / (RATE * (Number(speed) || 1));
 
 for (let place = from; place < until; ) {
@@ -173,8 +177,9 @@ for (let place = from; place < until; ) {
   written = place = past;
   while (faults.length > 0 && faults[0].past < place - 60 * RATE) faults.shift();
   if (held > 2 * ROUND * 32 || speed !== "0") flush();
+  while (speed !== "0" && near.some(({ kind }) => kind === "wait") && !existsSync("go")) pause(20);
   const early = speed === "0" ? 0 : begun + (1000 * place) / (RATE * Number(speed)) - performance.now();
-  if (early > 1) Atomics.wait(new Int32Array(new SharedArrayBuffer(4)), 0, 0, early);
+  if (early > 1) pause(early);
 }
 flush();
 console.error(`places ${from} ${written}`);

@@ -33,10 +33,7 @@ export const LINES = talk();
 /** A command of a kind after a second. */
 const placeAfter = (second, at) => Math.ceil((second * RATE - at) / ROUND) * ROUND + at;
 
-export const WANTED = [
-  ["missing 2/1", placeAfter(SILENT[0], 3000)],
-  ["gap 1/1", placeAfter(UNASKED[0], 100) - ROUND],
-];
+export const WANTED = [["missing 2/1", placeAfter(SILENT[0], 3000)], ["gap 1/1", placeAfter(UNASKED[0], 100) - ROUND]];
 
 /** Where they are well again. */
 export const ENDED = [placeAfter(SILENT[1], 3000), placeAfter(UNASKED[1], 100)];

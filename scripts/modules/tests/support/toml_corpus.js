@@ -180,9 +180,7 @@ function smallKey(random) {
 
 function smallValue(random, depth) {
   const what = depth > 2 ? 0 : random.below(6);
-  if (what < 4) {
-    return "1";
-  }
+  if (what < 4) return "1";
   const inner = () => (what === 4 ? "" : `${smallKey(random)} = `) + smallValue(random, depth + 1);
   const members = Array.from({ length: random.below(4) }, inner).join(", ");
   return what === 4 ? `[${members}]` : `{${members}}`;

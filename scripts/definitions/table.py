@@ -6,7 +6,7 @@ Functions that are arguments take their own arguments one by one.
 
 from typing import Any, Callable, Dict, Iterator, List
 
-from common.toml import NotToml, toml_of
+from definitions.toml import NotToml, toml_of
 from definitions.values import Case, Items, before, items_of, joined
 
 Test = Callable[[Any], bool]

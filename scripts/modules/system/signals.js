@@ -5,6 +5,7 @@
  */
 
 const SIGNALS = ["SIGINT", "SIGTERM"];
+const HANGUP = "SIGHUP";
 
 /** @type {string|null} */
 let caught = null;
@@ -29,17 +30,24 @@ export function onEndOfStream(end) {
 /** Ends this process by the signal that was caught, having done what is to be done at its end. */
 export function endBySignal(signal = caught ?? "SIGTERM") {
   process.emit("exit", 0);
-  SIGNALS.forEach((each) => process.removeAllListeners(each));
+  [...SIGNALS, HANGUP].forEach((each) => process.removeAllListeners(each));
   process.kill(process.pid, signal);
+}
+
+/** @param {string} signal */
+function end(signal) {
+  if (caught !== null || endStream === null) return endBySignal(signal);
+  caught = signal;
+  endStream();
+}
+
+/** Lets a hangup do what the signals do, unless it is to be passed over. */
+export function catchHangup() {
+  if (process.env.PORT1_NOHUP === undefined) process.on(HANGUP, () => end(HANGUP));
 }
 
 /** Lets signals do so. */
 export function catchSignals() {
-  for (const signal of SIGNALS) {
-    process.on(signal, () => {
-      if (caught !== null || endStream === null) return endBySignal(signal);
-      caught = signal;
-      endStream();
-    });
-  }
+  if (process.env.PORT1_NOHUP !== undefined) process.on(HANGUP, () => undefined);
+  for (const signal of SIGNALS) process.on(signal, () => end(signal));
 }

@@ -1,16 +1,14 @@
-"""How the scripts read their words, and how they end.
+"""How the tools in Python read their words, and how they end.
 
 Help goes to standard output, with status 0. A wrong call is told on standard error, usage and reason, with status 2.
 Whatever else keeps a script from its work is one line on standard error, with status 2: a fault of the input, a folder
-or an unreadable file, a full disk. Of a reader of its output that has gone it says nothing. Where a stream is read, the
-first SIGINT or SIGTERM is its end, and a second one ends the script at once.
+or an unreadable file, a full disk. Of a reader of its output that has gone it says nothing.
 """
 
 import argparse
 import os
-import signal
 import sys
-from typing import Any, Callable, List, NoReturn, Optional
+from typing import Callable, NoReturn, Optional
 
 
 class Fault(Exception):
@@ -63,29 +61,9 @@ def status_of(main: Callable[[], Optional[int]]) -> int:
     return 2
 
 
-def run(main: Callable[[], Optional[int]], is_stream: bool = False) -> NoReturn:
-    """Runs a script, and ends with its status, or by the signal that ended its input."""
-    caught = end_stream_at_signals() if is_stream else []
-    status = status_of(main)
-    if caught:
-        os.kill(os.getpid(), caught[0])
-    sys.exit(status)
-
-
-def end_stream_at_signals() -> List[int]:
-    """Lets the first signal be the end of standard input, and have no further effect until it is sent again."""
-    caught: List[int] = []
-
-    def end(number: int, _: Any) -> None:
-        caught.append(number)
-        for each in (signal.SIGINT, signal.SIGTERM):
-            signal.signal(each, signal.SIG_DFL)
-        nothing = os.open(os.devnull, os.O_RDONLY)
-        os.dup2(nothing, sys.stdin.fileno())
-
-    for each in (signal.SIGINT, signal.SIGTERM):
-        signal.signal(each, end)
-    return caught
+def run(main: Callable[[], Optional[int]]) -> NoReturn:
+    """Runs a script, and ends with its status."""
+    sys.exit(status_of(main))
 
 
 def positive(text: str) -> int:

@@ -3,7 +3,7 @@
 import importlib
 from typing import Any, Dict
 
-from common.manners import Fault
+from definitions.manners import Fault
 
 
 class NotToml(Fault):

@@ -6,6 +6,12 @@ import { Fault } from "../fault.js";
 /** The folder that has `examples`: of this repository, or where the scripts are installed. */
 export const TOP = fileURLToPath(new URL("../../..", import.meta.url));
 
+/**
+ * The file of a command of these scripts, which Node runs.
+ * @param {string} name
+ */
+export const commandNamed = (name) => fileURLToPath(new URL(`../commands/${name}.js`, import.meta.url));
+
 /** Where the page is: in this repository, and where the scripts are installed. */
 export const PAGES = ["page/out/port1.html", "page/port1.html"].map((file) => join(TOP, file));
 

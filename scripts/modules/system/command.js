@@ -56,7 +56,7 @@ export function isOfSystem(error, wanted) {
 
 /** The text that --help writes: it begins with the usage, which ends with an empty line. */
 function help() {
-  const text = readFileSync(new URL(`${name}.txt`, import.meta.url), "utf8");
+  const text = readFileSync(new URL(`../commands/${name}.txt`, import.meta.url), "utf8");
   return text.replace(/^usage: \S+/, `usage: ${name}`);
 }
 
@@ -85,9 +85,9 @@ export const misuse = (text) => new Misuse(`${help().split("\n\n")[0]}\n${name}:
  * @param {number} [most] how many of them there may be
  * @returns {{ values: Values<Options>, words: string[] }}
  */
-export function wordsOf(options = /** @type {Options} */ ({}), words = [], most = words.length) {
+export function wordsOf(options = /** @type {Options} */ ({}), words = [], most = words.length, args = process.argv.slice(2)) {
   const typed = Object.entries(options).map(([key, read]) => [key, { type: read === true ? "boolean" : "string" }]);
-  const config = { options: { ...Object.fromEntries(typed), help: { type: "boolean", short: "h" } } };
+  const config = { args, options: { ...Object.fromEntries(typed), help: { type: "boolean", short: "h" } } };
   const found = parsed(config);
   if (found.values.help) {
     writeText(help());
@@ -103,7 +103,7 @@ export function wordsOf(options = /** @type {Options} */ ({}), words = [], most 
   return { values: Object.fromEntries(values), words: others };
 }
 
-/** @param {{ options: Record<string, { type: string, short?: string }> }} config */
+/** @param {{ args: string[], options: Record<string, { type: string, short?: string }> }} config */
 function parsed(config) {
   try {
     return parseArgs({ ...config, allowPositionals: true });

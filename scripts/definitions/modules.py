@@ -3,7 +3,7 @@
 from pathlib import Path
 from typing import Dict, List, NamedTuple, Optional, Set, Tuple, Union
 
-from common.manners import Fault
+from definitions.manners import Fault
 from definitions.syntax import Clause, Name, clause_of
 from definitions.table import CASES, FUNCTIONS, VALUES
 from definitions.tokens import Token, tokens_of

@@ -2,7 +2,7 @@
 
 from typing import List, NamedTuple, Optional, Tuple, Union
 
-from common.manners import Fault
+from definitions.manners import Fault
 from definitions.tokens import Token
 
 

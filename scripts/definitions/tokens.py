@@ -3,7 +3,7 @@
 import re
 from typing import List, NamedTuple
 
-from common.manners import Fault
+from definitions.manners import Fault
 
 TOKEN = re.compile(
     r'(?P<blank>\s+)|(?P<comment>--[^\n]*)|(?P<text>"(?:\\.|[^"\\\n])*")'

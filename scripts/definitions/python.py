@@ -11,23 +11,11 @@ import threading
 from pathlib import Path
 from typing import Any, Callable, Dict, List, NamedTuple, Optional, Sequence, Set, Tuple
 
-from common.manners import Fault
+from definitions.manners import Fault
 from definitions import table, values
 from definitions.modules import Case, Definition, Foreign, Meaning, Module, Modules
 from definitions.syntax import (
-    Apply,
-    Choice,
-    Clause,
-    Field,
-    Fields,
-    Function,
-    Let,
-    Name,
-    Number,
-    Operator,
-    Several,
-    Text,
-    Tree,
+    Apply, Choice, Clause, Field, Fields, Function, Let, Name, Number, Operator, Several, Text, Tree
 )
 
 # Names that stand for values of Python.

@@ -3,11 +3,13 @@
     by-definition list [OPTIONS] < CAPTURE
     by-definition check [OPTIONS] < CAPTURE
     by-definition ledger [OPTIONS] < CAPTURE
+    by-definition sample [OPTIONS] TXC TXD [RXC RXD] < SAMPLES
     by-definition python
 
 `list` and `check` write what the library calls behind port1 are proved to write; OPTIONS are those of port1, and --dictionary FILE may stand for
 --dict TEXT. `ledger` writes the counts that bound the work: settled places, octets that are stored, octets of frames,
-and steps of reports; of two lines for each. `python` writes what is run, definition by definition, below the functions
+and steps of reports; of two lines for each. `sample` writes what port1-sample does, whose options it has; of a record
+that is cut off it writes nothing. `python` writes what is run, definition by definition, below the functions
 of the toolchain that a table does. No decoder is written here: what a frame is stands in the definitions alone, and
 what the translator does not know in them it refuses. A text of TOML is read by Python's own reader, which takes
 brackets that are deeper in one another than port1 does.
@@ -22,10 +24,12 @@ import sys
 from pathlib import Path
 from typing import Any, Iterator, NamedTuple, Optional, Sequence
 
-from common import manners
-from common.manners import Fault
-from common.program import TOP
-from definitions import table
+SCRIPTS = Path(__file__).resolve().parent.parent
+
+sys.path[0] = str(SCRIPTS)
+
+from definitions import manners, table
+from definitions.manners import Fault
 from definitions.python import Translation, with_room
 from definitions.values import Case, Items, Record, items_of
 
@@ -48,9 +52,15 @@ SETTLED = ("bus_line.specs.Ledger", "assembled")
 COUNTS = [("bus_line.specs.Ledger", "stored"), ("bus_line.specs.Ledger", "copied")]
 REPORTS = ("bus_line.specs.Due", "reports")
 HANDLED = ("bus_pairing.specs.Ledger", "handled")
+RECORDED = ("bus_sample.specs.Recording", "recorded")
+CUT = ("bus_sample.specs.Recording", "cut_record")
+SAMPLED = ("bus_sample.specs.Recording", "arrivals")
+MARKED = ("bus_sample.specs.Marks", "whole_text")
+RECORDS = "bus_sample.specs.declared.options.Form.TheVariants"
 
 NEEDED = [LISTING, REPORT, WHOLE, *FORMS, DICTIONARY, DICTIONARY_TEXT, KIND]
 NEEDED += [LONGEST, *SIDES, SETTLED, *COUNTS, REPORTS, HANDLED]
+NEEDED += [RECORDED, CUT, SAMPLED, MARKED]
 
 
 class Answer(NamedTuple):
@@ -79,6 +89,16 @@ def add_filters(command: argparse.ArgumentParser) -> None:
     command.add_argument("--kind", metavar="K", help="only lines of this kind")
 
 
+def add_sampling(command: argparse.ArgumentParser) -> None:
+    wire = whole_number(0, 63)
+    command.add_argument("--octets", metavar="N", type=whole_number(1, 8), default=1, help="octets of a sample")
+    command.add_argument("--runs", action="store_true", help="records are runs of samples")
+    command.add_argument("--hold", metavar="N", type=whole_number(0, 65535), default=1, help="a level stands N + 1 samples")
+    command.add_argument("--rest", metavar="N", type=manners.natural, default=0, help="after which a clock has stopped")
+    command.add_argument("--falling", action="store_true", help="bits are taken where clocks fall")
+    command.add_argument("wires", metavar="WIRE", type=wire, nargs="+", help="TXC and TXD, RXC and RXD")
+
+
 def read_words(words: Optional[Sequence[str]] = None) -> argparse.Namespace:
     parser = manners.parser(__doc__)
     commands = parser.add_subparsers(dest="command", metavar="COMMAND", required=True)
@@ -98,10 +118,13 @@ def read_words(words: Optional[Sequence[str]] = None) -> argparse.Namespace:
             add_filters(command)
         if name == "check":
             command.add_argument("--depth", metavar="N", type=whole_number(1, 1024), default=16)
+    add_sampling(commands.add_parser("sample", help="what arrives in samples"))
     commands.add_parser("python", help="what is run")
     given = parser.parse_args(words)
-    if vars(given).get("rest") is not None and not given.arrivals:
+    if vars(given).get("arrivals") is False and given.rest is not None:
         parser.error("--rest needs --arrivals")
+    if given.command == "sample" and len(given.wires) not in (2, 4):
+        parser.error("the wires are TXC and TXD, or also RXC and RXD")
     return given
 
 
@@ -168,8 +191,29 @@ class Definitions:
         sides = [(f"{at} ", self.run(name, bits)) for at, name in enumerate(SIDES, 1)] if words.two else [("", bits)]
         return "".join(f"{front}{line}\n" for front, side in sides for line in self.ledger(side, entries)).encode()
 
+    def sampling(self, words: argparse.Namespace) -> Record:
+        """What `SampleOptions` of the program has and its text depends on."""
+        wires = [Record(number=at, is_inverted=words.falling and not index % 2) for index, at in enumerate(words.wires)]
+        names = ["first_clock", "first_data", "second_clock", "second_data"]
+        found = [*wires, None, None]
+        return Record(
+            form=Case(f"{RECORDS}.Runs") if words.runs else Case(f"{RECORDS}.Samples", words.octets),
+            wires=Record(**{name: option(wire) for name, wire in zip(names, found)}),
+            hold=words.hold,
+            rest=words.rest,
+        )
+
+    def text_of_samples(self, words: argparse.Namespace, octets: bytes) -> bytes:
+        options, recording = self.sampling(words), items_of(octets)
+        if len(self.run(CUT, options.form, recording)):
+            raise Fault("the last sample is cut off")
+        samples = self.run(RECORDED, options.form, recording)
+        return bytes(self.run(MARKED, self.run(SAMPLED, options, samples)))
+
     def answer(self, words: argparse.Namespace, octets: bytes) -> Answer:
         """What a call comes to whose capture has these octets."""
+        if words.command == "sample":
+            return Answer(self.text_of_samples(words, octets), "")
         options = self.options(words)
         entries = self.dictionary(options)
         form = self.run(FORMS[2 if vars(words).get("arrivals") else words.two])
@@ -193,7 +237,7 @@ def write_python(definitions: Definitions) -> None:
 
 def main() -> None:
     words = read_words()
-    definitions = Definitions(TOP / "crates")
+    definitions = Definitions(SCRIPTS.parent / "crates")
     if words.command == "python":
         write_python(definitions)
         return

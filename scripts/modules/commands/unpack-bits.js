@@ -1,0 +1,10 @@
+import { Unpacker } from "../capture/unpack.js";
+import { run, wordsOf, write } from "../system/command.js";
+import { FORM_OPTIONS, formAsked } from "../system/form.js";
+import { standardInput } from "../system/input.js";
+
+run(async () => {
+  const unpacker = new Unpacker(formAsked(wordsOf(FORM_OPTIONS).values));
+  for await (const octets of standardInput()) unpacker.take(octets, write);
+  unpacker.end(write);
+});

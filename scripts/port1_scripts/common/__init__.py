@@ -1,1 +1,0 @@
-"""What the scripts in the folder above share."""
