@@ -119,7 +119,7 @@ install-program: $(PROGRAM) $(SAMPLER) install-scripts
 		install -m 644 cli/completions/$$name.fish "$(DESTDIR)$(FISHDIR)/$$name.fish" || exit 1; done
 
 # Puts the files of a folder into one of share/port1/contrib, whose names are older than those here; tests stay here.
-put-in-contrib = find $(1) -mindepth 1 -name tests -prune -o -name port1_scripts -prune -o -name __pycache__ -prune -o \
+put-in-contrib = find $(1) -mindepth 1 -name tests -prune -o -name __pycache__ -prune -o \
 	! -name self-test -type f -printf '%P\n' | while read -r file; do \
 		mode=644; test ! -x "$(1)/$$file" || mode=755; \
 		install -D -m $$mode "$(1)/$$file" "$(DESTDIR)$(OWNDIR)/contrib/$(2)$$file" || exit 1; done
@@ -131,7 +131,6 @@ install-scripts:
 	install -m 644 $(wildcard *.md) "$(DESTDIR)$(OWNDIR)"
 	install -m 644 $(wildcard docs/*.md docs/*.toml docs/*.png) "$(DESTDIR)$(OWNDIR)/docs"
 	$(call put-in-contrib,scripts)
-	$(call put-in-contrib,scripts/port1_scripts,scripts/)
 	$(call put-in-contrib,bindings/python,python/)
 	$(call put-in-contrib,bindings/sigrok,sigrok/)
 	install -D -m 755 c/targets/build "$(DESTDIR)$(OWNDIR)/contrib/mcu/build"

@@ -122,12 +122,27 @@ def run_alone(task: Task, place: Place, look: Callable[[int], None] = lambda num
     return end(each)
 
 
+class Minutes:
+    """Says each minute what goes on."""
+
+    def __init__(self) -> None:
+        self.begun, self.said = time.monotonic(), 0
+
+    def tell(self, what: str) -> None:
+        minutes = int(time.monotonic() - self.begun) // 60
+        if minutes > self.said:
+            print(f".. {minutes} min: {what}", flush=True)
+            self.said = minutes
+
+
 def run_beside(tasks: Sequence[Task], most: int, place: Place) -> Dict[str, Ended]:
     """Runs them, as many at once as `most`, and returns what came of each by its name."""
     left, ended = list(tasks), {}
     going: List[Going] = []
+    minutes = Minutes()
     try:
         while left or going:
+            minutes.tell(f"{', '.join(each.task.name for each in going)} run, {len(ended)} of {len(tasks)} are over")
             for task in list(ready(left, going))[: most - len(going)]:
                 print(f".. {task.name} begins", flush=True)
                 left.remove(task)

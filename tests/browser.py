@@ -1,4 +1,5 @@
-"""Drives a browser by WebDriver BiDi: Chromium by chromedriver (Debian: chromium-driver), Firefox by itself."""
+"""Drives a browser: by WebDriver BiDi Chromium, by chromedriver (Debian: chromium-driver), and Firefox, by itself; by
+WebDriver alone WebKit, by WebKitWebDriver (Debian: webkit2gtk-driver), which opens MiniBrowser on a display of Xvfb."""
 
 import base64
 import importlib
@@ -6,13 +7,17 @@ import json
 import os
 import subprocess
 import time
+import urllib.error
 import urllib.request
 from contextlib import contextmanager
 from pathlib import Path
 from typing import Any, Dict, Iterator, List, Optional, Sequence
 
 # How long anything may take, in seconds.
-PATIENCE = 120.0
+PATIENCE = 300.0
+
+# WebKit's own browser, which stands beside its library.
+MINIBROWSER = "/usr/lib/x86_64-linux-gnu/webkit2gtk-4.1/MiniBrowser"
 
 # Keys by their names, as WebDriver has them.
 KEYS = {
@@ -103,20 +108,18 @@ class Session:
             raise Fault(f"{expression}: {found['exceptionDetails']['text']}")
         return json.loads(found["result"]["value"])
 
-    def wait_until(self, expression: str, seconds: float = PATIENCE) -> float:
-        """Waits until an expression is true. How long that took, in seconds."""
+    def wait_until(self, expression: str) -> None:
+        """Waits until an expression is true."""
         began = time.monotonic()
         while not self.value(f"Boolean({expression})"):
-            if time.monotonic() - began > seconds:
-                raise Fault(f"{expression} was not true within {seconds} s")
+            if time.monotonic() - began > PATIENCE:
+                raise Fault(f"{expression} was not true within {PATIENCE} s")
             time.sleep(0.02)
-        return time.monotonic() - began
 
     def set_files(self, selector: str, files: Sequence[Path]) -> None:
         """Chooses files, as a user does."""
         found = self.call(
-            "browsingContext.locateNodes",
-            {"context": self.context, "locator": {"type": "css", "value": selector}},
+            "browsingContext.locateNodes", {"context": self.context, "locator": {"type": "css", "value": selector}}
         )
         element = {"sharedId": found["nodes"][0]["sharedId"]}
         words = {"context": self.context, "element": element, "files": [str(file) for file in files]}
@@ -163,6 +166,42 @@ class Session:
         """What the page wrote to the console as errors, the refusals of its security policy among them."""
         said = [event["params"] for event in self.events if event.get("method") == "log.entryAdded"]
         return [entry["text"] for entry in said if entry["level"] == "error"]
+
+
+class Classic(Session):
+    """A page of a browser that has WebDriver alone: what that can."""
+
+    def __init__(self, address: str):
+        super().__init__(None)
+        self.address = address
+
+    def call(self, method: str, parameters: Dict[str, Any]) -> Any:
+        try:
+            return asked(f"{self.address}/{method}", parameters)["value"]
+        except urllib.error.HTTPError as error:
+            raise Fault(f"{method}: {error.read().decode(errors='replace')[:500]}") from None
+
+    def visit(self, address: str) -> None:
+        self.call("url", {"url": address})
+
+    def value(self, expression: str) -> Any:
+        words = "(it) => done([JSON.stringify(it === undefined ? null : it)]), (fault) => done(String(fault))"
+        script = f"const done = arguments[0]; Promise.resolve({expression}).then({words});"
+        found = self.call("execute/async", {"script": script, "args": []})
+        if isinstance(found, str):
+            raise Fault(f"{expression}: {found}")
+        return json.loads(found[0])
+
+    def set_files(self, selector: str, files: Sequence[Path]) -> None:
+        found = self.call("element", {"using": "css selector", "value": selector})
+        self.call(f"element/{next(iter(found.values()))}/value", {"text": "\n".join(map(str, files))})
+
+    def size(self, width: int, height: int) -> None:
+        self.call("window/rect", {"width": width, "height": height})
+
+    def picture(self, file: Path, whole: bool = True) -> None:
+        shown = asked(f"{self.address}/screenshot", None, "GET")["value"]
+        file.write_bytes(base64.b64decode(shown))
 
 
 def dragged(name: str, kind: str, begin: Sequence[float], end: Sequence[float]) -> Dict[str, Any]:
@@ -263,5 +302,23 @@ def firefox(folder: Path, is_dark: bool = False) -> Iterator[Session]:
             session.socket.close()
 
 
+@contextmanager
+def webkit(folder: Path, is_dark: bool = False) -> Iterator[Session]:
+    port, display = free_port(), f":{100 + free_port() % 30000}"
+    options = {"binary": MINIBROWSER, "args": ["--automation"]}
+    wanted = {"alwaysMatch": {"webkitgtk:browserOptions": options, "timeouts": {"script": int(1000 * PATIENCE)}}}
+    words = ["env", f"DISPLAY={display}", "GDK_BACKEND=x11", "WebKitWebDriver", f"--port={port}"]
+    with running(["Xvfb", display, "-screen", "0", "1600x1200x24"], folder), running(words, folder):
+        opened = asked(f"http://127.0.0.1:{port}/session", {"capabilities": wanted})["value"]
+        session = Classic(f"http://127.0.0.1:{port}/session/{opened['sessionId']}")
+        try:
+            yield session
+        finally:
+            asked(session.address, None, "DELETE")
+
+
 # The browsers, and the programs that each needs.
 BROWSERS = {"chromium": (chromium, ["chromium", "chromedriver"]), "firefox": (firefox, ["firefox-esr"])}
+
+# One in which the page is shown to read and to decode; its driver cannot do all that the other tests ask of one.
+WEBKIT = {"webkit": (webkit, ["WebKitWebDriver", "Xvfb"])}

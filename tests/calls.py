@@ -9,12 +9,7 @@ from table.case import Counted
 
 def variables_of(row: Counted, library: Path, log: Path) -> Mapping[str, str]:
     """The environment in which the library does to the calls what the row says."""
-    bounds = {
-        "PIECE": row.piece,
-        "FAILS": row.failing_read,
-        "ROOM": row.room,
-        "DEAF": 1 if row.takes_none else None,
-    }
+    bounds = {"PIECE": row.piece, "FAILS": row.failing_read, "ROOM": row.room, "DEAF": 1 if row.takes_none else None}
     return {
         "LD_PRELOAD": str(library),
         "CALLS": str(log),

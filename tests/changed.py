@@ -12,7 +12,7 @@ SUBJECTS: Dict[str, str] = {
     "program": r"(bench|c|cli|crates|docs|examples|packages|tests)/|[^/]+\.md$|Makefile$",
     "count": r"crates/\w+/src/|bench/(count|generate)",
     "scripts": r"(bindings|c/targets|cli|examples|packages|scripts)/|Makefile$",
-    "page": r"page/|scripts/modules/|tests/(browser|engine|incidents|jobs|page|paged|viewed)",
+    "page": r"page/|scripts/modules/|tests/(browser|engine|incidents|inputs|jobs|page|paged|turns|viewed|webkit)",
 }
 
 # What the prover reads of a crate, and its wrong bodies.

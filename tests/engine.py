@@ -30,7 +30,11 @@ TIMED = "statistics-api.test.js"
 # By how the name of a test begins, the module of Python that makes its inputs, or against which it compares.
 MODULES = {"recording-session": "numpy", "dictionary": "tomllib"}
 
-ENGINE = re.compile(r'id="engine">(.*?)</script>', re.DOTALL)
+# The decoders in a page, by the widths of their addresses.
+ENGINES = {
+    "64": re.compile(r'id="engine">(.*?)</script>', re.DOTALL),
+    "32": re.compile(r'id="engine-32">(.*?)</script>', re.DOTALL),
+}
 
 
 class Test(NamedTuple):
@@ -110,27 +114,43 @@ def problems_of_build(page: Path) -> List[str]:
 
 
 @lru_cache(maxsize=None)
-def engine_of(page: Path) -> bytes:
-    """The decoder that is in the page."""
+def engine_of(page: Path, width: str = "64") -> bytes:
+    """A decoder that is in the page, by the width of its addresses."""
     if not page.is_file():
         raise Skipped(f"there is no {page}: `page/build` builds it")
-    found = ENGINE.search(page.read_text(encoding="utf-8"))
+    found = ENGINES[width].search(page.read_text(encoding="utf-8"))
     if found is None:
-        raise Skipped(f"{page} has no decoder")
+        raise Skipped(f"{page} has no decoder for {width}-bit memory")
     return base64.b64decode(found[1])
 
 
+def narrow_page(page: Path, folder: Path) -> Path:
+    """The same page without the decoder for 64-bit memory, as browsers take it that have none."""
+    engine_of(page, "32")
+    narrow = folder / "narrow.html"
+    text = page.read_text(encoding="utf-8")
+    narrow.write_text(ENGINES["64"].sub('id="no-engine"></script>', text, 1), encoding="utf-8")
+    return narrow
+
+
 def listed(page: Path, jobs: Sequence[Dict[str, Any]]) -> List[Dict[str, Any]]:
-    """What the modules of the page make of files."""
+    """What the modules of the page make of files, by either decoder alike."""
     needs("node")
+    results = []
     with tempfile.TemporaryDirectory(prefix="port1-") as folder:
-        module = Path(folder, "port1.wasm")
-        module.write_bytes(engine_of(page))
-        words = [*NODE, str(TOP / "page" / "tests" / "list.js"), str(module)]
-        ran = subprocess.run(words, input=json.dumps(jobs), capture_output=True, text=True, timeout=SECONDS)
-    if ran.returncode != 0:
-        raise RuntimeError(f"list.js failed: {ran.stderr[-2000:]}")
-    found: List[Dict[str, Any]] = json.loads(ran.stdout)
+        for width in ENGINES:
+            module = Path(folder, f"port1-{width}.wasm")
+            module.write_bytes(engine_of(page, width))
+            words = [*NODE, str(TOP / "page" / "tests" / "list.js"), str(module), width]
+            ran = subprocess.run(words, input=json.dumps(jobs), capture_output=True, text=True, timeout=SECONDS)
+            if ran.returncode != 0:
+                raise RuntimeError(f"list.js failed with {width}-bit memory: {ran.stderr[-2000:]}")
+            results.append(json.loads(ran.stdout))
+    wide, narrow = results
+    for job, one, other in zip(jobs, wide, narrow):
+        if one != other:
+            raise RuntimeError(f"with 32-bit memory {job} gives {str(other)[:500]}, not {str(one)[:500]}")
+    found: List[Dict[str, Any]] = wide
     return found
 
 

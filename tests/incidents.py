@@ -90,7 +90,7 @@ ROWS = "[...document.querySelectorAll('#incident-list button')].map((b) => [...b
 
 LIST = [
     ["2026-11-27 03:00:00.311", "answers to type 0 missing", "station 2", "0.20 s"],
-    ["2026-11-26 01:02:03.450", "nothing on either line, and 2 more", "stations 1, 2", "0.20 s"],
+    ["2026-11-26 01:02:03.450", "nothing on either line, and 2 other causes", "stations 1, 2", "0.20 s"],
 ]
 
 # What is shown of the last one: where, and how that begins or what it has.
@@ -116,20 +116,20 @@ def problems_of_list(page: Path, name: str) -> List[str]:
     """Whether a folder is a list, its last incident is shown with times of day, and a file after it with seconds."""
     with opened(name, address_of(page)) as session, tempfile.TemporaryDirectory(prefix="port1-") as top:
         choose(session, name, incidents(), Path(top))
-        session.wait_until("document.body.dataset.state === 'list'", 20)
+        session.wait_until("document.body.dataset.state === 'list'")
         found = session.value(ROWS)
         problems = [] if found == LIST else [f"the list is {found}"]
         session.value("document.activeElement.click()")
-        session.wait_until(f"{RESULT} && /^03/.test(document.getElementById('chosen').textContent)", 20)
-        session.wait_until("document.querySelector('#lines .line.chosen .second')", 20)
-        session.wait_until("document.querySelectorAll('#timeline .axis .tick').length > 2", 20)
+        session.wait_until(f"{RESULT} && /^03/.test(document.getElementById('chosen').textContent)")
+        session.wait_until("document.querySelector('#lines .line.chosen .second')")
+        session.wait_until("document.querySelectorAll('#timeline .axis .tick').length > 2")
         for selector, words in SHOWN:
             told = text_at(session, selector)
             problems += [] if words in told else [f"{selector} is {told!r}, without {words!r}"]
         problems += [] if session.value("page1.navigation.timeline.summary.hasBits") else ["there are no bits"]
         go = "(field) => { field.value = '03:00:00.5'; field.dispatchEvent(new Event('change')); }"
         session.value(f"void ({go})(document.getElementById('query-second'))")
-        session.wait_until("/^03:00:00.501/.test(document.getElementById('chosen').textContent)", 20)
+        session.wait_until("/^03:00:00.501/.test(document.getElementById('chosen').textContent)")
         read_file(session, EXAMPLE)
         is_hidden = session.value("document.getElementById('incidents').hidden")
         where = text_at(session, "#timeline .where")
@@ -143,12 +143,12 @@ def problems_of_one(page: Path, name: str) -> List[str]:
     plain = {path: content for path, content in files.items() if not path.endswith("json")}
     with opened(name, address_of(page)) as session:
         session.value(DROP % json.dumps(tree_of(cut)))
-        session.wait_until("/incident.json tells nothing/.test(document.getElementById('status').textContent)", 20)
+        session.wait_until("/incident.json tells nothing/.test(document.getElementById('status').textContent)")
         session.value(DROP % json.dumps(tree_of(files)))
-        session.wait_until(f"{RESULT} && /^03/.test(document.getElementById('chosen').textContent)", 20)
+        session.wait_until(f"{RESULT} && /^03/.test(document.getElementById('chosen').textContent)")
         problems = [] if session.value("document.getElementById('incidents').hidden") else ["one incident is a list"]
         session.value(DROP % json.dumps(tree_of(plain)))
-        session.wait_until(f"{RESULT} && /^bits/.test(document.querySelector('#facts .name').textContent)", 20)
+        session.wait_until(f"{RESULT} && /^bits/.test(document.querySelector('#facts .name').textContent)")
         where, told = text_at(session, "#timeline .where"), text_at(session, "#status.fault")
         return problems + ([] if where.startswith("0.0000 to 0.8") and told == "" else [f"a folder of files: {where}, {told}"])
 

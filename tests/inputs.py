@@ -84,22 +84,33 @@ NAMES = ("TXC", "TXD", "RXC", "RXD")
 ALIKE = 4
 
 
-def session_of(lines: Sequence[Line], names: Sequence[str] = NAMES) -> bytes:
-    """A session as PulseView saves it."""
+def session_of(lines: Sequence[Line], names: Sequence[str] = NAMES, lost: Sequence[int] = ()) -> bytes:
+    """A session as PulseView saves it; some samples may be lost."""
     probes = "".join(f"probe{at}={name}\n" for at, name in enumerate(names, 1))
     rate = f"samplerate={2 * ALIKE * RATE} Hz"
     written = io.BytesIO()
     with zipfile.ZipFile(written, "w", zipfile.ZIP_DEFLATED) as archive:
         archive.writestr("version", "2")
         archive.writestr("metadata", f"[device 1]\ncapturefile=logic-1\n{rate}\n{probes}unitsize=1\n")
-        archive.writestr("logic-1-1", bytes(level for level in levels_of(lines) for _ in range(ALIKE)))
+        samples = bytearray(level for level in levels_of(lines) for _ in range(ALIKE))
+        for at in reversed(lost):
+            del samples[at]
+        archive.writestr("logic-1-1", bytes(samples))
     return written.getvalue()
 
 
-def rows_of(lines: Sequence[Line], names: Sequence[str] = NAMES, flipped: int = 0) -> bytes:
-    """A table as sigrok writes it; some wires may be inverted."""
+def with_stops(levels: Iterator[int], stops: Dict[int, int]) -> Iterator[int]:
+    """Levels of which those at some numbers stand for so many samples more, as where all clocks stop."""
+    for at, level in enumerate(levels):
+        yield from [level] * (1 + stops.get(at, 0))
+
+
+def rows_of(
+    lines: Sequence[Line], names: Sequence[str] = NAMES, flipped: int = 0, stops: Dict[int, int] = {}, dead: int = 0
+) -> bytes:
+    """A table as sigrok writes it; some wires may be inverted or dead, and all may stand still at some samples."""
     head = f"; Channels (4/4): {', '.join(names)}\n; Samplerate: {2 * RATE}\n{','.join(['logic'] * 4)}\n"
-    rows = (level ^ flipped for level in levels_of(lines))
+    rows = (level & ~dead ^ flipped for level in with_stops(levels_of(lines), stops))
     return (head + "".join(",".join(str(row >> at & 1) for at in range(4)) + "\n" for row in rows)).encode()
 
 
@@ -135,11 +146,21 @@ OFTEN_MISSING = text_of(*talk(60, lambda station, number: NO_ANSWER if (station,
 SLOW = text_of(*talk(60, lambda station, number: 4.0 if station == 2 and number in (7, 30) else 1.0))
 LATE = text_of(*talk(60, lambda station, number: 6.0 if station == 2 and number in (7, 30) else 1.0))
 QUIET = text_of(*talk(60, lambda _, number: NOT_ASKED if 30 <= number < 40 else 1.0))
+MANY_GAPS = text_of(*talk(600, lambda _, number: NOT_ASKED if number % 40 >= 35 else 1.0))
 MUTE = text_of(*talk(60, lambda _, number: NO_ANSWER if number >= 30 else 1.0))
 SILENT = text_of(*talk(60, lambda station, _: NO_ANSWER if station == 2 else 1.0))
 NO_ANSWERS = text_of(*talk(60, lambda *_: NO_ANSWER))
 SWAPPED = text_of(*reversed(talk(60, well)))
+UNTYPED = (FLAG + frame_bits(1, CONTROL) + FLAG).encode()
 DEAD = text_of(*talk(60, well, rest=2000))
+
+SEVERAL = text_of(*talk(120, lambda station, number: NO_ANSWER if number == 50 and station == 2 else 6.0 if number == 7 else 1.0))
+
+# Two samples a bit: TXC stands still for 0.05 s after 0.06 s, and for 0.1 s after 0.14 s.
+STOPS = {round(2 * RATE * second): round(2 * RATE * length) for second, length in [(0.06, 0.05), (0.14, 0.1)]}
+
+# Half a bit within the first command of the sixth round.
+LOST = [round(2 * ALIKE * RATE * 0.10115) + at for at in range(ALIKE)]
 
 DICT = {"cabinet.toml": dictionary()}
 OPEN = {"open.toml": dictionary("")}
@@ -153,7 +174,14 @@ INPUTS = [
         "No fault found",
         {SHORTLY: "^Every answer came in time", "#counts": "^0gaps0missing0late0spoilt0damaged$", "#replies p": "0 late"},
     ),
-    Input("no dictionary", {"a.bits": WELL}, "Not judged", {LACKS: "There is no dictionary.*Begin a dictionary"}),
+    Input(
+        "no dictionary",
+        {"a.bits": WELL},
+        "Not all judged",
+        {LACKS: "^Nothing is damaged, missing or spoilt.*Judged by a draft of a dictionary.*See it", **NOT_LATE},
+    ),
+    Input("a silent station, and no dictionary", {"a.bits": SILENT}, "Fault", {FIRST: "^Station 2 is silent"}),
+    Input("frames without a type", {"a.bits": UNTYPED}, "Not judged", {LACKS: "There is no dictionary"}),
     Input(
         "no window",
         {**OPEN, "a.bits": WELL},
@@ -212,6 +240,40 @@ INPUTS = [
         {"#warnings": "RXD never changes.*Is it the right channel"},
     ),
     Input(
+        "several findings",
+        {**DICT, "a.bits": SEVERAL},
+        "Look closer",
+        {SHORTLY: "^Station 2: 1 answer missing . Station 1: 1 answer late . 1 more finding$"},
+    ),
+    Input(
+        "a clock that stops twice",
+        {**DICT, "tap.csv": rows_of(SHORT, stops=STOPS)},
+        "",
+        {
+            "#warnings": r"TXC stops, and times with it: in the end they are 0\.150 s too early\. 2 times, for longest at 0\.140 s",
+            "#facts": r"0\.370 s, 0\.220 s of them with a clock",
+            "#head": r"in 0\.370 s, 0\.220 s of them with a clock",
+        },
+    ),
+    Input(
+        "a clock that is dead",
+        {**DICT, "tap.csv": rows_of(SHORT, dead=0b0001)},
+        "",
+        {"#warnings": "TXC never changes", "#facts": r"0\.220 s, 0\.000 s of them with a clock"},
+    ),
+    Input(
+        "samples that are lost within a frame",
+        {**DICT, "tap.sr": session_of(SHORT, lost=LOST)},
+        "",
+        {"#warnings": "The analyser lost samples", "#head": "damaged pieces?, beside [1-9] where the recording lacks samples,"},
+    ),
+    Input(
+        "channels of other numbers",
+        {**DICT, "saleae.csv": rows_of(SHORT, [f"Channel {at}" for at in range(4)])},
+        "",
+        {"#ask": "^saleae.csv has 4 channels", STATUS: "^Say which channels the recording has"},
+    ),
+    Input(
         "a table that is cut off",
         {**DICT, "tap.csv": rows_of(SHORT)[:-4]},
         "Look closer",
@@ -223,7 +285,7 @@ INPUTS = [
         "Look closer",
         {"#warnings": "ends in the middle of a line", "#head": "^40 frames"},
     ),
-    Input("a session that is cut off", {"tap.sr": session_of(SHORT)[:-400]}, "", {STATUS: "^The session is cut off"}),
+    Input("a session that is cut off", {"tap.sr": session_of(SHORT)[:-400]}, "", {STATUS: "^tap.sr: The session is cut off"}),
     Input(
         "a capture that is cut off",
         {"a.ts2": b"TS2BITS1" + (90).to_bytes(8, "little") + b"\x7e\x7e"},

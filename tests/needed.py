@@ -27,7 +27,7 @@ echo "$@" >> {log}
 test ! -d {source} || /bin/cp -n {source}/* {path}
 """
 
-SECONDS = 60
+SECONDS = 300
 
 
 class Machine(NamedTuple):

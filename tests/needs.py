@@ -59,6 +59,8 @@ GATE = [
     Package("systemd", ["systemd-analyze"]),
     Package("tshark", ["tshark"]),
     Package("valgrind", ["valgrind"]),
+    Package("webkit2gtk-driver", ["WebKitWebDriver"]),
+    Package("xvfb", ["Xvfb"]),
     Package("zsh", ["zsh"]),
 ]
 

@@ -1,5 +1,4 @@
-"""Compares the man page and the completions with the help texts: every option and kind, and no other; and all that
-brings a second line to rest with the rule of rest: the silence, unless it is said."""
+"""Compares the man page and the completions with the help texts: every option, and no other."""
 
 import re
 import subprocess
@@ -22,22 +21,6 @@ ZSH_OPTION = re.compile(r"['{,](--?[\w-]+)(?=[\[,}])")
 # An option in a line of a completion for fish.
 FISH_OPTION = re.compile(r" -(s|l) ([\w-]+)")
 
-# Where the silence stands that brings a second line to rest, unless it is said. The first is that of the rule.
-SILENCES = {
-    "crates/bus_tap/src/rest.rt": r"pub const SILENCE: u64 = (\d+);",
-    "crates/bus_arguments/src/arguments.rt": r"^const REST: u64 = (\d+);",
-    "crates/bus_arguments/src/arguments/rows.rt": r'name: "rest",\n    defaults: &\["(\d+)"\]',
-    "c/include/port1.h": r"^#define PORT1_SILENCE (\d+)$",
-    "bindings/python/port1/taps.py": r"^SILENCE = (\d+)$",
-    "scripts/modules/port1.js": r"^export const SILENCE = (\d+);$",
-    "page/index.html": r'id="rest" value="(\d+)"',
-    "scripts/port1_scripts/by_definition.py": r"^SILENCE = (\d+)$",
-    "cli/help/list.txt": r"--rest <N> .*\[default: (\d+)\]",
-    "cli/help/check.txt": r"--rest <N> .*\[default: (\d+)\]",
-    "cli/port1.1": r"^The default is (\d+); with 0 none are put in\.$",
-    "docs/CAPTURES.md": r"After (\d+) places without one \(`--rest N`\)",
-}
-
 # The completions of port1-sample that are looked at as texts.
 SAMPLER = ["_port1-sample", "port1-sample.fish"]
 
@@ -55,11 +38,6 @@ def options_of_help() -> Options:
         options = help_text(name).split("\nOptions:\n")[1].split("\n\n")[0]
         found[name] = {word for match in HELP_OPTION.finditer(options) for word in match.groups() if word}
     return found
-
-
-def kinds_of_help() -> Set[str]:
-    kinds = help_text("list").split("Only lines of this kind:")[1].split("\n  -")[0]
-    return set(re.findall(r"\w+", kinds)) - {"or"}
 
 
 def options_of_page() -> Options:
@@ -80,12 +58,6 @@ def options_of_synopsis() -> Options:
     synopsis = text.split("\n.Sh SYNOPSIS\n")[1].split("\n.Sh ")[0]
     uses = synopsis.split("\n.Nm\n.Cm ")[1:]
     return {use.split("\n")[0]: set(re.findall(r"(?<=Op Fl Fl )[\w-]+", use)) for use in uses}
-
-
-def kinds_of_page() -> Set[str]:
-    text = (TOP / "cli" / "port1.1").read_text(encoding="ascii")
-    kinds = text.split("Write only lines of this kind:\n")[1].split("\n.It ")[0]
-    return set(re.findall(r"\b[a-z]+\b", kinds)) - {"or"}
 
 
 def words_of_bash(line: str) -> Set[str]:
@@ -141,28 +113,9 @@ def options_of_fish() -> Options:
     return found
 
 
-def kinds_of_completion(name: str) -> Set[str]:
-    """The kinds after --kind in the text of a completion."""
-    text = (TOP / "cli" / "completions" / name).read_text(encoding="ascii")
-    return set(re.search(r"frame damaged[\w ]*", text).group(0).split())
-
-
 def differences(wanted: Set[str], got: Set[str]) -> List[str]:
     problems = [f"it lacks {word}" for word in sorted(wanted - got)]
     return problems + [f"it has {word}, the help text has not" for word in sorted(got - wanted)]
-
-
-def silence_in(file: str) -> List[str]:
-    return re.findall(SILENCES[file], (TOP / file).read_text(encoding="utf-8"), re.MULTILINE)
-
-
-def results_of_silence() -> Iterator[Tuple[str, List[str]]]:
-    """Whether each file tells one silence, that of the rule."""
-    wanted, *others = SILENCES
-    for file in [wanted, *others]:
-        got = silence_in(file)
-        is_it = len(got) == 1 and got == silence_in(wanted)
-        yield f"silence in {file}", [] if is_it else [f"wanted {silence_in(wanted)}, got {got}"]
 
 
 def options_of_sampler(sampler: Path) -> Dict[str, Set[str]]:
@@ -190,13 +143,10 @@ def results_of_sampler(sampler: Path) -> Iterator[Tuple[str, List[str]]]:
 
 
 def results_of_options() -> Iterator[Tuple[str, List[str]]]:
-    """Each place where options or kinds stand, and how it differs from the help texts."""
+    """Each place where options stand, and how it differs from the help texts."""
     wanted = options_of_help()
     told = {
-        "man page": options_of_page(),
-        "bash": options_of_bash(),
-        "zsh": options_of_zsh(),
-        "fish": options_of_fish(),
+        "man page": options_of_page(), "bash": options_of_bash(), "zsh": options_of_zsh(), "fish": options_of_fish()
     }
     for place, options in told.items():
         for name in wanted:
@@ -205,14 +155,5 @@ def results_of_options() -> Iterator[Tuple[str, List[str]]]:
     for name in COMMANDS:
         plain = {option[2:] for option in wanted[name] if option.startswith("--")} - {"help"}
         yield f"options of {name} in the synopsis", differences(plain, synopsis.get(name, set()))
-    kinds = {
-        "man page": kinds_of_page(),
-        "bash": words_of_bash("port1 list --kind "),
-        "zsh": kinds_of_completion("_port1"),
-        "fish": kinds_of_completion("port1.fish"),
-    }
-    for place, words in kinds.items():
-        yield f"kinds in {place}", differences(kinds_of_help(), words)
     commands = {word for word in words_of_bash("port1 ") if word[0] != "-"}
     yield "commands in bash", differences({*COMMANDS, "help"}, commands)
-    yield from results_of_silence()

@@ -1,5 +1,6 @@
 """The page in browsers."""
 
+import hashlib
 import json
 import random
 import re
@@ -12,9 +13,10 @@ from pathlib import Path
 from typing import Iterator, List, NamedTuple, Sequence, Tuple
 
 import browser
-from engine import Test, engine_of
+from engine import Test, engine_of, narrow_page
 from jobs import NAMES, TOP, bench, broken_jobs, program_lists, text_job
 from needs import needs, needs_module
+from table.vectors import VECTORS
 from workbench import talk
 
 
@@ -22,10 +24,11 @@ from workbench import talk
 def opened(
     name: str, address: str, size: Tuple[int, int] = (1366, 768), is_dark: bool = False
 ) -> Iterator[browser.Session]:
-    needs(*browser.BROWSERS[name][1])
+    begin, programs = {**browser.BROWSERS, **browser.WEBKIT}[name]
+    needs(*programs)
     needs_module("websocket")
     with tempfile.TemporaryDirectory(prefix="port1-") as folder:
-        with browser.BROWSERS[name][0](Path(folder), is_dark) as session:
+        with begin(Path(folder), is_dark) as session:
             session.size(*size)
             session.visit(address)
             yield session
@@ -38,7 +41,7 @@ def address_of(page: Path) -> str:
 
 def shown_text(session: browser.Session) -> str:
     """The whole listing, as the page saves it."""
-    text: str = session.value("page1.desk.text().then((blob) => blob.text())")
+    text: str = session.value("page1.desk.texts().then((texts) => texts.join(''))")
     return text
 
 
@@ -97,19 +100,19 @@ def problems_of_search(session: browser.Session, listing: str) -> List[str]:
     wanted = sum(" missing " in line for line in listing.splitlines())
     session.value("void (document.getElementById('query-kind').value = 'missing')")
     session.value("document.getElementById('query').dispatchEvent(new Event('input')) && page1.desk.lines(0, 1)")
-    session.wait_until(f"document.getElementById('query-count').textContent === '{wanted} lines'", 20)
-    session.wait_until("[...document.querySelectorAll('#lines .line')].every((line) => / missing /.test(line.textContent))", 20)
+    session.wait_until(f"document.getElementById('query-count').textContent === '{wanted} lines'")
+    session.wait_until("[...document.querySelectorAll('#lines .line')].every((line) => / missing /.test(line.textContent))")
     session.value("document.getElementById('query').reset() ?? page1.navigation.search()")
     return [] if wanted > 0 else ["nothing is missing"]
 
 
 def problems_of_marks(session: browser.Session) -> List[str]:
     """Whether a mark of the timeline leads to its line, and that the bits show when one is near enough."""
-    session.wait_until("document.querySelector('#timeline .mark.missing')", 20)
+    session.wait_until("document.querySelector('#timeline .mark.missing')")
     session.value("document.querySelector('#timeline .mark.missing').dispatchEvent(new MouseEvent('click', {bubbles: true}))")
-    session.wait_until("/ missing /.test(document.querySelector('#lines .chosen')?.textContent)", 20)
+    session.wait_until("/ missing /.test(document.querySelector('#lines .chosen')?.textContent)")
     session.value("document.querySelector('#lines .chosen').click()")
-    session.wait_until("document.querySelectorAll('#timeline .bits').length > 20", 20)
+    session.wait_until("document.querySelectorAll('#timeline .bits').length > 20")
     return []
 
 
@@ -117,26 +120,54 @@ def problems_of_dictionary(page: Path, name: str) -> List[str]:
     """Whether a draft is the script's, and a wrong dictionary is told by the program's own text, and by its lines."""
     bench()
     capture = TOP / "examples" / "missing-and-spoilt.bits"
-    listing, _ = program_lists(text_job("", capture.read_text(), 1, ""))
-    words = [str(TOP / "scripts" / "draft-dictionary")]
-    draft = subprocess.run(words, input=listing.encode(), capture_output=True, check=True).stdout.decode()
+    draft = drafted(program_lists(text_job("", capture.read_text(), 1, ""))[0])
     with opened(name, address_of(page)) as session:
         read_file(session, [capture])
         session.value("document.getElementById('draft').click()")
-        session.wait_until("document.getElementById('dictionary').value !== ''", 20)
+        session.wait_until("document.getElementById('dictionary').value !== ''")
         shown = session.value("document.getElementById('dictionary').value")
         problems = [] if shown == draft else [f"the draft is {shown!r}, not {draft!r}"]
         wrong = draft.replace("length = 0", "length = 254")
         session.value(f"void (document.getElementById('dictionary').value = {json.dumps(wrong)})")
         session.value("document.getElementById('dictionary').dispatchEvent(new Event('input'))")
-        session.wait_until("document.querySelector('#findings .fault')", 20)
+        session.wait_until("document.querySelector('#findings .fault')")
         line = wrong[: wrong.index("length = 254")].count("\n") + 1
         told = session.value("[...document.querySelectorAll('#findings .fault')].map((item) => item.textContent)")
         wanted = f"line {line}: frame 1: length: 254 is not 0 to 253"
         problems += [] if wanted in told else [f"the findings are {told}, without {wanted!r}"]
         session.value("document.getElementById('settings').requestSubmit()")
-        session.wait_until("document.getElementById('status').textContent === 'dictionary: frame 1: bad length'", 20)
+        session.wait_until("document.getElementById('status').textContent === 'dictionary: frame 1: bad length'")
     return problems
+
+
+def drafted(listing: str) -> str:
+    """What draft-dictionary makes of a listing."""
+    words = [str(TOP / "scripts" / "draft-dictionary")]
+    return subprocess.run(words, input=listing.encode(), capture_output=True, check=True).stdout.decode()
+
+
+def problems_of_draft(page: Path, name: str) -> List[str]:
+    """Whether bits without a dictionary are judged by a draft, as bus-report does it."""
+    bench()
+    recording = TOP / "examples" / "four-wires.csv"
+    words = [str(TOP / "scripts" / "recording-to-bits"), *WIRES]
+    taken = subprocess.run(words, stdin=recording.open(), capture_output=True, check=True).stdout.decode()
+    failure = TOP / "examples" / "port1-failure.bits"
+    problems = []
+    with opened(name, address_of(page)) as session:
+        for file, bits, kind in [(failure, failure.read_text(), 2), (recording, taken, "arrivals")]:
+            draft = drafted(program_lists(text_job("", bits, kind, ""))[0])
+            wanted, _ = program_lists(text_job("", bits, kind, draft))
+            read_file(session, [file])
+            shown = [shown_text(session), session.value("document.getElementById('dictionary').value")]
+            problems += [] if shown == [wanted, draft] else [f"{file.name}: listing or draft are not the script's"]
+            with tempfile.NamedTemporaryFile("w", suffix=".toml") as dictionary:
+                dictionary.write(draft)
+                dictionary.flush()
+                summary = summary_of(wanted, f"--dictionary={dictionary.name}", f"--bits={len(re.findall('[0-3]', bits))}")
+            same = session.value("page1.desk.summaryText()") == summary
+            problems += [] if same else [f"{file.name}: the summary is not the script's"]
+        return problems + [f"the console says {text}" for text in session.complaints()]
 
 
 def problems_of_names(page: Path, name: str) -> List[str]:
@@ -156,10 +187,10 @@ def problems_of_names(page: Path, name: str) -> List[str]:
 
 
 def problems_of_fault(page: Path, name: str) -> List[str]:
-    """Whether a broken capture shows the program's own text, and what stands before the fault."""
+    """Whether a broken capture shows the program's own text, and what stands before the fault, judged by a draft."""
     bench()
     job = next(job for job in broken_jobs() if job.name == "spare bits")
-    wanted, fault = program_lists(job)
+    wanted, fault = program_lists(job._replace(dictionary=drafted(program_lists(job)[0])))
     with tempfile.TemporaryDirectory(prefix="port1-") as folder, opened(name, address_of(page)) as session:
         file = Path(folder, "broken.ts2")
         file.write_bytes(job.content)
@@ -349,11 +380,36 @@ def take_picture(page: Path, file: Path) -> List[str]:
     with opened("chromium", address_of(page)) as session:
         session.size(*SIZE_OF_PICTURE)
         read_file(session, [examples / "port1-failure.toml", examples / "port1-failure.bits"])
-        session.wait_until("document.querySelector('#timeline .mark')", 20)
+        session.wait_until("document.querySelector('#timeline .mark')")
         session.value("void document.getElementById('result').scrollIntoView()")
         session.picture(file, whole=False)
     octets = file.stat().st_size
     return [] if octets <= MOST_OF_PICTURE else [f"{file} has {octets} octets, over {MOST_OF_PICTURE}"]
+
+
+# By which marks the page knows the kind of a text, where it is not of one line.
+MARKED = {"one line": "01", "two lines": "23", "arrivals": "oi"}
+
+
+def problems_of_captures(page: Path, name: str) -> List[str]:
+    """Whether the page without the decoder for 64-bit memory lists the captures that the tests of all languages read, and
+    says which decoder it has."""
+    vectors = [one for one in VECTORS if one.dictionary and set(one.marks) & set(MARKED[one.kind])]
+    problems = [] if len(vectors) > 8 else [f"there are {len(vectors)} captures"]
+    with tempfile.TemporaryDirectory(prefix="port1-") as folder:
+        with opened(name, narrow_page(page, Path(folder)).as_uri()) as session:
+            for at, vector in enumerate(vectors):
+                files = [Path(folder, f"{at}.bits"), Path(folder, f"{at}.toml")]
+                for file, text in zip(files, [vector.marks, vector.dictionary]):
+                    file.write_text(text)
+                read_file(session, files)
+                shown = shown_text(session)
+                problems += [] if shown == vector.listing else [f"{vector.kind}, {vector.name}: {shown[:200]!r}"]
+            said = session.value("document.getElementById('narrow').offsetParent !== null")
+            problems += [] if said else ["it does not say which decoder it has"]
+            digest = hashlib.sha256(engine_of(page, "32")).hexdigest()[:16]
+            problems += [] if digest in text_of(session, "#version") else [f"it does not name the decoder {digest}"]
+            return problems + [f"the console says {text}" for text in session.complaints()]
 
 
 def tests_of(page: Path) -> Iterator[Test]:
@@ -362,6 +418,8 @@ def tests_of(page: Path) -> Iterator[Test]:
         for what, problems in [
             ("what is shown", problems_of_page),
             ("a dictionary", problems_of_dictionary),
+            ("a draft", problems_of_draft),
+            ("32-bit memory", problems_of_captures),
             ("names of a dictionary", problems_of_names),
             ("a fault", problems_of_fault),
             ("a file that grows", problems_of_growth),

@@ -12,18 +12,18 @@ from built import crates_of
 
 TOP = Path(__file__).resolve().parent.parent
 
-SECONDS = 60
+SECONDS = 300
 
-# An `rt` that proves each crate of its list, one after the other, and ends with a status, long after the next look.
+# An `rt` that proves each crate of its list, the next one as soon as the one before has been reported, and ends with a
+# status.
 RT = """\
 #!/bin/sh
 echo "rt $*"
 for crate in {crates}; do
-    sleep 0.8
     mkdir -p "{top}/crates/$crate/out/rlib/$crate.rlib"
     touch "{top}/crates/$crate/out/rlib/stamp"
+    for time in $(seq 1000); do ! grep -q "[( ]$crate[,)]" "{top}/reports" || break; sleep 0.1; done
 done
-sleep 3
 exit {status}
 """
 
@@ -45,7 +45,10 @@ def made(folder: Path, crates: List[str], status: int) -> "subprocess.CompletedP
     (top / "packages" / "build").chmod(0o755)
     path = f"{folder}:{os.environ['PATH']}"
     words = [str(top / "packages" / "build"), "port1", "run", "--", "--version"]
-    return subprocess.run(words, env={**os.environ, "PATH": path}, capture_output=True, text=True, timeout=SECONDS)
+    pipe, environment = subprocess.PIPE, {**os.environ, "PATH": path}
+    with (top / "reports").open("w") as told:
+        ran = subprocess.run(words, env=environment, stdout=pipe, stderr=told, text=True, timeout=SECONDS)
+    return subprocess.CompletedProcess(words, ran.returncode, ran.stdout, (top / "reports").read_text())
 
 
 def problems_of_reports(folder: Path) -> List[str]:

@@ -116,9 +116,7 @@ UNFIT = Edit("a/b", "", [Change(MAP.relative_to(TOP), "nowhere in " "it", "")])
 
 # Edits with a fault each, by what is found.
 SPOILT_EDITS = {
-    "has it 0 times": [UNFIT],
-    "it changes nothing": [Edit("a/b", "", [])],
-    "two edits have this name": [UNFIT, UNFIT],
+    "has it 0 times": [UNFIT], "it changes nothing": [Edit("a/b", "", [])], "two edits have this name": [UNFIT, UNFIT]
 }
 
 UNNAMED_EDIT = "edit: a\nold: b\nnew: c\n\nold: d\nnew: e\n"

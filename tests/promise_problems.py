@@ -7,11 +7,11 @@ from typing import Any, Dict, Iterator, List, NamedTuple, Sequence, Set
 
 TOP = Path(__file__).resolve().parent.parent
 
-sys.path.append(str(TOP / "scripts" / "port1_scripts"))
+sys.path.append(str(TOP / "scripts"))
 
 from claims import claims_of, comments_of, papers as papers_in, statements_of
-from common.toml import toml_of
 from contracts import Clause, public_clauses, tests_beside, tests_in
+from definitions.toml import toml_of
 from edits import all_edits, must_fail
 from promised import EVERY, Row, digest_of, edits_named, mistakes_of, part_of, rows_of, sealed_by
 

@@ -55,7 +55,7 @@ STATUSES = {
     "parallel --tag --joblog jobs.log 'port1 list": 1,
 }
 
-SECONDS = 20
+SECONDS = 300
 
 
 @dataclass(frozen=True)

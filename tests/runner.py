@@ -19,7 +19,7 @@ from changed import ALWAYS, SOURCES, base_of, crates_in, files_since, tests_of
 TOP = Path(__file__).resolve().parent.parent
 
 # How long a command waits for another that is to run beside it, in seconds.
-SOON = 30
+SOON = 300
 
 
 class Call(NamedTuple):

@@ -11,7 +11,7 @@ from typing import Iterator, List, Mapping, Optional, Union
 
 from table.case import Case, Exchange, Sink, Source
 
-SECONDS = 20
+SECONDS = 300
 
 
 @dataclass(frozen=True)
@@ -94,11 +94,7 @@ def differences(case: Case, ending: Ending) -> List[str]:
     ]
     if case.leaves_input and ending.taken is not None:
         pairs.append(("octets that were read", 0, ending.taken))
-    return [
-        f"{what}:\n    wanted {wanted!r}\n    got    {got!r}"
-        for what, wanted, got in pairs
-        if wanted != got
-    ]
+    return [f"{what}:\n    wanted {wanted!r}\n    got    {got!r}" for what, wanted, got in pairs if wanted != got]
 
 
 def problems_of_case(program: Path, case: Case) -> List[str]:

@@ -18,12 +18,7 @@ TESTS = TOP / "crates" / "bus_examples_tests" / "src" / "examples.rt"
 # The document with the sizes of types.
 SIZES = "docs/RATTLE.md"
 
-DOCUMENTS = [
-    SIZES,
-    "crates/bus_line/src/lib.rt",
-    "crates/bus_watch/src/lib.rt",
-    "crates/bus_dictionary/src/lib.rt",
-]
+DOCUMENTS = [SIZES, "crates/bus_line/src/lib.rt", "crates/bus_watch/src/lib.rt", "crates/bus_dictionary/src/lib.rt"]
 
 FENCED = re.compile(r"^```rust\n(.*?)^```$", re.MULTILINE | re.DOTALL)
 

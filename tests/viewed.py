@@ -10,7 +10,7 @@ from typing import Iterator, List, Sequence, Tuple
 
 import browser
 from engine import Test
-from inputs import FIRST, LATE, SHORT, STATUS, dictionary, problems_of_inputs, rows_of, text_at
+from inputs import FIRST, LATE, MANY_GAPS, SHORT, STATUS, dictionary, problems_of_inputs, rows_of, text_at
 from paged import TOP, address_of, opened, read_file
 
 EXAMPLE = [TOP / "examples" / "port1-failure.toml", TOP / "examples" / "port1-failure.bits"]
@@ -24,10 +24,6 @@ WIDE = [LAPTOP, (1920, 1080)]
 # How many lines the listing has that is scrolled, and how long a step of it may take, in milliseconds: a frame of 60.
 MANY_LINES = 1_000_000
 FRAME = 1000 / 60
-
-# The test that says how long something may take.
-TIMED = "a million lines"
-
 
 # What is in view.
 
@@ -109,7 +105,7 @@ def problems_of_places(session: browser.Session, is_wide: bool) -> List[str]:
     for at in range(count):
         button = f"document.querySelectorAll('#sentences button')[{at}]"
         session.value(f"document.querySelector('#lines .chosen')?.classList.remove('chosen') ?? {button}.click()")
-        session.wait_until(chosen, 20)
+        session.wait_until(chosen)
         told = re.fullmatch(r"(\d+\.\d+) s", session.value(f"{button}.textContent"))
         if told and abs(second_of(session) - float(told[1])) > 0.001:
             problems.append(f"{told[0]} leads to {second_of(session)} s")
@@ -122,7 +118,7 @@ def problems_of_size(page: Path, size: Tuple[int, int], name: str) -> List[str]:
     with opened(name, address_of(page), size) as session:
         problems = problems_of_empty(session)
         read_file(session, EXAMPLE)
-        session.wait_until("document.querySelector('#timeline .hatch path') && document.querySelector('#lines .line')", 20)
+        session.wait_until("document.querySelector('#timeline .hatch path') && document.querySelector('#lines .line')")
         problems += problems_of_first_screen(session, is_wide)
         problems += problems_of_places(session, is_wide)
         return problems + [f"the console says {text}" for text in session.complaints()]
@@ -191,7 +187,7 @@ def problems_of_keys(page: Path, name: str) -> List[str]:
             session.value("void (self.before = page1.navigation.lines.chosen)")
             session.press(*keys)
             try:
-                session.wait_until(expression, 10)
+                session.wait_until(expression)
             except browser.Fault:
                 problems.append(f"{' '.join(keys)}: {expression} is not so")
         shown = set(session.value("[...document.querySelectorAll('#help kbd')].map((key) => key.textContent)"))
@@ -210,9 +206,9 @@ def problems_of_pointers(page: Path, name: str) -> List[str]:
     domain = "page1.navigation.timeline.scale.domain()"
     with opened(name, address_of(page)) as session:
         read_file(session, EXAMPLE)
-        session.wait_until("document.querySelector('#timeline .overview-view')", 20)
+        session.wait_until("document.querySelector('#timeline .overview-view')")
         session.value("page1.navigation.timeline.zoomBy(8)")
-        session.wait_until("document.querySelector('#timeline .overview-view').getBoundingClientRect().width < 200", 20)
+        session.wait_until("document.querySelector('#timeline .overview-view').getBoundingClientRect().width < 200")
         left, top, right, bottom = session.value(BOX % json.dumps("#timeline .overview-view"))
         before = session.value(domain)
         middle = ((left + right) / 2, (top + bottom) / 2)
@@ -225,14 +221,14 @@ def problems_of_pointers(page: Path, name: str) -> List[str]:
         left, top, right, bottom = session.value(BOX % json.dumps("#timeline .scroll svg"))
         session.drag((right - 100, top + 20), (right - 300, top + 20), "touch")
         wide = after[1] - after[0]
-        session.wait_until(f"{domain}[0] > {after[0] + wide * 0.15}", 10)
+        session.wait_until(f"{domain}[0] > {after[0] + wide * 0.15}")
         scrolls = session.value("getComputedStyle(page1.navigation.timeline.svg.node()).touchAction")
         problems += [] if scrolls == "pan-y" else [f"a finger on the timeline does not scroll the page: {scrolls}"]
         session.value("page1.navigation.timeline.showAll()")
         session.spread((left + right) / 2 + 60, top + 20, 40, 160)
-        session.wait_until("Math.abs(page1.navigation.timeline.svg.node().__zoom.k - 4) < 0.1", 10)
+        session.wait_until("Math.abs(page1.navigation.timeline.svg.node().__zoom.k - 4) < 0.1")
         session.turn((left + right) / 2 + 60, top + 20, -300)
-        session.wait_until("page1.navigation.timeline.svg.node().__zoom.k > 4.4", 10)
+        session.wait_until("page1.navigation.timeline.svg.node().__zoom.k > 4.4")
         return problems + [f"the console says {text}" for text in session.complaints()]
 
 
@@ -249,13 +245,13 @@ def problems_of_editing(page: Path, name: str) -> List[str]:
         field = "document.getElementById('dictionary')"
         edited = f"{field}.dispatchEvent(new Event('input'))"
         session.value("document.querySelector('#lacks button').click()")
-        session.wait_until(f"{word} === 'Look closer' && {field}.value !== ''", 20)
+        session.wait_until(f"{word} === 'Look closer' && {field}.value !== ''")
         problems = [] if "took" in text_at(session, FIRST) else [f"drafted: {text_at(session, FIRST)!r}"]
         session.value(f"void ({field}.value = {json.dumps(dictionary().decode())}) ?? {edited}")
         late = "Station 2 answered 2 of 60"
-        session.wait_until(f"document.querySelector('#sentences .jump').textContent.startsWith('{late}')", 20)
+        session.wait_until(f"document.querySelector('#sentences .jump').textContent.startsWith('{late}')")
         session.value(f"void ({field}.value = {field}.value.replace('window = 768', 'window = 7')) ?? {edited}")
-        session.wait_until("document.querySelector('#findings .fault')", 20)
+        session.wait_until("document.querySelector('#findings .fault')")
         session.value("new Promise((resolve) => setTimeout(resolve, 1500))")
         status = text_at(session, STATUS)
         problems += [] if " lines in " in status else [f"a dictionary with a fault was read: {status}"]
@@ -273,14 +269,14 @@ def problems_of_mending(page: Path, name: str) -> List[str]:
             Path(folder, file).write_bytes(octets)
         read_file(session, [Path(folder, file) for file in files])
         session.value("document.querySelector('#warning-list button').click()")
-        session.wait_until(f"{word} === 'No fault found' && document.getElementById('warnings').hidden", 20)
+        session.wait_until(f"{word} === 'No fault found' && document.getElementById('warnings').hidden")
         problems = [] if "--falling TXC" in text_at(session, "#command") else ["the command has no --falling"]
         Path(folder, "tap.csv").write_bytes(rows_of(SHORT, flipped=0b1111))
         read_file(session, [Path(folder, "tap.csv")])
-        for _ in range(2):
+        while session.value("document.querySelector('#warnings:not([hidden]) button') !== null"):
             session.value("[...document.querySelectorAll('#warning-list button')].at(-1).click()")
-            session.wait_until("!document.body.classList.contains('reading')", 20)
-        session.wait_until(f"{word} === 'No fault found'", 20)
+            session.wait_until("!document.body.classList.contains('reading')")
+        session.wait_until(f"{word} === 'No fault found'")
         problems += [] if "--falling --invert TXD,RXD TXC" in text_at(session, "#command") else ["the command does not invert"]
         problems += [] if text_at(session, "#warnings:not([hidden])") == "" else ["warnings are left"]
         session.value("page1.mend('wires')")
@@ -288,16 +284,77 @@ def problems_of_mending(page: Path, name: str) -> List[str]:
         session.value("void (document.getElementById('channel-3').value = 'none')")
         session.value("document.getElementById('settings').requestSubmit()")
         is_read = "!document.body.classList.contains('reading')"
-        session.wait_until(f"{is_read} && /one line/.test(document.getElementById('facts').textContent)", 20)
+        session.wait_until(f"{is_read} && /one line/.test(document.getElementById('facts').textContent)")
         # Firefox reads what the file was when it was chosen; Chromium refuses to.
         with Path(folder, "tap.csv").open("ab") as file:
             file.write(b"0,0,0,0\n" * 1000)
         session.value("void (document.getElementById('channel-3').value = 'RXD')")
         session.value("document.getElementById('settings').requestSubmit()")
-        session.wait_until(is_read, 20)
+        session.wait_until(is_read)
         told = text_at(session, "#fault:not([hidden])") or text_at(session, "#head")
         is_told = told.startswith(("The file is still being written", "40 frames"))
         return problems + ([] if is_told else [f"a file that grows is told as {told!r}"])
+
+
+# Wires by the names of their channels, as they are connected: exchanged clock and data, the two pairs, and the data.
+WRONG_ORDERS = [(1, 0, 2, 3), (0, 1, 3, 2), (2, 3, 0, 1), (0, 3, 2, 1), (3, 0, 2, 1), (1, 2, 3, 0)]
+
+FIRST_BUTTON = """document.querySelector('#guess:not([hidden]) button, #warnings:not([hidden]) button')?.textContent ?? ''"""
+
+
+def problems_of_orders(page: Path, name: str) -> List[str]:
+    """Whether wires in a wrong order are told as such before anything else, and are read right once they are chosen."""
+    problems = []
+    with tempfile.TemporaryDirectory(prefix="port1-") as folder, opened(name, address_of(page)) as session:
+        for order in WRONG_ORDERS:
+            file = Path(folder, f"{''.join(map(str, order))}.csv")
+            file.write_bytes(rows_of(SHORT, [f"D{at}" for at in order]))
+            read_file(session, [file])
+            button = session.value(FIRST_BUTTON)
+            problems += [] if button == "Choose other wires" else [f"{order}: the first button is {button!r}"]
+            for wire, at in enumerate(order):
+                session.value(f"void (document.getElementById('channel-{wire}').value = 'D{at}')")
+            session.value("document.getElementById('settings').requestSubmit()")
+            session.wait_until("!document.body.classList.contains('reading') && /^0\\.0+ to 0\\.2/.test("
+                               "document.querySelector('#timeline .where').textContent)")
+            told = [text_at(session, selector) for selector in ("#guess:not([hidden])", "#warnings:not([hidden])", "#head")]
+            is_right = told[:2] == ["", ""] and told[2].startswith("40 frames and 0 damaged pieces")
+            problems += [] if is_right else [f"{order}, chosen right: {told}"]
+        return problems + [f"the console says {text}" for text in session.complaints()]
+
+
+# Labels of gaps that do not stand on a gap, and labels that stand on each other.
+LABELS = """(() => {
+  const boxes = (selector) => [...document.querySelectorAll(selector)].map((node) => node.getBoundingClientRect());
+  const [labels, gaps] = [boxes('#timeline .scroll .gap-word'), boxes('#timeline .scroll .gap-ground')];
+  const isIn = (one, all) => all.left - 1 <= one.left && one.right <= all.right + 1 && all.top - 1 <= one.top && one.bottom <= all.bottom + 1;
+  const meet = (one, other) => one.left < other.right && other.left < one.right && one.top < other.bottom && other.top < one.bottom;
+  return [labels.length, gaps.length, labels.filter((one) => !gaps.some((all) => isIn(one, all))).length,
+    labels.filter((one, at) => labels.some((other, other_at) => other_at < at && meet(one, other))).length];
+})()"""
+
+# A laptop, the same at 200 %, and a phone.
+ZOOMS = [LAPTOP, (683, 384), (390, 844)]
+
+
+def problems_of_labels(page: Path, name: str) -> List[str]:
+    """Whether each label of a gap stands on it, none on another, and of a gap that is in view large there is one."""
+    problems = []
+    with tempfile.TemporaryDirectory(prefix="port1-") as folder:
+        many = Path(folder, "many.bits")
+        many.write_bytes(MANY_GAPS)
+        for size in ZOOMS:
+            with opened(name, address_of(page), size) as session:
+                for files in [EXAMPLE, [many]]:
+                    read_file(session, files)
+                    session.wait_until("document.querySelector('#timeline .scroll .gap-ground')")
+                    count, gaps, outside, over = session.value(LABELS)
+                    problems += [f"{size}, {files[-1].name}: {outside} outside, {over} over another"] if outside + over else []
+                    session.value("page1.navigation.sentences.visitStretch()")
+                    session.wait_until("document.querySelector('#timeline .scroll .gap-word')")
+                    count, gaps, outside, over = session.value(LABELS)
+                    problems += [f"{size}, {files[-1].name}, large: {outside} outside, {over} over"] if outside + over else []
+        return problems
 
 
 def problems_of_dark(page: Path, name: str) -> List[str]:
@@ -326,19 +383,18 @@ def problems_of_print(page: Path, name: str) -> List[str]:
     """Whether the page is printed on few sheets, whatever is in view, and with the whole timeline."""
     with opened(name, address_of(page)) as session:
         read_file(session, EXAMPLE)
-        session.wait_until("document.querySelector('#timeline-print svg')", 20)
+        session.wait_until("document.querySelector('#timeline-print svg')")
         session.value("page1.navigation.timeline.zoomBy(64)")
-        session.wait_until("page1.navigation.timeline.svg.node().__zoom.k === 64", 20)
+        session.wait_until("page1.navigation.timeline.svg.node().__zoom.k === 64")
         sheets = sheets_of(session.printed())
         problems = [] if 1 <= sheets <= 2 else [f"it is printed on {sheets} sheets"]
         ticks = session.value("[...document.querySelectorAll('#timeline-print .tick text')].map((text) => text.textContent)")
         return problems + ([] if ticks and float(ticks[-1]) >= 0.45 else [f"the timeline in print has {ticks}"])
 
 
-def problems_of_many(page: Path, name: str) -> List[str]:
-    """Whether a listing of a million lines is scrolled, a step drawn within a frame of sixty a second.
-
-    Of 120 steps the quickest tenth counts: the others may have waited for a processor.
+def problems_of_many(page: Path, name: str, is_timed: bool) -> List[str]:
+    """Whether a listing of a million lines is scrolled, on a machine that is free each step within a frame of sixty a
+    second. Of 120 steps the quickest tenth counts: the others may have waited for a processor.
     """
     step = """new Promise((resolve) => {
       const [lines, times] = [page1.navigation.lines, []];
@@ -363,16 +419,16 @@ def problems_of_many(page: Path, name: str) -> List[str]:
         read_file(session, [listing])
         problems = [] if text_at(session, "#query-count") == "1 000 000 lines" else ["not all lines are there"]
         taken = session.value(step)
-        problems += [] if taken < FRAME else [f"a step takes {taken:.1f} ms"]
+        problems += [f"a step takes {taken:.1f} ms"] if is_timed and taken >= FRAME else []
         top = session.value("page1.navigation.lines.top")
         session.press("l", "End")
-        session.wait_until(f"document.querySelector('#lines .line:last-child').textContent.startsWith('{651.041:.3f}')", 20)
+        session.wait_until(f"document.querySelector('#lines .line:last-child').textContent.startsWith('{651.041:.3f}')")
         return problems + ([] if top > 20000 else [f"it was scrolled to {top}"])
 
 
-def tests_of(page: Path) -> Iterator[Test]:
+def tests_of(page: Path, is_long: bool) -> Iterator[Test]:
     for name in browser.BROWSERS:
-        yield Test(f"{name}: {TIMED}", partial(problems_of_many, page, name), is_alone=True)
+        yield Test(f"{name}: a million lines", partial(problems_of_many, page, name, is_long), is_alone=True)
         for size in SIZES:
             yield Test(f"{name}: {size[0]} by {size[1]}", partial(problems_of_size, page, size, name))
         for what, problems in [
@@ -381,6 +437,8 @@ def tests_of(page: Path) -> Iterator[Test]:
             ("pointers", problems_of_pointers),
             ("editing a dictionary", problems_of_editing),
             ("mending a recording", problems_of_mending),
+            ("wires in a wrong order", problems_of_orders),
+            ("labels of gaps", problems_of_labels),
             ("dark", problems_of_dark),
             ("print", problems_of_print),
         ]:

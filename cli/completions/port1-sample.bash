@@ -10,12 +10,12 @@ _port1_sample() {
     --octets)
         words='1 2 3 4 5 6 7 8'
         ;;
-    --hold | --jump)
+    --hold | --jump | --rest)
         # A number.
         words=
         ;;
     *)
-        words='--octets --runs --jump --facts --live --hold --falling'
+        words='--octets --runs --jump --facts --live --hold --rest --falling'
         words+=' --invert-txc --invert-txd --invert-rxc --invert-rxd -h --help -V --version'
         ;;
     esac

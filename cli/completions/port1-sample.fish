@@ -7,6 +7,7 @@ complete -c port1-sample -l jump -x -d 'With --facts, a jump is more than N samp
 complete -c port1-sample -l facts -d 'Write to standard error what is counted in the samples'
 complete -c port1-sample -l live -d 'With --facts, write it after each read, too'
 complete -c port1-sample -l hold -x -d 'A level counts once it stood in N + 1 samples'
+complete -c port1-sample -l rest -x -d 'A clock that stands for more than N samples has stopped'
 complete -c port1-sample -l falling -d 'Bits are taken where clocks fall'
 complete -c port1-sample -l invert-txc -d 'TXC is inverted'
 complete -c port1-sample -l invert-txd -d 'TXD is inverted'

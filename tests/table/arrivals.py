@@ -87,13 +87,7 @@ DRIFTS = [
 ]
 
 FAULTS = [
-    Case(
-        f"fault: {name}",
-        ["list", *words],
-        stdin,
-        stderr=fault(f"capture: {why}"),
-        status=2,
-    )
+    Case(f"fault: {name}", ["list", *words], stdin, stderr=fault(f"capture: {why}"), status=2)
     for name, words, stdin, why in [
         ("a mark of pairs", ["--bits", "--arrivals"], b"0o 2", "octet 3 is no bit"),
         ("a mark of arrivals in pairs", ["--bits", "--two"], b"01o", "octet 2 is no bit"),
@@ -105,12 +99,7 @@ FAULTS = [
         ("packed, no body", ["--arrivals"], packed(b"0")[:16], "short body"),
         ("packed, an unused 1", ["--arrivals"], packed(b"0")[:16] + b"\x40", "spare bits are not 0"),
         ("packed, an octet too many", ["--arrivals"], packed(b"0") + b"\0", "octets after the end"),
-        (
-            "packed, too many",
-            ["--arrivals"],
-            b"TS2BITS3" + (2**60 + 1).to_bytes(8, "little"),
-            "too many bits",
-        ),
+        ("packed, too many", ["--arrivals"], b"TS2BITS3" + (2**60 + 1).to_bytes(8, "little"), "too many bits"),
         ("no place", ["--bits", "--arrivals", "--origin", str(LAST_ORIGIN - 1)], b"0 0", "place limit"),
     ]
 ]

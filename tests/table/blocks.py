@@ -41,51 +41,45 @@ def spread(bits: str) -> bytes:
 MANY = calls(400)
 
 LINES = [
-    Case(
-        name=f"lines of {length} bits that end in {end!r}",
-        words=BITS,
-        stdin=cut(MANY, length, end),
-        stdout=lines_of(len(MANY)),
-    )
+    Case(f"lines of {length} bits that end in {end!r}", BITS, cut(MANY, length, end), lines_of(len(MANY)))
     for length in (1, 3, 4, 8, 15, 16, 17, 48, 60, 63, 64, 65, 72, 76, 80, 81, 96, 128, 1000)
     for end in ("\n", "\r\n")
 ] + [
-    Case(name="one long line", words=BITS, stdin=MANY.encode(), stdout=lines_of(len(MANY))),
-    Case(name="longer and longer stretches", words=BITS, stdin=spread(MANY), stdout=lines_of(len(MANY))),
+    Case("one long line", BITS, MANY.encode(), lines_of(len(MANY))),
+    Case("longer and longer stretches", BITS, spread(MANY), lines_of(len(MANY))),
 ]
 
 # The smaller block is full after some 850 bits, the larger after some 16300.
 BAD = [
     Case(
-        name=f"a bad octet after {place} bits",
-        words=BITS,
-        stdin=(MANY[:place] + "2" + MANY[place:rest]).encode(),
-        stdout=lines_of(place),
+        f"a bad octet after {place} bits",
+        BITS,
+        (MANY[:place] + "2" + MANY[place:rest]).encode(),
+        lines_of(place),
         stderr=fault(f"capture: octet {place} is no bit"),
         status=2,
     )
     for place, rest in [
-        *((place, 1000) for place in range(830, 960)),
-        *((place, 18000) for place in range(16180, 16400, 20)),
+        *((place, 1000) for place in range(830, 960)), *((place, 18000) for place in range(16180, 16400, 20))
     ]
 ]
 
 ENDS = [
     Case(
-        name=f"a text of {length} bits",
-        words=BITS,
-        stdin=MANY[:length].encode(),
-        stdout=lines_of(length) + (f"{49 * (length // 49) + 8} {length} open\n" if length % 49 > 8 else ""),
+        f"a text of {length} bits",
+        BITS,
+        MANY[:length].encode(),
+        lines_of(length) + (f"{49 * (length // 49) + 8} {length} open\n" if length % 49 > 8 else ""),
     )
     for length in [49 * number + 40 for number in range(1, 40)]
 ]
 
 PLACES = [
     Case(
-        name=f"{room} places for more bits",
-        words=[*BITS, f"--origin={LAST_ORIGIN - room}"],
-        stdin=cut(MANY, 80, "\n"),
-        stdout=lines_of(room, LAST_ORIGIN - room),
+        f"{room} places for more bits",
+        [*BITS, f"--origin={LAST_ORIGIN - room}"],
+        cut(MANY, 80, "\n"),
+        lines_of(room, LAST_ORIGIN - room),
         stderr=fault("capture: place limit"),
         status=2,
     )

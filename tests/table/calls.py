@@ -8,12 +8,7 @@ from .case import Case, Counted, fault
 from .checks import MISSING_AND_SPOILT_REPORT, report
 from .lists import MISSING_AND_SPOILT, MISSING_AND_SPOILT_LINES, ONE_CALL_LINES
 from .pairs import (
-    AT_ONE_PLACE,
-    AT_ONE_PLACE_LINES,
-    CALL_AND_REPLY,
-    CALL_AND_REPLY_LINES,
-    CALL_AND_REPLY_REPORT,
-    CALLED,
+    AT_ONE_PLACE, AT_ONE_PLACE_LINES, CALL_AND_REPLY, CALL_AND_REPLY_LINES, CALL_AND_REPLY_REPORT, CALLED
 )
 from .shows import STATE, STATE_TEXT
 from .words import HELP
@@ -52,10 +47,7 @@ PACKED_TWO = Case(
 )
 
 CHECK_TWO = Case(
-    "a check of two lines",
-    ["check", "--bits", "--two", "--dict", CALLS],
-    marks(*CALL_AND_REPLY),
-    CALL_AND_REPLY_REPORT,
+    "a check of two lines", ["check", "--bits", "--two", "--dict", CALLS], marks(*CALL_AND_REPLY), CALL_AND_REPLY_REPORT
 )
 
 CHECK = Case(
@@ -93,11 +85,7 @@ def any_cut() -> Iterator[Counted]:
     """By reads of any size: each octet is read once, and one read finds the end."""
     for case in WHOLE:
         for piece in range(1, len(case.stdin) + 1):
-            yield Counted(
-                named(case, f"by reads of {piece}"),
-                piece=piece,
-                reads=-(-len(case.stdin) // piece) + 1,
-            )
+            yield Counted(named(case, f"by reads of {piece}"), piece=piece, reads=-(-len(case.stdin) // piece) + 1)
 
 
 def lines_decided(count: int) -> List[str]:
@@ -154,19 +142,11 @@ def lines_in_time() -> Iterator[Counted]:
         for room in range(len(ANSWERED_LINES)):
             decided = 57 if room < len(CALL_LINE) else 106
             row = with_room(LIST, room, piece)
-            yield replace(
-                row,
-                case=named(row.case, f"by reads of {piece}"),
-                reads=-(-decided // piece),
-            )
+            yield replace(row, case=named(row.case, f"by reads of {piece}"), reads=-(-decided // piece))
         for room in range(len(CALL_AND_REPLY_LINES)):
             decided = next(count for count in DECIDED_TWO if room < len("".join(lines_decided(count))))
             row = with_room(LIST_TWO, room, piece)
-            yield replace(
-                row,
-                case=named(row.case, f"by reads of {piece}"),
-                reads=-(-decided // piece),
-            )
+            yield replace(row, case=named(row.case, f"by reads of {piece}"), reads=-(-decided // piece))
 
 
 def bad_octet(name: str, command: str, place: int, stdout: str = "") -> Case:
@@ -174,8 +154,8 @@ def bad_octet(name: str, command: str, place: int, stdout: str = "") -> Case:
     return Case(
         name,
         [command, "--bits"],
-        stdin=b"1" * place + b"2",
-        stdout=stdout,
+        b"1" * place + b"2",
+        stdout,
         stderr=fault(f"capture: octet {place} is no bit"),
         status=2,
     )
@@ -190,14 +170,8 @@ IN_ORDER = [
         Case("a line and its end", ["list", "--bits"], text(IDLE), "0 15 idle\n"),
         calls=["read 15", "write 10", "read 0"],
     ),
-    Counted(
-        Case("a flag to list", BY_CALLS, text(FLAG)),
-        calls=["read 8", "read 0"],
-    ),
-    Counted(
-        Case("an open piece", BY_CALLS, text(FLAG) + b"0", "8 9 open\n"),
-        calls=["read 9", "read 0", "write 9"],
-    ),
+    Counted(Case("a flag to list", BY_CALLS, text(FLAG)), calls=["read 8", "read 0"]),
+    Counted(Case("an open piece", BY_CALLS, text(FLAG) + b"0", "8 9 open\n"), calls=["read 9", "read 0", "write 9"]),
     Counted(
         Case(
             "two lines of the end",
@@ -212,43 +186,20 @@ IN_ORDER = [
         named(LIST, "by two reads"),
         piece=57,
         calls=[
-            "read 57",
-            f"write {len(CALL_LINE)}",
-            "read 49",
-            f"write {len(ANSWERED_LINES) - len(CALL_LINE)}",
-            "read 0",
+            "read 57", f"write {len(CALL_LINE)}", "read 49", f"write {len(ANSWERED_LINES) - len(CALL_LINE)}", "read 0"
         ],
     ),
-    Counted(
-        bad_octet("a fault after a line", "list", 15, IDLE_LINE),
-        calls=["read 16", "write 10"],
-    ),
+    Counted(bad_octet("a fault after a line", "list", 15, IDLE_LINE), calls=["read 16", "write 10"]),
     Counted(
         bad_octet("a fault after a line, by the next read", "list", 15, IDLE_LINE),
         piece=15,
         calls=["read 15", "write 10", "read 1"],
     ),
-    Counted(
-        bad_octet("a fault alone to list", "list", 0),
-        calls=["read 1"],
-    ),
-    Counted(
-        bad_octet("a fault alone", "check", 0),
-        calls=["read 1"],
-    ),
-    Counted(
-        bad_octet("a check that ends by a fault", "check", 15),
-        piece=15,
-        calls=["read 15", "read 1"],
-    ),
-    Counted(
-        Case("nothing to check", ["check", "--bits"], stdout=report()),
-        calls=["read 0", f"write {len(report())}"],
-    ),
-    Counted(
-        LIST_TWO,
-        calls=["read 114", f"write {len(CALL_AND_REPLY_LINES)}", "read 0"],
-    ),
+    Counted(bad_octet("a fault alone to list", "list", 0), calls=["read 1"]),
+    Counted(bad_octet("a fault alone", "check", 0), calls=["read 1"]),
+    Counted(bad_octet("a check that ends by a fault", "check", 15), piece=15, calls=["read 15", "read 1"]),
+    Counted(Case("nothing to check", ["check", "--bits"], stdout=report()), calls=["read 0", f"write {len(report())}"]),
+    Counted(LIST_TWO, calls=["read 114", f"write {len(CALL_AND_REPLY_LINES)}", "read 0"]),
     Counted(
         named(LIST_TWO, "by two reads"),
         piece=60,
@@ -272,21 +223,13 @@ IN_ORDER = [
     ),
     Counted(Case("nothing to encode", ["encode"]), calls=["read 0"]),
     Counted(Case("an empty line to encode", ["encode"], b"\n"), calls=["read 1", "read 0"]),
-    Counted(
-        Case("a bad line", ["encode"], b"x\n", stderr=fault("line 1: bad line"), status=2),
-        calls=["read 2"],
-    ),
+    Counted(Case("a bad line", ["encode"], b"x\n", stderr=fault("line 1: bad line"), status=2), calls=["read 2"]),
     Counted(
         Case("two lines to encode", ["encode"], b"flag\nidle\n", "01111110\n111111111111111\n"),
         calls=["read 10", "write 9", "write 16", "read 0"],
     ),
     Counted(
-        Case(
-            "two lines to encode, by two reads",
-            ["encode"],
-            b"flag\nidle\n",
-            "01111110\n111111111111111\n",
-        ),
+        Case("two lines to encode, by two reads", ["encode"], b"flag\nidle\n", "01111110\n111111111111111\n"),
         piece=7,
         calls=["read 7", "write 9", "read 3", "write 16", "read 0"],
     ),
@@ -375,8 +318,7 @@ def cut_short() -> Iterator[Counted]:
     """Each shorter front of a packed capture: its head has 16 octets, and its last octet ends the flag
     without which no line is decided."""
     for form, options, capture in [
-        ("a packed capture", [], PACKED),
-        ("a packed capture of two lines", ["--two"], PACKED_TWO.stdin),
+        ("a packed capture", [], PACKED), ("a packed capture of two lines", ["--two"], PACKED_TWO.stdin)
     ]:
         for command in ["list", "check"]:
             for count in range(len(capture)):
@@ -384,7 +326,7 @@ def cut_short() -> Iterator[Counted]:
                 case = Case(
                     f"{command} of {count} octets of {form}",
                     [command, *options, "--dict", CALLS],
-                    stdin=capture[:count],
+                    capture[:count],
                     stderr=fault(f"capture: {why}"),
                     status=2,
                 )
@@ -410,7 +352,7 @@ def bad_marks() -> Iterator[Counted]:
             case = Case(
                 f"a bad octet to {command}",
                 [command, *options],
-                stdin=stdin,
+                stdin,
                 stderr=fault("capture: octet 9 is no bit"),
                 status=2,
             )
@@ -425,8 +367,8 @@ def long_lines() -> Iterator[Counted]:
             case = Case(
                 f"a line of {count} octets that is none, ended by {end!r}",
                 ["encode"],
-                stdin=b"flag\n" + b"x" * count + end,
-                stdout="01111110\n",
+                b"flag\n" + b"x" * count + end,
+                "01111110\n",
                 stderr=fault("line 2: bad line"),
                 status=2,
             )
@@ -449,7 +391,7 @@ def judged_early() -> Iterator[Counted]:
         case = Case(
             f"a line of {count} octets and {end!r}, and a read that fails",
             ["encode"],
-            stdin=stdin,
+            stdin,
             stderr=fault("line 1: bad line" if is_judged else "read failed"),
             status=2,
         )
@@ -469,8 +411,5 @@ COUNTED = [
     *bad_marks(),
     *long_lines(),
     *judged_early(),
-    Counted(
-        Case("missing and spoilt", BY_CALLS, MISSING_AND_SPOILT, MISSING_AND_SPOILT_LINES),
-        piece=7,
-    ),
+    Counted(Case("missing and spoilt", BY_CALLS, MISSING_AND_SPOILT, MISSING_AND_SPOILT_LINES), piece=7),
 ]

@@ -3,20 +3,7 @@
 from typing import List
 
 from .captures import (
-    CALL,
-    CALLS,
-    FLAG,
-    IDLE,
-    LAST_ORIGIN,
-    LONG,
-    NOTICE,
-    PACKED,
-    REPLY,
-    SHORT,
-    WITHIN,
-    WITHIN_1,
-    sent,
-    text,
+    CALL, CALLS, FLAG, IDLE, LAST_ORIGIN, LONG, NOTICE, PACKED, REPLY, SHORT, WITHIN, WITHIN_1, sent, text
 )
 from .case import Case, fault
 from .lists import ALL_KINDS, IN_TIME, LATE, MISSING_AND_SPOILT
@@ -90,25 +77,16 @@ def last_notices(first: int, past: int) -> List[str]:
 
 
 # A call to each of two stations, the greater one first, and what answers the second.
-TWO_STATIONS = text(
-    *[FLAG, sent(b"\xc8\x83\x00"), FLAG, sent(b"\x03\x83\x00")],
-    *[FLAG, sent(b"\x03\x83\x80"), FLAG],
-)
+TWO_STATIONS = text(*[FLAG, sent(b"\xc8\x83\x00"), FLAG, sent(b"\x03\x83\x00")], *[FLAG, sent(b"\x03\x83\x80"), FLAG])
 
 REPORTS = [
-    Case(name="of nothing", words=BY_CALLS, stdout=report()),
+    Case("of nothing", BY_CALLS, stdout=report()),
+    Case("of missing and spoilt", BY_CALLS, MISSING_AND_SPOILT, MISSING_AND_SPOILT_REPORT, status=1),
     Case(
-        name="of missing and spoilt",
-        words=BY_CALLS,
-        stdin=MISSING_AND_SPOILT,
-        stdout=MISSING_AND_SPOILT_REPORT,
-        status=1,
-    ),
-    Case(
-        name="of all kinds",
-        words=BY_CALLS,
-        stdin=ALL_KINDS,
-        stdout=report(
+        "of all kinds",
+        BY_CALLS,
+        ALL_KINDS,
+        report(
             "station 16 answered 1 missing 1 spoilt 1 late 0",
             "last 8 49 108300fde5",
             "last 57 98 108380f561",
@@ -129,10 +107,10 @@ REPORTS = [
         status=1,
     ),
     Case(
-        name="of two stations, by rising number",
-        words=[*BY_CALLS, "--depth", "1"],
-        stdin=TWO_STATIONS,
-        stdout=report(
+        "of two stations, by rising number",
+        [*BY_CALLS, "--depth", "1"],
+        TWO_STATIONS,
+        report(
             "station 3 answered 1 missing 0 spoilt 0 late 0",
             "station 200 answered 0 missing 1 spoilt 0 late 0",
             "last 104 144 038380040b",
@@ -143,55 +121,33 @@ REPORTS = [
         status=1,
     ),
     Case(
-        name="without a dictionary",
-        words=BITS,
-        stdin=MISSING_AND_SPOILT,
-        stdout=report(
-            "last 8 49 108300fde5",
-            "last 57 98 108300fde5",
-            frames=2,
-            damaged=1,
-        ),
+        "without a dictionary",
+        BITS,
+        MISSING_AND_SPOILT,
+        report("last 8 49 108300fde5", "last 57 98 108300fde5", frames=2, damaged=1),
         status=1,
     ),
     Case(
-        name="of strays without a dictionary",
-        words=BITS,
-        stdin=text(FLAG, REPLY, FLAG),
-        stdout=report("last 8 49 108380f561", frames=1, strays=1),
+        "of strays without a dictionary",
+        BITS,
+        text(FLAG, REPLY, FLAG),
+        report("last 8 49 108380f561", frames=1, strays=1),
     ),
-    Case(
-        name="of a packed capture",
-        words=["check", "--dict", CALLS],
-        stdin=PACKED,
-        stdout=ONE_CALL_REPORT,
-    ),
-    Case(
-        name="of a packed capture without a dictionary",
-        words=["check"],
-        stdin=PACKED,
-        stdout=ONE_CALL_REPORT,
-    ),
-    Case(
-        name="from place 1000",
-        words=["check", "--origin", "1000"],
-        stdin=PACKED,
-        stdout=report("last 1008 1049 108300fde5", frames=1),
-    ),
+    Case("of a packed capture", ["check", "--dict", CALLS], PACKED, ONE_CALL_REPORT),
+    Case("of a packed capture without a dictionary", ["check"], PACKED, ONE_CALL_REPORT),
+    Case("from place 1000", ["check", "--origin", "1000"], PACKED, report("last 1008 1049 108300fde5", frames=1)),
 ]
 
 
-def answer_in_window(
-    name: str, dictionary: str, capture: bytes, first: int, is_late: bool = False
-) -> Case:
+def answer_in_window(name: str, dictionary: str, capture: bytes, first: int, is_late: bool = False) -> Case:
     """A check of a call and its reply, which begins at `first`: late alone is amiss."""
     late = int(is_late)
     answered = 1 - late
     return Case(
-        name=name,
-        words=["check", "--bits", "--dict", dictionary],
-        stdin=capture,
-        stdout=report(
+        name,
+        ["check", "--bits", "--dict", dictionary],
+        capture,
+        report(
             f"station 16 answered {answered} missing 0 spoilt 0 late {late}",
             "last 8 49 108300fde5",
             f"last {first} {first + 41} 108380f561",
@@ -204,172 +160,92 @@ def answer_in_window(
 
 
 STATUSES = [
-    Case(
-        name="damage alone is amiss",
-        words=BY_CALLS,
-        stdin=text(FLAG, SHORT, FLAG),
-        stdout=report(damaged=1),
-        status=1,
-    ),
-    Case(
-        name="an overlong piece alone is amiss",
-        words=BY_CALLS,
-        stdin=text(FLAG, LONG, FLAG),
-        stdout=report(overlong=1),
-        status=1,
-    ),
+    Case("damage alone is amiss", BY_CALLS, text(FLAG, SHORT, FLAG), report(damaged=1), status=1),
+    Case("an overlong piece alone is amiss", BY_CALLS, text(FLAG, LONG, FLAG), report(overlong=1), status=1),
     answer_in_window("a late answer alone is amiss", WITHIN, LATE, first=73, is_late=True),
     answer_in_window("an answer at the end of its window is in time", WITHIN, IN_TIME, first=65),
     answer_in_window("an answer that only version 2 calls late", WITHIN_1, LATE, first=73),
     Case(
-        name="a missing answer alone is amiss",
-        words=[*BY_CALLS, "--depth=1"],
-        stdin=text(FLAG, CALL, FLAG, NOTICE, FLAG),
-        stdout=report(
-            "station 16 answered 0 missing 1 spoilt 0 late 0",
-            "last 57 99 ff83095a3b",
-            frames=2,
-            missing=1,
-        ),
+        "a missing answer alone is amiss",
+        [*BY_CALLS, "--depth=1"],
+        text(FLAG, CALL, FLAG, NOTICE, FLAG),
+        report("station 16 answered 0 missing 1 spoilt 0 late 0", "last 57 99 ff83095a3b", frames=2, missing=1),
         status=1,
     ),
     Case(
-        name="a call that an abort spoils is amiss",
-        words=BY_CALLS,
-        stdin=text(FLAG, CALL, FLAG, "00001000", "1111111"),
-        stdout=report(
-            "station 16 answered 0 missing 0 spoilt 1 late 0",
-            "last 8 49 108300fde5",
-            frames=1,
-            aborts=1,
-            spoilt=1,
-        ),
+        "a call that an abort spoils is amiss",
+        BY_CALLS,
+        text(FLAG, CALL, FLAG, "00001000", "1111111"),
+        report("station 16 answered 0 missing 0 spoilt 1 late 0", "last 8 49 108300fde5", frames=1, aborts=1, spoilt=1),
         status=1,
     ),
-    Case(
-        name="an abort and an idle line alone are not",
-        words=BY_CALLS,
-        stdin=text(FLAG, "00001000", IDLE),
-        stdout=report(aborts=1, idles=1),
-    ),
-    Case(
-        name="a stray alone is not",
-        words=BY_CALLS,
-        stdin=text(FLAG, REPLY, FLAG),
-        stdout=report("last 8 49 108380f561", frames=1, strays=1),
-    ),
-    Case(
-        name="a call that waits and a piece that is open are not",
-        words=BY_CALLS,
-        stdin=text(FLAG, CALL, FLAG, "0"),
-        stdout=ONE_CALL_REPORT,
-    ),
+    Case("an abort and an idle line alone are not", BY_CALLS, text(FLAG, "00001000", IDLE), report(aborts=1, idles=1)),
+    Case("a stray alone is not", BY_CALLS, text(FLAG, REPLY, FLAG), report("last 8 49 108380f561", frames=1, strays=1)),
+    Case("a call that waits and a piece that is open are not", BY_CALLS, text(FLAG, CALL, FLAG, "0"), ONE_CALL_REPORT),
 ]
 
 DEPTHS = [
     Case(
-        name="the last two frames",
-        words=[*BY_CALLS, "--depth", "2"],
-        stdin=THREE_FRAMES,
-        stdout=report(
-            STATION_16_ANSWERED,
-            "last 57 98 108380f561",
-            "last 106 148 ff83095a3b",
-            frames=3,
-            answered=1,
-        ),
+        "the last two frames",
+        [*BY_CALLS, "--depth", "2"],
+        THREE_FRAMES,
+        report(STATION_16_ANSWERED, "last 57 98 108380f561", "last 106 148 ff83095a3b", frames=3, answered=1),
     ),
     Case(
-        name="the last frame",
-        words=[*BY_CALLS, "--depth=1"],
-        stdin=THREE_FRAMES,
-        stdout=report(
-            STATION_16_ANSWERED,
-            "last 106 148 ff83095a3b",
-            frames=3,
-            answered=1,
-        ),
+        "the last frame",
+        [*BY_CALLS, "--depth=1"],
+        THREE_FRAMES,
+        report(STATION_16_ANSWERED, "last 106 148 ff83095a3b", frames=3, answered=1),
     ),
+    Case("sixteen of sixteen frames", BITS, notices(16), report(*last_notices(0, 16), frames=16)),
+    Case("sixteen of seventeen frames", BITS, notices(17), report(*last_notices(1, 17), frames=17)),
     Case(
-        name="sixteen of sixteen frames",
-        words=BITS,
-        stdin=notices(16),
-        stdout=report(*last_notices(0, 16), frames=16),
+        "seventeen of eighteen frames", [*BITS, "--depth", "17"], notices(18), report(*last_notices(1, 18), frames=18)
     ),
-    Case(
-        name="sixteen of seventeen frames",
-        words=BITS,
-        stdin=notices(17),
-        stdout=report(*last_notices(1, 17), frames=17),
-    ),
-    Case(
-        name="seventeen of eighteen frames",
-        words=[*BITS, "--depth", "17"],
-        stdin=notices(18),
-        stdout=report(*last_notices(1, 18), frames=18),
-    ),
-    Case(
-        name="1024 of 1025 frames",
-        words=[*BITS, "--depth", "1024"],
-        stdin=notices(1025),
-        stdout=report(*last_notices(1, 1025), frames=1025),
-    ),
+    Case("1024 of 1025 frames", [*BITS, "--depth", "1024"], notices(1025), report(*last_notices(1, 1025), frames=1025)),
 ]
 
 # A fault leaves nothing of the report.
 FAULTS = [
     Case(
-        name="an octet that is no bit after a frame",
-        words=BY_CALLS,
-        stdin=text(FLAG, CALL.replace(" ", ""), FLAG, "x"),
+        "an octet that is no bit after a frame",
+        BY_CALLS,
+        text(FLAG, CALL.replace(" ", ""), FLAG, "x"),
         stderr=fault("capture: octet 57 is no bit"),
         status=2,
     ),
     Case(
-        name="one bit past the last place",
-        words=[*BITS, f"--origin={LAST_ORIGIN - 57}"],
-        stdin=text(FLAG, CALL, FLAG, "0"),
+        "one bit past the last place",
+        [*BITS, f"--origin={LAST_ORIGIN - 57}"],
+        text(FLAG, CALL, FLAG, "0"),
         stderr=fault("capture: place limit"),
         status=2,
     ),
+    Case("a packed capture of nothing", ["check"], stderr=fault("capture: short head"), status=2),
     Case(
-        name="a packed capture of nothing",
-        words=["check"],
-        stderr=fault("capture: short head"),
-        status=2,
+        "a packed capture without its last octet", ["check"], PACKED[:-1], stderr=fault("capture: short body"), status=2
     ),
     Case(
-        name="a packed capture without its last octet",
-        words=["check"],
-        stdin=PACKED[:-1],
-        stderr=fault("capture: short body"),
-        status=2,
-    ),
-    Case(
-        name="a packed capture with an octet after its end",
-        words=["check"],
-        stdin=PACKED + b"\0",
+        "a packed capture with an octet after its end",
+        ["check"],
+        PACKED + b"\0",
         stderr=fault("capture: octets after the end"),
         status=2,
     ),
     Case(
-        name="a packed capture with a spare bit that is 1",
-        words=["check"],
-        stdin=PACKED[:-1] + b"\x80",
+        "a packed capture with a spare bit that is 1",
+        ["check"],
+        PACKED[:-1] + b"\x80",
         stderr=fault("capture: spare bits are not 0"),
         status=2,
     ),
     Case(
-        name="text taken for a packed capture",
-        words=["check"],
-        stdin=MISSING_AND_SPOILT,
-        stderr=fault("capture: wrong magic"),
-        status=2,
+        "text taken for a packed capture", ["check"], MISSING_AND_SPOILT, stderr=fault("capture: wrong magic"), status=2
     ),
     Case(
-        name="a packed capture with too great a count",
-        words=["check"],
-        stdin=PACKED[:8] + b"\xff" * 8,
+        "a packed capture with too great a count",
+        ["check"],
+        PACKED[:8] + b"\xff" * 8,
         stderr=fault("capture: too many bits"),
         status=2,
     ),

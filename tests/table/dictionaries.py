@@ -65,10 +65,7 @@ def bits(*members: str) -> Entry:
 # The faults of an entry that has nothing to do with another, in the order in which they are told.
 COLUMNS = [
     Column("bad type", each("type", ABSENT, "-1", "256", "1.0", "true", "'1'", "[ 1 ]")),
-    Column(
-        "bad name",
-        each("name", ABSENT, "''", f"'{'x' * 41}'", "'x y'", "'\u00e9'", '"\\u007f"', "1", "true"),
-    ),
+    Column("bad name", each("name", ABSENT, "''", f"'{'x' * 41}'", "'x y'", "'\u00e9'", '"\\u007f"', "1", "true")),
     Column("bad length", each("length", ABSENT, "-1", "254", "2.0", "true", "'2'")),
     Column(
         "bad answered",
@@ -177,29 +174,20 @@ DOCUMENT_FAULTS: Dict[str, str] = {
 }
 
 REFUSED: List[Tuple[str, str]] = [
-    *DOCUMENT_FAULTS.items(),
-    *alone(),
-    *pairs_in_one(),
-    *pairs_in_two(),
-    *LAST_FAULTS.items(),
+    *DOCUMENT_FAULTS.items(), *alone(), *pairs_in_one(), *pairs_in_two(), *LAST_FAULTS.items()
 ]
 
 # With each command that takes a dictionary, and an input that would be a fault of its own.
-COMMANDS = [
-    ["list", "--bits"],
-    ["list"],
-    ["check", "--bits"],
-    ["check"],
-]
+COMMANDS = [["list", "--bits"], ["list"], ["check", "--bits"], ["check"]]
 
 SHOW = ["show", "10838101026e1f"]
 
 
 def refused(number: int, command: List[str], text: str, why: str) -> Case:
     return Case(
-        name=f"{number}: {why}, told by {command[0]}",
-        words=[*command, "--dict", text],
-        stdin=b"2",
+        f"{number}: {why}, told by {command[0]}",
+        [*command, "--dict", text],
+        b"2",
         stderr=fault(f"dictionary: {why}"),
         status=2,
         leaves_input=True,
@@ -232,17 +220,9 @@ TAKEN = [
         for window in windows
     ],
     taken(
-        "a window of an answer in version 1",
-        CALLS.replace('"reply"', '"reply"\nwindow = 16'),
-        "108300fde5",
-        CALL_SHOWN,
+        "a window of an answer in version 1", CALLS.replace('"reply"', '"reply"\nwindow = 16'), "108300fde5", CALL_SHOWN
     ),
-    taken(
-        "version 2 without a window",
-        CALLS.replace("version = 1", "version = 2"),
-        "108300fde5",
-        CALL_SHOWN,
-    ),
+    taken("version 2 without a window", CALLS.replace("version = 1", "version = 2"), "108300fde5", CALL_SHOWN),
     taken(
         "keys of no meaning",
         "other = 1\n" + CALLS.replace('"call"', '"call"\ncolour = "red"'),

@@ -73,10 +73,10 @@ def flips(form: Form) -> Iterator[Case]:
         stdout = form.lines if why == "short body" else ""
         for command in ["list", "check"]:
             yield Case(
-                name=f"{command}: bit {place % 8} of octet {place // 8} of {form.name} flipped",
-                words=[command, *form.words, "--dict", CALLS],
-                stdin=bytes(octets),
-                stdout=stdout if command == "list" else "",
+                f"{command}: bit {place % 8} of octet {place // 8} of {form.name} flipped",
+                [command, *form.words, "--dict", CALLS],
+                bytes(octets),
+                stdout if command == "list" else "",
                 stderr=fault(f"capture: {why}"),
                 status=2,
             )

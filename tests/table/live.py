@@ -9,10 +9,7 @@ EXCHANGES = [
         name="lines of a capture",
         words=["list", "--bits", "--dict", CALLS],
         turns=[
-            Turn(
-                sends=text(FLAG, CALL, FLAG),
-                gets="8 49 frame 108300fde5 station 16 type 0 call\n",
-            ),
+            Turn(sends=text(FLAG, CALL, FLAG), gets="8 49 frame 108300fde5 station 16 type 0 call\n"),
             Turn(sends=text(IDLE), gets="57 72 idle\n"),
         ],
         ends="8 49 pending station 16 type 0\n",
@@ -21,10 +18,7 @@ EXCHANGES = [
         name="lines of a capture of two lines",
         words=["list", "--bits", "--two", "--dict", CALLS],
         turns=[
-            Turn(
-                sends=marks(CALLED, REST),
-                gets="2 0 15 idle\n1 8 49 frame 108300fde5 station 16 type 0 call\n",
-            ),
+            Turn(sends=marks(CALLED, REST), gets="2 0 15 idle\n1 8 49 frame 108300fde5 station 16 type 0 call\n"),
             Turn(sends=marks(REST, REPLIED)[:-1], gets="1 57 72 idle\n"),
             Turn(
                 sends=b"1",

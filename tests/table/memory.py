@@ -24,10 +24,7 @@ REFUSALS = [
     Refusals(found(LISTS, "no words"), needless=4),
     Refusals(found(LISTS, "heads without a dictionary"), needless=6),
     Refusals(found(LISTS, "a call without an answer, and one spoilt"), needless=9),
-    Refusals(
-        found(LISTS, "an answer 24 bits after its command, with a window of sixteen in version 2"),
-        needless=9,
-    ),
+    Refusals(found(LISTS, "an answer 24 bits after its command, with a window of sixteen in version 2"), needless=9),
     Refusals(found(LISTS, "packed, without a dictionary"), needless=5),
     Refusals(found(LISTS, "packed, one call"), needless=7),
     Refusals(found(LISTS, "an octet that is no bit after a line"), needless=9),

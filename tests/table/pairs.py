@@ -6,19 +6,7 @@ Both lines have as many bits. A line that has nothing to say rests at 1.
 from typing import Tuple
 
 from .captures import (
-    CALL,
-    CALLS,
-    FLAG,
-    IDLE,
-    LAST_ORIGIN,
-    LONG,
-    NOTICE,
-    PACKED,
-    REPLY,
-    SHORT,
-    WITHIN,
-    marks,
-    packed_pairs,
+    CALL, CALLS, FLAG, IDLE, LAST_ORIGIN, LONG, NOTICE, PACKED, REPLY, SHORT, WITHIN, marks, packed_pairs
 )
 from .case import Case, fault
 from .checks import report
@@ -75,12 +63,7 @@ _, ONE_CALL_LINES = capture("two lines", "one call")
 # the second line, where a long piece ends one bit before the call does.
 ALL_KINDS = (
     CALLED + REST + CALLED + NOTICED + REST + CALLED + "1" * 40 + CALLED + "0",
-    "".join(
-        [
-            *[REST, REPLIED, "1" * 115, REPLIED, LONG, FLAG, SHORT, FLAG],
-            *["00001000", "1" * 49, FLAG, "00"],
-        ]
-    ),
+    "".join([*[REST, REPLIED, "1" * 115, REPLIED, LONG, FLAG, SHORT, FLAG], *["00001000", "1" * 49, FLAG, "00"]]),
 )
 
 _, ALL_KINDS_LINES = capture("two lines", "all kinds")
@@ -104,57 +87,52 @@ AT_THE_LAST_PLACE = """\
 
 ORIGINS = [
     Case(
-        name="from place 100",
-        words=[*BY_CALLS, "--origin", "100"],
-        stdin=marks(*AT_ONE_PLACE),
-        stdout=AT_ONE_PLACE_LINES.replace(" 8 49 ", " 108 149 "),
+        "from place 100",
+        [*BY_CALLS, "--origin", "100"],
+        marks(*AT_ONE_PLACE),
+        AT_ONE_PLACE_LINES.replace(" 8 49 ", " 108 149 "),
     ),
     Case(
-        name="pieces not closed, from place 100",
-        words=[*BY_CALLS, "--origin=100"],
-        stdin=marks(CALLED + "0", "1" * 50 + FLAG),
-        stdout="""\
+        "pieces not closed, from place 100",
+        [*BY_CALLS, "--origin=100"],
+        marks(CALLED + "0", "1" * 50 + FLAG),
+        """\
 2 100 115 idle
 1 108 149 frame 108300fde5 station 16 type 0 call
 1 157 158 open
 1 108 149 pending station 16 type 0
 """,
     ),
+    Case("to the last place", [*TWO, f"--origin={LAST_ORIGIN - 57}"], marks(*AT_ONE_PLACE), AT_THE_LAST_PLACE),
     Case(
-        name="to the last place",
-        words=[*TWO, f"--origin={LAST_ORIGIN - 57}"],
-        stdin=marks(*AT_ONE_PLACE),
-        stdout=AT_THE_LAST_PLACE,
-    ),
-    Case(
-        name="one pair past the last place",
-        words=[*TWO, f"--origin={LAST_ORIGIN - 57}"],
-        stdin=marks(*AT_ONE_PLACE) + b"0",
-        stdout=AT_THE_LAST_PLACE,
+        "one pair past the last place",
+        [*TWO, f"--origin={LAST_ORIGIN - 57}"],
+        marks(*AT_ONE_PLACE) + b"0",
+        AT_THE_LAST_PLACE,
         stderr=fault("capture: place limit"),
         status=2,
     ),
     Case(
-        name="packed, one pair past the last place",
-        words=["list", "--two", f"--origin={LAST_ORIGIN - 57}"],
-        stdin=packed_pairs(CALLED + "0", REPLIED + "0"),
-        stdout=AT_THE_LAST_PLACE,
+        "packed, one pair past the last place",
+        ["list", "--two", f"--origin={LAST_ORIGIN - 57}"],
+        packed_pairs(CALLED + "0", REPLIED + "0"),
+        AT_THE_LAST_PLACE,
         stderr=fault("capture: place limit"),
         status=2,
     ),
     Case("three pairs at three places", [*TWO, "--origin", str(LAST_ORIGIN - 3)], b"303"),
     Case(
-        name="four pairs at three places",
-        words=[*TWO, "--origin", str(LAST_ORIGIN - 3)],
-        stdin=b"3030",
+        "four pairs at three places",
+        [*TWO, "--origin", str(LAST_ORIGIN - 3)],
+        b"3030",
         stderr=fault("capture: place limit"),
         status=2,
     ),
     Case("no pairs at no place", [*TWO, "--origin", str(LAST_ORIGIN)]),
     Case(
-        name="one pair at no place",
-        words=["list", "--two", "--origin", str(LAST_ORIGIN)],
-        stdin=packed_pairs("1", "1"),
+        "one pair at no place",
+        ["list", "--two", "--origin", str(LAST_ORIGIN)],
+        packed_pairs("1", "1"),
         stderr=fault("capture: place limit"),
         status=2,
     ),
@@ -167,10 +145,7 @@ def filtered(name: str, words: list, *numbers: int) -> Case:
 
 
 FILTERS = [
-    *[
-        Case(f"of kind {kind}", [*BY_CALLS, "--kind", kind], marks(*ALL_KINDS), of_kind(kind))
-        for kind in KINDS
-    ],
+    *[Case(f"of kind {kind}", [*BY_CALLS, "--kind", kind], marks(*ALL_KINDS), of_kind(kind)) for kind in KINDS],
     filtered("of station 16", ["--station", "16"], 2, 4, 5, 7, 9, 11, 12, 14, 17, 20, 23),
     filtered("of station 255", ["--station=255"], 8),
     # Where line and station are mixed up, these have lines.
@@ -181,63 +156,53 @@ FILTERS = [
     filtered("of type 128 and kind stray", ["--type", "128", "--kind", "stray"], 12),
     filtered("of station 16, type 0 and kind frame", ["--kind=frame", "--station=16", "--type=0"], 2, 7, 14, 20),
     Case(
-        name="of kind late",
-        words=[*TWO, "--dict", WITHIN.replace("16", "15"), "--kind", "late"],
-        stdin=marks(*CALL_AND_REPLY),
-        stdout="1 8 49 late station 16 type 0\n",
+        "of kind late",
+        [*TWO, "--dict", WITHIN.replace("16", "15"), "--kind", "late"],
+        marks(*CALL_AND_REPLY),
+        "1 8 49 late station 16 type 0\n",
     ),
     Case(
-        name="of kind stray, where an answer is late",
-        words=[*TWO, "--dict", WITHIN.replace("16", "15"), "--kind", "stray"],
-        stdin=marks(*CALL_AND_REPLY),
+        "of kind stray, where an answer is late",
+        [*TWO, "--dict", WITHIN.replace("16", "15"), "--kind", "stray"],
+        marks(*CALL_AND_REPLY),
     ),
     Case(
-        name="a fault after lines that are left out",
-        words=[*TWO, "--kind", "abort"],
-        stdin=marks(IDLE, IDLE) + b"4",
+        "a fault after lines that are left out",
+        [*TWO, "--kind", "abort"],
+        marks(IDLE, IDLE) + b"4",
         stderr=fault("capture: octet 15 is no bit"),
         status=2,
     ),
 ]
 
 TEXT_FAULTS = [
-    Case(
-        name="an octet that is no mark",
-        words=BY_CALLS,
-        stdin=b"4",
-        stderr=fault("capture: octet 0 is no bit"),
-        status=2,
-    ),
+    Case("an octet that is no mark", BY_CALLS, b"4", stderr=fault("capture: octet 0 is no bit"), status=2),
     *[
         Case(
-            name=f"{octet!r} after marks and spaces",
-            words=BY_CALLS,
-            stdin=b"0123 \t" + octet,
+            f"{octet!r} after marks and spaces",
+            BY_CALLS,
+            b"0123 \t" + octet,
             stderr=fault("capture: octet 6 is no bit"),
             status=2,
         )
         for octet in [b"4", b"9", b"/", b"x", b",", b"\v", b"\0", b"\xb2"]
     ],
     Case(
-        name="an octet that is no mark, after a line",
-        words=BY_CALLS,
-        stdin=marks(*CALL_AND_REPLY) + b" 4",
-        stdout=CALL_AND_REPLY_LINES,
+        "an octet that is no mark, after a line",
+        BY_CALLS,
+        marks(*CALL_AND_REPLY) + b" 4",
+        CALL_AND_REPLY_LINES,
         stderr=fault("capture: octet 115 is no bit"),
         status=2,
     ),
     Case(
-        name="a packed capture taken for text",
-        words=BY_CALLS,
-        stdin=PACKED_CALL,
-        stderr=fault("capture: octet 0 is no bit"),
-        status=2,
+        "a packed capture taken for text", BY_CALLS, PACKED_CALL, stderr=fault("capture: octet 0 is no bit"), status=2
     ),
     *[
         Case(
-            name=f"marks of two lines taken for one: {' '.join(words) or 'no words'}",
-            words=words,
-            stdin=b"10 2",
+            f"marks of two lines taken for one: {' '.join(words) or 'no words'}",
+            words,
+            b"10 2",
             stderr=fault("capture: octet 3 is no bit"),
             status=2,
         )
@@ -257,101 +222,81 @@ PACKED_CAPTURES = [
     Case("packed, no pairs", ["list", "--two"], packed_pairs("", "")),
     *[
         Case(
-            name=f"packed, {name} of the fourth pair of the last octet is 1",
-            words=["list", "--two"],
-            stdin=PACKED_IDLE[:-1] + last,
+            f"packed, {name} of the fourth pair of the last octet is 1",
+            ["list", "--two"],
+            PACKED_IDLE[:-1] + last,
             stderr=fault("capture: spare bits are not 0"),
             status=2,
         )
         for name, last in [("the second bit", b"\xbf"), ("the first bit", b"\x7f")]
     ],
+    Case("packed, of two lines taken for one", ["list"], PACKED_IDLE, stderr=fault("capture: wrong magic"), status=2),
     Case(
-        name="packed, of two lines taken for one",
-        words=["list"],
-        stdin=PACKED_IDLE,
-        stderr=fault("capture: wrong magic"),
-        status=2,
+        "packed, of one line taken for two", ["list", "--two"], PACKED, stderr=fault("capture: wrong magic"), status=2
     ),
     Case(
-        name="packed, of one line taken for two",
-        words=["list", "--two"],
-        stdin=PACKED,
-        stderr=fault("capture: wrong magic"),
-        status=2,
-    ),
-    Case(
-        name="packed, without its last octet",
-        words=PACKED_BY_CALLS,
-        stdin=PACKED_CALL[:-1],
-        stdout=chosen(ONE_CALL_LINES, 1),
+        "packed, without its last octet",
+        PACKED_BY_CALLS,
+        PACKED_CALL[:-1],
+        chosen(ONE_CALL_LINES, 1),
         stderr=fault("capture: short body"),
         status=2,
     ),
     Case(
-        name="packed, with an octet after its end",
-        words=PACKED_BY_CALLS,
-        stdin=PACKED_CALL + b"\0",
-        stdout=CALL_LINES,
+        "packed, with an octet after its end",
+        PACKED_BY_CALLS,
+        PACKED_CALL + b"\0",
+        CALL_LINES,
         stderr=fault("capture: octets after the end"),
         status=2,
     ),
     Case(
-        name="packed, a number of pairs as if they were bits",
-        words=PACKED_BY_CALLS,
-        stdin=PACKED_CALL[:8] + (2 * 57).to_bytes(8, "little") + PACKED_CALL[16:],
-        stdout=CALL_LINES,
+        "packed, a number of pairs as if they were bits",
+        PACKED_BY_CALLS,
+        PACKED_CALL[:8] + (2 * 57).to_bytes(8, "little") + PACKED_CALL[16:],
+        CALL_LINES,
         stderr=fault("capture: short body"),
         status=2,
     ),
     Case(
-        name="packed, with too great a count",
-        words=PACKED_BY_CALLS,
-        stdin=PACKED_CALL[:8] + (LAST_ORIGIN + 1).to_bytes(8, "little"),
+        "packed, with too great a count",
+        PACKED_BY_CALLS,
+        PACKED_CALL[:8] + (LAST_ORIGIN + 1).to_bytes(8, "little"),
         stderr=fault("capture: too many bits"),
         status=2,
     ),
     Case(
-        name="packed, with the greatest count",
-        words=PACKED_BY_CALLS,
-        stdin=PACKED_CALL[:8] + LAST_ORIGIN.to_bytes(8, "little") + PACKED_CALL[16:],
-        stdout=CALL_LINES,
+        "packed, with the greatest count",
+        PACKED_BY_CALLS,
+        PACKED_CALL[:8] + LAST_ORIGIN.to_bytes(8, "little") + PACKED_CALL[16:],
+        CALL_LINES,
         stderr=fault("capture: short body"),
         status=2,
     ),
     Case(
-        name="text taken for a packed capture",
-        words=["list", "--two"],
-        stdin=marks(*ONE_CALL),
+        "text taken for a packed capture",
+        ["list", "--two"],
+        marks(*ONE_CALL),
         stderr=fault("capture: wrong magic"),
         status=2,
     ),
-    Case(
-        name="packed, nothing",
-        words=["list", "--two"],
-        stderr=fault("capture: short head"),
-        status=2,
-    ),
+    Case("packed, nothing", ["list", "--two"], stderr=fault("capture: short head"), status=2),
 ]
 
 CHECKED = [
     Case("check: nothing", CHECK_BY_CALLS, stdout=report()),
+    Case("check: a call and its reply", CHECK_BY_CALLS, marks(*CALL_AND_REPLY), CALL_AND_REPLY_REPORT),
     Case(
-        name="check: a call and its reply",
-        words=CHECK_BY_CALLS,
-        stdin=marks(*CALL_AND_REPLY),
-        stdout=CALL_AND_REPLY_REPORT,
+        "check: packed, a call and its reply",
+        ["check", "--two", "--dict", CALLS],
+        packed_pairs(*CALL_AND_REPLY),
+        CALL_AND_REPLY_REPORT,
     ),
     Case(
-        name="check: packed, a call and its reply",
-        words=["check", "--two", "--dict", CALLS],
-        stdin=packed_pairs(*CALL_AND_REPLY),
-        stdout=CALL_AND_REPLY_REPORT,
-    ),
-    Case(
-        name="check: a reply on the first line",
-        words=CHECK_BY_CALLS,
-        stdin=marks(*ANSWER_ON_FIRST),
-        stdout=report(
+        "check: a reply on the first line",
+        CHECK_BY_CALLS,
+        marks(*ANSWER_ON_FIRST),
+        report(
             "station 16 answered 0 missing 1 spoilt 0 late 0",
             "last 1 8 49 108300fde5",
             "last 1 57 98 108380f561",
@@ -363,21 +308,16 @@ CHECKED = [
         status=1,
     ),
     Case(
-        name="check: frames that end at one place, of which the last is kept",
-        words=[*CHECK_BY_CALLS, "--depth", "1"],
-        stdin=marks(*AT_ONE_PLACE),
-        stdout=report(
-            "station 16 answered 1 missing 0 spoilt 0 late 0",
-            "last 2 8 49 108380f561",
-            frames=2,
-            answered=1,
-        ),
+        "check: frames that end at one place, of which the last is kept",
+        [*CHECK_BY_CALLS, "--depth", "1"],
+        marks(*AT_ONE_PLACE),
+        report("station 16 answered 1 missing 0 spoilt 0 late 0", "last 2 8 49 108380f561", frames=2, answered=1),
     ),
     Case(
-        name="check: all kinds",
-        words=CHECK_BY_CALLS,
-        stdin=marks(*ALL_KINDS),
-        stdout=report(
+        "check: all kinds",
+        CHECK_BY_CALLS,
+        marks(*ALL_KINDS),
+        report(
             "station 16 answered 1 missing 1 spoilt 1 late 0",
             "last 1 8 49 108300fde5",
             "last 2 65 106 108380f561",
@@ -399,10 +339,10 @@ CHECKED = [
         status=1,
     ),
     Case(
-        name="check: the last three frames of both lines",
-        words=[*CHECK_BY_CALLS, "--depth=3", "--origin=1000"],
-        stdin=marks(*(line[:343] for line in ALL_KINDS)),
-        stdout=report(
+        "check: the last three frames of both lines",
+        [*CHECK_BY_CALLS, "--depth=3", "--origin=1000"],
+        marks(*(line[:343] for line in ALL_KINDS)),
+        report(
             "station 16 answered 1 missing 1 spoilt 0 late 0",
             "last 1 1179 1221 ff83095a3b",
             "last 2 1237 1278 108380f561",
@@ -417,10 +357,10 @@ CHECKED = [
         status=1,
     ),
     Case(
-        name="check: a late answer alone is amiss",
-        words=["check", "--bits", "--two", "--dict", WITHIN.replace("16", "15")],
-        stdin=marks(*CALL_AND_REPLY),
-        stdout=report(
+        "check: a late answer alone is amiss",
+        ["check", "--bits", "--two", "--dict", WITHIN.replace("16", "15")],
+        marks(*CALL_AND_REPLY),
+        report(
             "station 16 answered 0 missing 0 spoilt 0 late 1",
             "last 1 8 49 108300fde5",
             "last 2 65 106 108380f561",
@@ -431,29 +371,29 @@ CHECKED = [
         status=1,
     ),
     Case(
-        name="check: damage on the second line alone is amiss",
-        words=CHECK_BY_CALLS,
-        stdin=marks("1" * 14 + "0" * 26, FLAG + SHORT + FLAG),
-        stdout=report(damaged=1),
+        "check: damage on the second line alone is amiss",
+        CHECK_BY_CALLS,
+        marks("1" * 14 + "0" * 26, FLAG + SHORT + FLAG),
+        report(damaged=1),
         status=1,
     ),
     Case(
-        name="check: a call on the second line is not",
-        words=CHECK_BY_CALLS,
-        stdin=marks(REST, CALLED),
-        stdout=report("last 2 8 49 108300fde5", frames=1, idles=1),
+        "check: a call on the second line is not",
+        CHECK_BY_CALLS,
+        marks(REST, CALLED),
+        report("last 2 8 49 108300fde5", frames=1, idles=1),
     ),
     Case(
-        name="check: an octet that is no mark, after lines",
-        words=CHECK_BY_CALLS,
-        stdin=marks(*CALL_AND_REPLY) + b"4",
+        "check: an octet that is no mark, after lines",
+        CHECK_BY_CALLS,
+        marks(*CALL_AND_REPLY) + b"4",
         stderr=fault("capture: octet 114 is no bit"),
         status=2,
     ),
     Case(
-        name="check: one pair past the last place",
-        words=["check", "--bits", "--two", f"--origin={LAST_ORIGIN - 57}"],
-        stdin=marks(*AT_ONE_PLACE) + b"0",
+        "check: one pair past the last place",
+        ["check", "--bits", "--two", f"--origin={LAST_ORIGIN - 57}"],
+        marks(*AT_ONE_PLACE) + b"0",
         stderr=fault("capture: place limit"),
         status=2,
     ),

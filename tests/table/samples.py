@@ -13,10 +13,14 @@ ROWS: List[Row] = json.loads(FILE.with_name("samples.json").read_text(encoding="
 
 SAMPLES = [
     Case(
-        name=row["name"],
-        words=[f"--hold={row['hold']}", *(f"--invert-{wire}" for wire in row["turned"]), *map(str, row["wires"])],
-        stdin=bytes(int(digit, 16) for digit in row["samples"]),
-        stdout=f"{row['bits']}\n" if row["bits"] else "",
+        row["name"],
+        [
+            *(f"--{name}={row.get(name, 0)}" for name in ("hold", "rest")),
+            *(f"--invert-{wire}" for wire in row["turned"]),
+            *map(str, row["wires"]),
+        ],
+        bytes(int(digit, 16) for digit in row["samples"]),
+        f"{row['bits']}\n" if row["bits"] else "",
     )
     for row in ROWS
 ]

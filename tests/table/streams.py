@@ -3,20 +3,13 @@
 from .captures import CALL, FLAG, IDLE, text
 from .case import Case, Sink, Source, fault
 
-READERS = [
-    [],
-    ["list", "--bits"],
-    ["list"],
-    ["check", "--bits"],
-    ["check"],
-    ["encode"],
-]
+READERS = [[], ["list", "--bits"], ["list"], ["check", "--bits"], ["check"], ["encode"]]
 
 UNREADABLE = [
     Case(
-        name=f"standard input is {source.value}: {' '.join(words) or 'no words'}",
-        words=words,
-        stdin=source,
+        f"standard input is {source.value}: {' '.join(words) or 'no words'}",
+        words,
+        source,
         stderr=fault("read failed"),
         status=2,
     )
@@ -39,9 +32,9 @@ WRITERS = [
 
 UNWRITABLE = [
     Case(
-        name=f"standard output is {sink.value}: {' '.join(words)}",
-        words=words,
-        stdin=stdin,
+        f"standard output is {sink.value}: {' '.join(words)}",
+        words,
+        stdin,
         stderr=fault("write failed"),
         status=2,
         sink=sink,
@@ -53,9 +46,9 @@ UNWRITABLE = [
 # Where nothing is to be written, nothing fails.
 UNWRITTEN = [
     Case(
-        name=f"nothing is written to standard output that is closed: {' '.join(words)}",
-        words=words,
-        stdin=stdin,
+        f"nothing is written to standard output that is closed: {' '.join(words)}",
+        words,
+        stdin,
         stderr=stderr,
         status=status,
         sink=Sink.CLOSED,
@@ -72,10 +65,10 @@ UNWRITTEN = [
 # Directories and closed inputs are no matter to what does not read.
 UNREAD = [
     Case(
-        name=f"standard input that is {source.value} is not read",
-        words=["show", "1013ccb8"],
-        stdin=source,
-        stdout="frame 1013ccb8 good\ncontrol 19\n",
+        f"standard input that is {source.value} is not read",
+        ["show", "1013ccb8"],
+        source,
+        "frame 1013ccb8 good\ncontrol 19\n",
     )
     for source in Source
 ]

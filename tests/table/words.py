@@ -27,21 +27,15 @@ HELP_WORDS = [
 
 HELPS = [
     Case(
-        name=f"help: {' '.join(words)}",
-        words=words,
-        stdin=UNREAD,
-        stdout=(HELP / f"{topic}.txt").read_text(encoding="ascii"),
+        f"help: {' '.join(words)}",
+        words,
+        UNREAD,
+        (HELP / f"{topic}.txt").read_text(encoding="ascii"),
         leaves_input=True,
     )
     for topic, words in HELP_WORDS
 ] + [
-    Case(
-        name=f"version: {word}",
-        words=[word],
-        stdin=UNREAD,
-        stdout=f"port1 {version_of()}\n",
-        leaves_input=True,
-    )
+    Case(f"version: {word}", [word], UNREAD, f"port1 {version_of()}\n", leaves_input=True)
     for word in ["--version", "-V"]
 ]
 
@@ -56,14 +50,7 @@ USAGES = {
 
 def refusal(words: Sequence[Union[str, bytes]], stderr: str) -> Case:
     """Words that are refused."""
-    return Case(
-        name=str(words),
-        words=words,
-        stdin=UNREAD,
-        stderr=stderr,
-        status=2,
-        leaves_input=True,
-    )
+    return Case(str(words), words, UNREAD, stderr=stderr, status=2, leaves_input=True)
 
 
 def error(why: str, tip: str = "", usage: str = "") -> str:
@@ -120,22 +107,14 @@ COMMANDS = [
     unexpected(["--bits"], "--bits"),
     unexpected(["--bits", "list"], "--bits", tip="'list --bits' exists"),
     unexpected(["-x"], "-x"),
-    unexpected(
-        ["--", "list"],
-        "list",
-        tip="subcommand 'list' exists; to use it, remove the '--' before it",
-    ),
+    unexpected(["--", "list"], "list", tip="subcommand 'list' exists; to use it, remove the '--' before it"),
 ]
 
 UNKNOWN_WORDS = [
     unexpected(["list", "more"], "more"),
     unexpected(["list", "--nonsense"], "--nonsense"),
     unexpected(["list", "--depth", "1"], "--depth"),
-    unexpected(
-        ["list", "--orign", "1"],
-        "--orign",
-        tip="a similar argument exists: '--origin'",
-    ),
+    unexpected(["list", "--orign", "1"], "--orign", tip="a similar argument exists: '--origin'"),
     unexpected(["list", "--version"], "--version"),
     unexpected(["list", "list"], "list"),
     unexpected(["check", "more"], "more"),
@@ -159,19 +138,11 @@ VALUES = [
     bad_value(["list", "--origin", "x"], "--origin <N>", "x", NO_NUMBER),
     bad_value(["list", "--origin=-1"], "--origin <N>", "-1", NO_NUMBER),
     bad_value(["list", "--origin", "1.5"], "--origin <N>", "1.5", NO_NUMBER),
-    bad_value(
-        ["list", "--origin="],
-        "--origin <N>",
-        "",
-        "cannot parse integer from empty string",
-    ),
+    bad_value(["list", "--origin="], "--origin <N>", "", "cannot parse integer from empty string"),
     bad_value(["list", "--origin", PAST_ORIGIN], "--origin <N>", PAST_ORIGIN, NO_ORIGIN),
     bad_value(["check", f"--origin={PAST_ORIGIN}"], "--origin <N>", PAST_ORIGIN, NO_ORIGIN),
     bad_value(
-        ["list", "--origin", str(1 << 64)],
-        "--origin <N>",
-        str(1 << 64),
-        "number too large to fit in target type",
+        ["list", "--origin", str(1 << 64)], "--origin <N>", str(1 << 64), "number too large to fit in target type"
     ),
     bad_value(["list", "--station", "256"], "--station <N>", "256", NO_OCTET),
     bad_value(["list", "--station", "all"], "--station <N>", "all", NO_NUMBER),
@@ -181,17 +152,11 @@ VALUES = [
     bad_value(["check", "--depth", "few"], "--depth <N>", "few", NO_NUMBER),
     refusal(
         ["list", "--bits=yes"],
-        error(
-            "unexpected value 'yes' for '--bits' found; no more were expected",
-            usage=USAGES["list"],
-        ),
+        error("unexpected value 'yes' for '--bits' found; no more were expected", usage=USAGES["list"]),
     ),
     refusal(
         ["check", "--two=1"],
-        error(
-            "unexpected value '1' for '--two' found; no more were expected",
-            usage=USAGES["check"],
-        ),
+        error("unexpected value '1' for '--two' found; no more were expected", usage=USAGES["check"]),
     ),
     together(["list", "--two", "--arrivals"], "--two", "--arrivals"),
     together(["check", "--two", "--arrivals"], "--two", "--arrivals"),
@@ -199,10 +164,7 @@ VALUES = [
     *[
         refusal(
             [command, "--bits", "--rest", "40"],
-            error(
-                "the following required arguments were not provided:\n  --arrivals",
-                usage=USAGES[command],
-            ),
+            error("the following required arguments were not provided:\n  --arrivals", usage=USAGES[command]),
         )
         for command in ["list", "check"]
     ],
@@ -210,13 +172,7 @@ VALUES = [
     twice(["check", "--two", "--two"], "--two"),
     twice(["list", "--origin", "1", "--origin", "1"], "--origin <N>"),
     twice(["check", "--dict", CALLS, "--dict", CALLS], "--dict <TEXT>"),
-    refusal(
-        ["show"],
-        error(
-            "the following required arguments were not provided:\n  <HEX>",
-            usage="port1 show <HEX>",
-        ),
-    ),
+    refusal(["show"], error("the following required arguments were not provided:\n  <HEX>", usage="port1 show <HEX>")),
 ]
 
 # Judged after all other words, and before the dictionary.
@@ -226,12 +182,7 @@ UNKNOWN_KINDS = [
         for kind in ["Frame", "frames", "begun", "", " frame", "strays"]
     ],
     refusal(["list", "--kind", "x", "--dict", ""], fault("unknown kind")),
-    bad_value(
-        ["list", "--kind", "x", "--station", "y"],
-        "--station <N>",
-        "y",
-        NO_NUMBER,
-    ),
+    bad_value(["list", "--kind", "x", "--station", "y"], "--station <N>", "y", NO_NUMBER),
 ]
 
 # The words of a process need not be text.
