@@ -8,7 +8,7 @@ use Rattle.bus_formats.specs.Packed.{packed_arrival_capture, packed_arrival_whol
 use Rattle.bus_bits.specs.Bits.{bits_from}
 use Rattle.bus_fcs.specs.Check.{CheckView}
 use Rattle.bus_dictionary.specs.Entry.{FrameType}
-use Rattle.bus_pairing.specs.LineReport.{LineReport}
+use Rattle.bus_line.specs.LineReport.{LineReport}
 use Rattle.bus_pairing.specs.Seen.{SeenReport, seen}
 use Rattle.bus_pairing.proofs.SeenLemmas.{seen-more}
 use Rattle.bus_watch.specs.Watch.{AdvancesWatchShown}

@@ -7,7 +7,7 @@ use Rattle.bus_text.specs.declared.page.Page.{Page}
 use Rattle.bus_pairing.specs.Seen.{SeenReport}
 use Rattle.bus_pairing.specs.Shown.{found, found_on}
 use Rattle.bus_pairing.specs.declared.finding.Finding.{Finding}
-use Rattle.bus_pairing.specs.declared.line.Line.{Line}
+use Rattle.bus_line.specs.declared.line.Line.{Line}
 use Rattle.bus_text.specs.Summary.{summary_of}
 use Rattle.bus_text.proofs.PagesLemmas.{cuts-more}
 use Rattle.bus_text.proofs.SummaryLemmas.{summary-more}

@@ -4,7 +4,7 @@ use Rattle.std.proofs.lemmas.List.{length-map}
 use mir.Val.{bool_byte}
 use Rattle.bus_bits.specs.Bits.{bits_from}
 use Rattle.bus_formats.specs.Packed.{packed_pair_capture, packed_pair_whole, pair_body, in_pairs, pair_head_fault}
-use Rattle.bus_pairing.specs.LineReport.{firsts}
+use Rattle.bus_line.specs.LineReport.{firsts}
 use Rattle.bus_calls.proofs.HeadedLemmas.{whole-bits}
 use Rattle.bus_calls.proofs.OneLineLemmas.{bit-alone, no_body}
 

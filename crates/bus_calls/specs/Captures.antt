@@ -9,10 +9,10 @@ use Rattle.bus_formats.specs.Packed.{packed_capture, packed_whole, packed_pair_c
 use Rattle.bus_dictionary.specs.Entry.{FrameType}
 use Rattle.bus_dictionary.specs.Dictionary.{longest_of}
 use Rattle.bus_line.specs.Due as line
-use Rattle.bus_pairing.specs.LineReport.{LineReport, of_line, firsts, seconds, merged}
+use Rattle.bus_line.specs.LineReport.{LineReport, of_line, firsts, seconds, merged}
 use Rattle.bus_pairing.specs.Seen.{SeenReport, seen}
 use Rattle.bus_pairing.specs.Shown.{begun_span}
-use Rattle.bus_pairing.specs.declared.line.Line.TheVariants.{First}
+use Rattle.bus_line.specs.declared.line.Line.TheVariants.{First}
 use Rattle.bus_pairing.specs.declared.pending.Pending.{Pending}
 use Rattle.bus_tap.specs.Arrival.{Arrival, arrival_of, own}
 use Rattle.bus_tap.specs.Arrival.{arrived, begun_places}

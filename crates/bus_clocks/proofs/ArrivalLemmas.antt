@@ -6,8 +6,8 @@ use Rattle.std.proofs.lemmas.Grind.{flat_map-append}
 use Rattle.bus_line.specs.Report.{Report, moved}
 use Rattle.bus_line.specs.Due.{due_at}
 use Rattle.bus_line.specs.Laws.{DueStays, DueIsIt}
-use Rattle.bus_pairing.specs.LineReport.{line_report, line_reports_at, firsts, seconds, merged}
-use Rattle.bus_pairing.specs.declared.line.Line.TheVariants.{First, Second}
+use Rattle.bus_line.specs.LineReport.{line_report, line_reports_at, firsts, seconds, merged}
+use Rattle.bus_line.specs.declared.line.Line.TheVariants.{First, Second}
 use Rattle.bus_watch.proofs.MergedLemmas.{merged-more, length-firsts, length-seconds}
 use Rattle.bus_tap.specs.Arrival.{own, firsts_before, place_of, at_places, arrived, decides}
 use Rattle.bus_clocks.specs.Laws.{in_turn}

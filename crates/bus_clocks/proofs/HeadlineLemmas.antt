@@ -5,11 +5,11 @@ use Rattle.bus_line.specs.Due.{reports}
 use Rattle.bus_line.specs.Laws.{ReportsAre}
 use Rattle.bus_line.specs.Ledger.{stored_open}
 use Rattle.bus_dictionary.specs.Dictionary.{longest_of}
-use Rattle.bus_pairing.specs.LineReport.{of_side}
+use Rattle.bus_line.specs.LineReport.{of_side}
 use Rattle.bus_pairing.specs.History.{history}
 use Rattle.bus_pairing.specs.Ledger.{total}
 use Rattle.bus_pairing.specs.Seen.{report_in}
-use Rattle.bus_pairing.specs.declared.line.Line.TheVariants.{First, Second}
+use Rattle.bus_line.specs.declared.line.Line.TheVariants.{First, Second}
 use Rattle.bus_watch.specs.Laws.{SeenAreReports, joined}
 use Rattle.bus_watch.specs.declared.pair.usage.PairUsage.{PairUsage}
 use Rattle.bus_watch.proofs.FedLemmas.{same-seen}

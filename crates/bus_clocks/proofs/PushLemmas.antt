@@ -9,10 +9,10 @@ use Rattle.bus_line.specs.LineState.{LineState}
 use Rattle.bus_line.specs.Shown.{reported}
 use Rattle.bus_line.specs.declared.event.Event.{Event}
 use Rattle.bus_dictionary.specs.Dictionary.{longest_of}
-use Rattle.bus_pairing.specs.LineReport.{LineReport}
+use Rattle.bus_line.specs.LineReport.{LineReport}
 use Rattle.bus_pairing.specs.Seen.{SeenReport, seen}
 use Rattle.bus_pairing.specs.Conversation.{ConversationState, AdvancesConversation, IsWhole}
-use Rattle.bus_pairing.specs.declared.line.Line.TheVariants.{First, Second}
+use Rattle.bus_line.specs.declared.line.Line.TheVariants.{First, Second}
 use Rattle.bus_pairing.proofs.SeenLemmas.{seen-more}
 use Rattle.bus_watch.specs.Decodes.{line_reports_of}
 use Rattle.bus_watch.proofs.AnalyserViewLemmas.{whole}

@@ -8,10 +8,10 @@ use Rattle.bus_line.specs.Due.{due_at}
 use Rattle.bus_line.specs.Ledger.{octet_count}
 use Rattle.bus_line.specs.Laws.{OneMore, FramesStored, StoredPaid, AssembledWithin}
 use Rattle.bus_dictionary.specs.Dictionary.{longest_of}
-use Rattle.bus_pairing.specs.LineReport.{line_report}
+use Rattle.bus_line.specs.LineReport.{line_report}
 use Rattle.bus_pairing.specs.Conversation.{HasRoom}
-use Rattle.bus_pairing.specs.declared.line.Line.{Line}
-use Rattle.bus_pairing.specs.declared.line.Line.TheVariants.{First, Second}
+use Rattle.bus_line.specs.declared.line.Line.{Line}
+use Rattle.bus_line.specs.declared.line.Line.TheVariants.{First, Second}
 use Rattle.bus_watch.proofs.AnalyserViewLemmas.{room-of}
 use Rattle.bus_tap.specs.Arrival.{Arrival, own, at_places, decides, arrived}
 use Rattle.bus_clocks.specs.Clocks.{ClockState, IsAfterArrivals, arrival_reports}

@@ -6,10 +6,10 @@ use Rattle.bus_fcs.specs.Check.{CheckView}
 use Rattle.bus_line.specs.Told.{told}
 use Rattle.bus_dictionary.specs.Entry.{FrameType}
 use Rattle.bus_dictionary.specs.Dictionary.{longest_of}
-use Rattle.bus_pairing.specs.LineReport.{LineReport}
+use Rattle.bus_line.specs.LineReport.{LineReport}
 use Rattle.bus_pairing.specs.Seen.{SeenReport, report_in, seen}
 use Rattle.bus_pairing.specs.Sink.{SinkView}
-use Rattle.bus_pairing.specs.declared.line.Line.TheVariants.{First, Second}
+use Rattle.bus_line.specs.declared.line.Line.TheVariants.{First, Second}
 use Rattle.bus_watch.specs.Fed.{FedBy, RefusedByAt, Lacks, none, took, refused, ForSink}
 use Rattle.bus_watch.specs.Headline.{CanBeMade}
 use Rattle.bus_watch.specs.Laws.{SeenAreReports, ended, called}

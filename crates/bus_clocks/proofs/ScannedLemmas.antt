@@ -17,7 +17,7 @@ use Rattle.bus_line.specs.After.{After, AdvancesWith, due_of}
 use Rattle.bus_line.specs.LineState.{LineState}
 use Rattle.bus_line.specs.declared.event.Event.{Event}
 use Rattle.bus_pairing.specs.Conversation.{IsWhole}
-use Rattle.bus_pairing.specs.declared.line.Line.TheVariants.{First, Second}
+use Rattle.bus_line.specs.declared.line.Line.TheVariants.{First, Second}
 use Rattle.bus_watch.proofs.AnalyserViewLemmas.{whole}
 use Rattle.bus_tap.specs.Arrival.{Arrival, own, firsts_before, place_of, decides}
 use Rattle.bus_tap.proofs.ArrivalLemmas.{own-append, before-append, before-now}

@@ -7,8 +7,8 @@ use Rattle.bus_line.specs.Report.{Report, moved}
 use Rattle.bus_line.specs.Due.{reports, placed}
 use Rattle.bus_line.specs.Laws.{ReportsAre, ReportsGrow, DueWithin}
 use Rattle.bus_line.specs.declared.event.EventKind.TheVariants as event
-use Rattle.bus_pairing.specs.LineReport.{LineReport, line_report, of_side}
-use Rattle.bus_pairing.specs.declared.line.Line.TheVariants.{First, Second}
+use Rattle.bus_line.specs.LineReport.{LineReport, line_report, of_side}
+use Rattle.bus_line.specs.declared.line.Line.TheVariants.{First, Second}
 use Rattle.bus_watch.specs.Decodes.{line_reports_of}
 use Rattle.bus_tap.specs.Arrival.{Arrival, own, at_places, arrived, decides}
 use Rattle.bus_bits.proofs.OneMoreLemmas.{one-by-one}

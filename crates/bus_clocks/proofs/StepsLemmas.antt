@@ -7,7 +7,7 @@ use Rattle.bus_line.specs.Ledger.{octet_count, copied, stored, IsLedger as IsLin
 use Rattle.bus_line.specs.Laws.{OneMore, StoredPaid, AssembledWithin}
 use Rattle.bus_dictionary.specs.Dictionary.{longest_of}
 use Rattle.bus_pairing.specs.Ledger.{steps, handled, total, sum_of_steps, IsAnalyserLedger}
-use Rattle.bus_pairing.specs.declared.line.Line.TheVariants.{First, Second}
+use Rattle.bus_line.specs.declared.line.Line.TheVariants.{First, Second}
 use Rattle.bus_pairing.proofs.LedgerLemmas.{cost-within}
 use Rattle.bus_watch.specs.Laws.{StepsWithinFour, StepsWithinThree}
 use Rattle.bus_tap.specs.Arrival.{Arrival, own}

@@ -14,10 +14,10 @@ use Rattle.bus_line.specs.declared.event.EventKind.TheVariants as event
 use Rattle.bus_line.specs.LineState.{LineState}
 use Rattle.bus_line.specs.declared.event.Event.{Event}
 use Rattle.bus_dictionary.specs.Dictionary.{longest_of}
-use Rattle.bus_pairing.specs.LineReport.{LineReport, line_report}
+use Rattle.bus_line.specs.LineReport.{LineReport, line_report}
 use Rattle.bus_pairing.specs.Seen.{SeenReport, seen}
 use Rattle.bus_pairing.specs.Conversation.{ConversationState, ConversationAfter}
-use Rattle.bus_pairing.specs.declared.line.Line.TheVariants.{First, Second}
+use Rattle.bus_line.specs.declared.line.Line.TheVariants.{First, Second}
 use Rattle.bus_watch.specs.Decodes.{DecodesMany, KeepsUp, line_reports_of}
 use Rattle.bus_watch.specs.Watch.{AdvancesWatchShown}
 use Rattle.bus_watch.proofs.AnalyserViewLemmas.{whole}

@@ -7,9 +7,9 @@ use Rattle.std.proofs.lemmas.List.Sums.{sum_by-append}
 use Rattle.bus_line.specs.Report.{Report, Kind, moved}
 use Rattle.bus_line.specs.Due.{reports, due_at}
 use Rattle.bus_line.specs.Laws.{OneMore}
-use Rattle.bus_pairing.specs.LineReport.{LineReport, line_report}
-use Rattle.bus_pairing.specs.declared.line.Line.{Line}
-use Rattle.bus_pairing.specs.declared.line.Line.TheVariants.{First, Second}
+use Rattle.bus_line.specs.LineReport.{LineReport, line_report}
+use Rattle.bus_line.specs.declared.line.Line.{Line}
+use Rattle.bus_line.specs.declared.line.Line.TheVariants.{First, Second}
 use Rattle.bus_tap.specs.Arrival.{Arrival, own, at_places, decides, arrived}
 use Rattle.bus_tap.specs.Laws.{ArrivalsGrow}
 use Rattle.bus_bits.proofs.OneMoreLemmas.{one-by-one}

@@ -8,7 +8,7 @@ use Rattle.bus_bits.specs.Bits.{bits_from}
 use Rattle.bus_bits.specs.Octet.{bits_of}
 use Rattle.bus_formats.specs.Packed.{in_pairs}
 use Rattle.bus_bits.proofs.OctetLemmas.{length-bits}
-use Rattle.bus_pairing.specs.declared.line.Line.TheVariants.{First, Second}
+use Rattle.bus_line.specs.declared.line.Line.TheVariants.{First, Second}
 use Rattle.bus_tap.specs.Arrival.{Arrival, arrival_of, arrivals_from, own, firsts_before}
 use Rattle.bus_tap.proofs.ArrivalLemmas.{own-append, before-append}
 use Rattle.bus_clocks.specs.Internal.Parts.{Parts, beyond}

@@ -4,8 +4,8 @@ use Rattle.std.specs.List.{flat_map}
 use Rattle.bus_fcs.specs.Check.{CheckView}
 use Rattle.bus_line.specs.Due.{reports, placed}
 use Rattle.bus_line.specs.Report.{moved}
-use Rattle.bus_pairing.specs.LineReport.{merged, of_side}
-use Rattle.bus_pairing.specs.declared.line.Line.TheVariants.{First, Second}
+use Rattle.bus_line.specs.LineReport.{merged, of_side}
+use Rattle.bus_line.specs.declared.line.Line.TheVariants.{First, Second}
 use Rattle.bus_watch.specs.Laws.{IsAnyCut}
 use Rattle.bus_tap.specs.Arrival.{Arrival, own, at_places, arrived}
 use Rattle.bus_clocks.specs.Clocks.{two_clocks}

@@ -16,7 +16,7 @@ ghost use Rattle.bus_line.specs.After.{After};
 ghost use Rattle.bus_pairing.specs.Conversation.{HasRoom, IsWhole};
 ghost use Rattle.bus_pairing.specs.Shown.{begun_span};
 ghost use Rattle.bus_watch.specs.Decodes.{line_reports_of, told_on};
-ghost use Rattle.bus_pairing.specs.declared.line.Line.TheVariants.{First, Second};
+ghost use Rattle.bus_line.specs.declared.line.Line.TheVariants.{First, Second};
 
 use crate::laws::{any_cut_of_arrivals, arrivals_are};
 use bus_bits::Spent;
@@ -123,7 +123,7 @@ impl<C: Check> TwoClockAnalyser<C> {
     ghost use Rattle.bus_pairing.specs.Shown.{kept_pair_option, IsKeepable};
     ghost use Rattle.bus_pairing.specs.Talk.{pending};
     ghost use Rattle.bus_pairing.specs.History.{history, tally};
-    ghost use Rattle.bus_pairing.specs.LineReport.{LineReport};
+    ghost use Rattle.bus_line.specs.LineReport.{LineReport};
     ghost use Rattle.bus_pairing.specs.Ledger.{total};
     ghost use Rattle.bus_line.specs.Ledger.{stored_open};
     ghost use Rattle.bus_clocks.specs.Headline.{WholeClockRun};

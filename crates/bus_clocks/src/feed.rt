@@ -5,7 +5,7 @@ ghost use Rattle.bus_bits.specs.Limits.{most_places};
 ghost use Rattle.bus_tap.specs.Arrival.{own};
 ghost use Rattle.bus_clocks.specs.Clocks.{two_clocks, decoder_on, CountsOn, ExceedsPlaces};
 ghost use Rattle.bus_pairing.specs.Sink.{SinkTook};
-ghost use Rattle.bus_pairing.specs.declared.line.Line.TheVariants.{First};
+ghost use Rattle.bus_line.specs.declared.line.Line.TheVariants.{First};
 ghost use Rattle.bus_watch.specs.Fed.{FedBy, RefusedBy, RefusedByAt, ForSink};
 
 use crate::analyser::TwoClockAnalyser;

@@ -4,7 +4,7 @@ ghost use Rattle.std.specs.Prelude.{◌≡◌, ◌+◌, ◌*◌, ◌<◌, ◌≤
 ghost use Rattle.bus_bits.specs.Octet.{bits_of};
 ghost use Rattle.bus_tap.specs.Arrival.{Arrival, arrival_of, arrivals_from, firsts_before, own};
 ghost use Rattle.bus_clocks.specs.Internal.Parts.{Parts, upto};
-ghost use Rattle.bus_pairing.specs.declared.line.Line.TheVariants.{First, Second};
+ghost use Rattle.bus_line.specs.declared.line.Line.TheVariants.{First, Second};
 
 use crate::line_bits::{BLOCK, LineBits};
 use bus_bits::{bit_at, eight_at};

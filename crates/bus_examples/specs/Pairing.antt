@@ -1,7 +1,7 @@
 -- Reports of a decoder of one's own, and which of them a conversation takes.
 use Rattle.std.specs.Prelude.{◌≡◌, ℕ, List, ◌++◌, Some, map, slice_get}
 use Rattle.bus_line.specs.Shown.{reported}
-use Rattle.bus_pairing.specs.LineReport.{LineReport, line_report}
+use Rattle.bus_line.specs.LineReport.{LineReport, line_report}
 use Rattle.bus_pairing.specs.Conversation.{ConversationState, HasRoom, IsWhole, ConversationAfter}
 use Rattle.bus_examples.specs.declared.pairing.Received.{Received}
 use Rattle.bus_examples.specs.declared.pairing.PairFault.{PairFault}

@@ -15,9 +15,9 @@ use Rattle.bus_line.specs.Report.{Report, Kind, Frame, Damaged, Overlong, Abort,
 use Rattle.bus_line.specs.Shown.{kind_with, span_of}
 use Rattle.bus_line.specs.declared.event.EventKind.{EventKind}
 use Rattle.bus_line.specs.declared.event.EventKind.TheVariants as event
-use Rattle.bus_pairing.specs.LineReport.{LineReport, of_line}
-use Rattle.bus_pairing.specs.declared.line.Line.{Line}
-use Rattle.bus_pairing.specs.declared.line.Line.TheVariants.{First}
+use Rattle.bus_line.specs.LineReport.{LineReport, of_line}
+use Rattle.bus_line.specs.declared.line.Line.{Line}
+use Rattle.bus_line.specs.declared.line.Line.TheVariants.{First}
 use Rattle.bus_line.specs.Ledger.{octet_count, kind_octets}
 use Rattle.bus_dictionary.specs.Entry.{FrameType}
 use Rattle.bus_pairing.specs.Talk.{verdicts, pending}

@@ -10,9 +10,9 @@ use Rattle.bus_line.specs.Due.{placed}
 use Rattle.bus_dictionary.specs.Entry.{FrameType}
 use Rattle.bus_dictionary.specs.declared.standing.Standing.{Standing}
 use Rattle.bus_dictionary.specs.declared.standing.Standing.TheVariants.{Unknown, Known}
-use Rattle.bus_pairing.specs.LineReport.{of_line, merged}
-use Rattle.bus_pairing.specs.declared.line.Line.TheVariants.{First, Second}
-use Rattle.bus_pairing.specs.declared.line.Line.{Line}
+use Rattle.bus_line.specs.LineReport.{of_line, merged}
+use Rattle.bus_line.specs.declared.line.Line.TheVariants.{First, Second}
+use Rattle.bus_line.specs.declared.line.Line.{Line}
 use Rattle.bus_pairing.specs.Talk.{pending}
 use Rattle.bus_pairing.specs.Seen.{SeenReport, seen}
 use Rattle.bus_pairing.specs.History.{tally, history}

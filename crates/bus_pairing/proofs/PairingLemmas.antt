@@ -7,8 +7,8 @@ use Rattle.std.specs.Option.{option_and_then}
 use Rattle.bus_dictionary.specs.Entry.{FrameType}
 use Rattle.bus_line.specs.Report.{Kind, Frame, Damaged, Overlong, Abort, Idle}
 use Rattle.bus_line.specs.Shown.{span_of}
-use Rattle.bus_pairing.specs.LineReport.{LineReport, line_report}
-use Rattle.bus_pairing.specs.declared.line.Line.{Line}
+use Rattle.bus_line.specs.LineReport.{LineReport, line_report}
+use Rattle.bus_line.specs.declared.line.Line.{Line}
 use Rattle.bus_pairing.specs.declared.pending.Pending.{Pending}
 use Rattle.bus_pairing.specs.Internal.Damage.{is_damage}
 use Rattle.bus_pairing.specs.Talk.{command_on, is_idle_kind, pending, standing_of}

@@ -5,7 +5,7 @@ use Rattle.std.proofs.lemmas.List.{length_push, take-append-le}
 use Rattle.std.proofs.lemmas.List.Elements.{filter_map-append}
 use Rattle.std.proofs.Math.Seq.{take-append_seam}
 use Rattle.circular_buffer.proofs.Places.{slice_get-append_left, slice_get-append_right}
-use Rattle.bus_pairing.specs.LineReport.{LineReport}
+use Rattle.bus_line.specs.LineReport.{LineReport}
 use Rattle.bus_line.specs.Due.{places}
 use Rattle.bus_dictionary.specs.Entry.{FrameType}
 use Rattle.bus_pairing.specs.Seen.{seen_of, seen_number, seen}

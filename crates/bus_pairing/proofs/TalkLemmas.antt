@@ -5,7 +5,7 @@ use Rattle.std.specs.List.{filter_map, cons_option, last_or}
 use Rattle.std.specs.Option.{option_map, option_and_then, option_to_list}
 use Rattle.std.proofs.lemmas.List.{append-nil}
 use Rattle.std.proofs.lemmas.List.Elements.{filter-append, filter_map-append}
-use Rattle.bus_pairing.specs.LineReport.{LineReport}
+use Rattle.bus_line.specs.LineReport.{LineReport}
 use Rattle.bus_dictionary.specs.Entry.{FrameType}
 use Rattle.bus_pairing.specs.Talk.{is_idle_kind, talk, neighbours, begins, waits, verdict, verdict_on, verdicts}
 use Rattle.bus_pairing.specs.Talk.{pending}

@@ -5,10 +5,10 @@ use Rattle.bus_bits.specs.declared.span.Span.{Span}
 use Rattle.bus_line.specs.Report.{Kind, Frame}
 use Rattle.bus_line.specs.Shown.{span_of}
 use Rattle.bus_dictionary.specs.Entry.{FrameType}
-use Rattle.bus_pairing.specs.LineReport.{LineReport}
+use Rattle.bus_line.specs.LineReport.{LineReport}
 use Rattle.bus_pairing.specs.Talk.{verdicts}
-use Rattle.bus_pairing.specs.declared.line.Line.{Line}
-use Rattle.bus_pairing.specs.declared.line.Line.TheVariants.{First}
+use Rattle.bus_line.specs.declared.line.Line.{Line}
+use Rattle.bus_line.specs.declared.line.Line.TheVariants.{First}
 use Rattle.bus_pairing.specs.declared.outcome.Outcome.{Outcome}
 use Rattle.bus_pairing.specs.declared.outcome.Outcome.TheVariants.{Answered, Late, Missing, Spoilt}
 use Rattle.bus_pairing.specs.declared.counts.Counts.{Counts}

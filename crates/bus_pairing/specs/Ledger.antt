@@ -4,7 +4,7 @@ use Rattle.bus_bits.specs.declared.spent.Spent.{Spent}
 use Rattle.bus_line.specs.Report.{Kind, Frame, Report}
 use Rattle.bus_line.specs.Due.{reports}
 use Rattle.bus_line.specs.Ledger.{octet_count, assembled, stored, copied}
-use Rattle.bus_pairing.specs.LineReport.{LineReport, firsts, seconds}
+use Rattle.bus_line.specs.LineReport.{LineReport, firsts, seconds}
 
 -- six for a frame: report, head, entry, pairing, tally and history; three for any other: report, pairing and tally
 abbrev pub kind_steps : Kind → ℕ

@@ -1,4 +1,3 @@
-pub mod LineReport
 pub mod Talk
 pub mod Seen
 pub mod History

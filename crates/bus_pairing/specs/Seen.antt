@@ -4,8 +4,8 @@ use Rattle.std.specs.Prelude.{filter_map, slice_get, Option, Some, None, option_
 use Rattle.std.specs.List.{last_or}
 use Rattle.bus_line.specs.Report.{Report, due}
 use Rattle.bus_line.specs.Due.{places}
-use Rattle.bus_pairing.specs.LineReport.{LineReport, line_report}
-use Rattle.bus_pairing.specs.declared.line.Line.{Line}
+use Rattle.bus_line.specs.LineReport.{LineReport, line_report}
+use Rattle.bus_line.specs.declared.line.Line.{Line}
 use Rattle.bus_dictionary.specs.Entry.{FrameType}
 use Rattle.bus_dictionary.specs.declared.standing.Standing.{Standing}
 use Rattle.bus_dictionary.specs.Standing.{type_in}

@@ -7,7 +7,7 @@ use Rattle.bus_line.specs.Shown.{report_of, reported}
 use Rattle.bus_line.specs.Due.{begun}
 use Rattle.bus_line.specs.Ledger.{octet_count}
 use Rattle.bus_pairing.specs.History.{KeptFrame, kept_frame, kept_pair}
-use Rattle.bus_pairing.specs.declared.line.Line.{Line}
+use Rattle.bus_line.specs.declared.line.Line.{Line}
 use Rattle.bus_pairing.specs.declared.pair_kept.PairKept.{PairKept}
 use Rattle.bus_pairing.specs.Seen.{SeenReport}
 use Rattle.bus_pairing.specs.declared.seen.Seen.{Seen}

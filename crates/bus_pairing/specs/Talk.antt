@@ -5,8 +5,9 @@ use Rattle.std.specs.List.{last_or}
 use Rattle.bus_bits.specs.declared.span.Span.{Span}
 use Rattle.bus_line.specs.Report.{Kind, Frame, Idle}
 use Rattle.bus_line.specs.Shown.{span_of}
-use Rattle.bus_pairing.specs.LineReport.{LineReport, carries_commands, carries_answers}
-use Rattle.bus_pairing.specs.declared.line.Line.{Line}
+use Rattle.bus_line.specs.LineReport.{LineReport}
+use Rattle.bus_line.specs.declared.line.Line.{Line}
+use Rattle.bus_line.specs.declared.line.Line.TheVariants.{First, Second}
 use Rattle.bus_dictionary.specs.Entry.{FrameType}
 use Rattle.bus_dictionary.specs.Dictionary.{entry_at}
 use Rattle.bus_dictionary.specs.Standing.{standing}
@@ -48,6 +49,18 @@ command d span (Known station ftype) =
     if nat_lt ftype 128 && (asks (entry_at ftype d) && not (station == 255))
     then Some (record { span = span; station = station; ftype = ftype }) else None
 command d span standing = None
+
+-- commands wait on the only line, and on the first of two
+abbrev pub carries_commands : Option Line → Bool
+carries_commands None = true
+carries_commands (Some First) = true
+carries_commands (Some Second) = false
+
+-- answers come on the only line, and on the second of two
+abbrev pub carries_answers : Option Line → Bool
+carries_answers None = true
+carries_answers (Some First) = false
+carries_answers (Some Second) = true
 
 -- where commands wait
 abbrev pub command_on : Option Line → List FrameType → Span → Standing → Option Pending

@@ -9,13 +9,12 @@ mod keep;
 
 use crate::counts::Counts;
 use crate::finding::Finding;
-use crate::line::Line;
 use crate::pair_kept::PairKept;
 use crate::pairing::Pairing;
 use crate::pending::Pending;
 use bus_bits::{Span, Spent};
 use bus_dictionary::Dictionary;
-use bus_line::{CopyCount, Event, EventKind};
+use bus_line::{CopyCount, Event, EventKind, Line};
 use circular_buffer::HeapCircularBuffer;
 use std::alloc::{AllocError, Global};
 use std::marker::Model;
@@ -66,7 +65,7 @@ fn no_counts() -> [Counts; 256]
 
 impl Conversation {
     ghost use Rattle.bus_line.specs.Shown.{reported};
-    ghost use Rattle.bus_pairing.specs.LineReport.{line_report};
+    ghost use Rattle.bus_line.specs.LineReport.{line_report};
     ghost use Rattle.bus_pairing.specs.Conversation.{AdvancesConversation, HasRoom, IsWhole, ConversationAfter};
     ghost use Rattle.bus_pairing.specs.Shown.{found_on, kept_pair_option};
 

@@ -2,7 +2,7 @@
 
 ghost use Rattle.std.specs.Prelude.{◌≡◌, Some};
 ghost use Rattle.bus_pairing.specs.Shown.{shown, found, shown_on, found_on};
-ghost use Rattle.bus_pairing.specs.declared.line.Line.{Line};
+ghost use Rattle.bus_line.specs.declared.line.Line.{Line};
 
 use crate::seen::Seen;
 use crate::verdict::Verdict;

@@ -27,13 +27,12 @@ mod seen;
 mod verdict;
 
 pub use bus_bits::Span;
-pub use bus_line::SinkRefused;
+pub use bus_line::{Line, SinkRefused};
 pub use conversation::Conversation;
 pub use counts::Counts;
 pub use ending::Ending;
 pub use finding::Finding;
 pub use kept::Kept;
-pub use line::Line;
 pub use logged_report::{LoggedPiece, LoggedReport};
 pub use outcome::Outcome;
 pub use pair_ending::PairEnding;

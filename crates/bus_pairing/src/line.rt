@@ -1,17 +1,10 @@
-//! Which of two lines.
+//! What each of two lines carries.
 
 ghost use Rattle.std.specs.Prelude.{◌≡◌};
 ghost use Rattle.bus_pairing.specs.History.{line_of};
-ghost use Rattle.bus_pairing.specs.LineReport.{carries_commands, carries_answers};
+ghost use Rattle.bus_pairing.specs.Talk.{carries_commands, carries_answers};
 
-/// One of two lines that one clock recorded.
-#[derive(Clone, Copy, Debug, PartialEq, Eq)]
-pub enum Line {
-    /// The controller's line, on which commands wait for their answers.
-    First,
-    /// The line on which the stations answer.
-    Second,
-}
+use bus_line::Line;
 
 /// Whether commands wait on this line; `None` is the only line.
 #[inline(always)]

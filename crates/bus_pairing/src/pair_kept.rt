@@ -3,7 +3,7 @@
 ghost use Rattle.std.specs.Prelude.{◌≡◌};
 
 use crate::kept::Kept;
-use crate::line::Line;
+use bus_line::Line;
 
 /// A frame that is kept, with its line.
 #[derive(Debug, Drop)]

@@ -7,11 +7,10 @@ ghost use Rattle.bus_line.specs.Limits.{most_octets};
 ghost use Rattle.bus_pairing.specs.LoggedReport.{logged_pairs};
 ghost use Rattle.bus_pairing.specs.Shown.{shown_on};
 
-use crate::line::Line;
 use crate::logged_report::LoggedReport;
 use crate::pair_sink::PairSink;
 use crate::seen::Seen;
-use bus_line::SinkRefused;
+use bus_line::{Line, SinkRefused};
 use std::alloc::{AllocError, Global};
 use std::marker::Model;
 

@@ -7,9 +7,8 @@ ghost use Rattle.bus_line.specs.Told.{told};
 ghost use Rattle.bus_pairing.specs.Shown.{shown_on};
 ghost use Rattle.bus_pairing.specs.Sink.{SinkView, IsFull, IsWithinRoom};
 
-use crate::line::Line;
 use crate::seen::Seen;
-use bus_line::SinkRefused;
+use bus_line::{Line, SinkRefused};
 
 /// Takes what is seen on two lines, one report after another.
 pub trait PairSink {

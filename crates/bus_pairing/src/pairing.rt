@@ -3,7 +3,7 @@
 ghost use Rattle.std.specs.Prelude.{◌≡◌, ◌≤◌, List, ℕ, Option, length, true, None, option_map};
 ghost use Rattle.bus_line.specs.Shown.{kind_with, reported};
 ghost use Rattle.bus_pairing.specs.Conversation.{AdvancesPairing, IsWhole};
-ghost use Rattle.bus_pairing.specs.LineReport.{line_report};
+ghost use Rattle.bus_line.specs.LineReport.{line_report};
 ghost use Rattle.bus_pairing.specs.Internal.Damage.{is_damage};
 ghost use Rattle.bus_pairing.specs.Shown.{found_on};
 ghost use Rattle.bus_pairing.specs.Talk.{verdict};
@@ -12,10 +12,9 @@ mod decide;
 mod stray;
 
 use crate::finding::Finding;
-use crate::line::Line;
 use crate::pending::Pending;
 use bus_dictionary::{Rules, Standing};
-use bus_line::{Event, EventKind};
+use bus_line::{Event, EventKind, Line};
 pub(crate) use decide::{command, verdict};
 pub(crate) use stray::is_stray;
 

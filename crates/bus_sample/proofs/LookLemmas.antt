@@ -98,9 +98,9 @@ looks-ended o start now xs (Ok facts) cut told = told
 looks-ended o start now xs (Err fault) cut told = rw (cut.1) (xs, up-to-last xs, inl told)
 
 -- at the end of the input
-pub looks-at-end : (o : SampleOptions) (start now : Option (List ℕ)) (xs : List ℕ) (run : SampleRun)
+pub looks-at-end : (o : SampleOptions) (start now : Option (List ℕ)) (xs : List ℕ) (run : SampleRun) (octets : ℕ)
     (r : Result (Unit {0}) SampleFault) → MatchResult r (λ _. array_vec_len run.part ≡ 0)
-    (λ fault. (0 < array_vec_len run.part) × (fault ≡ CutOff (run.octets - array_vec_len run.part))) →
+    (λ fault. (0 < array_vec_len run.part) × (fault ≡ CutOff (octets - array_vec_len run.part))) →
     HasTold o start now xs → LooksBy o start now xs r
-looks-at-end o start now xs run (Ok _) none told = told
-looks-at-end o start now xs run (Err fault) cut told = rw (cut.1) told
+looks-at-end o start now xs run octets (Ok _) none told = told
+looks-at-end o start now xs run octets (Err fault) cut told = rw (cut.1) told

@@ -9,7 +9,7 @@ use Rattle.std.proofs.lemmas.List.{take_all, map-append}
 use Rattle.std.proofs.lemmas.Grind.{common_steps}
 use Rattle.bus_formats.specs.Capture.{is_arrival, mark_arrival, text_arrivals, text_arrivals_fault, bad_mark}
 use Rattle.bus_bits.specs.Text.{is_space, front_by}
-use Rattle.bus_pairing.specs.declared.line.Line.TheVariants.{First, Second}
+use Rattle.bus_line.specs.declared.line.Line.TheVariants.{First, Second}
 use Rattle.bus_tap.specs.Arrival.{Arrival}
 use Rattle.bus_sample.specs.Marks.{mark, marks_text, whole_text, line_end}
 use Rattle.bus_sample.specs.Laws.{captured}

@@ -20,16 +20,15 @@ use Rattle.bus_sample.proofs.RecordLemmas.{recorded-grows}
 -- a record is whole
 pub read-whole : (start now : Option (List ℕ)) (new : SampleRun) (form : Form) (xs ss : List ℕ)
     (r : Result (Unit {0}) SampleFault) → new.options.form ≡ form → recorded form xs ≡ ss → cut_record form xs ≡ [] →
-    new.part.items ≡ [] → new.octets ≡ length xs →
+    new.part.items ≡ [] →
     MatchResult r (λ _. RunAfter start now new ss) (λ fault. StopsWith start now new ss fault) →
     MatchResult r (λ _. HasRead start now new xs) (λ fault. StopsWith start now new (recorded form xs) fault)
-read-whole start now new form xs ss (Ok _) same is none part octets taken = record {
+read-whole start now new form xs ss (Ok _) same is none part taken = record {
   taken = subst (λ f. RunAfter start now new (recorded f xs)) (sym same)
       (subst (λ samples. RunAfter start now new samples) (sym is) taken);
   part = part ∙ (sym none ∙ ap (λ f. cut_record f xs) (sym same));
-  octets = octets;
 }
-read-whole start now new form xs ss (Err fault) same is none part octets halts = rw is halts
+read-whole start now new form xs ss (Err fault) same is none part halts = rw is halts
 
 -- a fault among the first samples is one among more of them
 front-further : (xs ys zs : List ℕ) → IsFrontOf zs ys → IsFrontOf ys xs → IsFrontOf zs xs
@@ -97,23 +96,23 @@ halts-finishes after start now run form xs Read is halts = absurd halts
 halts-finishes after start now run form xs ReadsLimit is halts = absurd halts
 halts-finishes after start now run form xs Facts is halts = absurd halts
 
-pub ends-finishes : (after start now : Option (List ℕ)) (run : SampleRun) (xs : List ℕ)
-    (r : Result (Unit {0}) SampleFault) → IsAtEnd after → HasRead start now run xs →
+pub ends-finishes : (after start now : Option (List ℕ)) (run : SampleRun) (xs : List ℕ) (octets : ℕ)
+    (r : Result (Unit {0}) SampleFault) → IsAtEnd after → HasRead start now run xs → octets ≡ length xs →
     MatchResult r (λ _. array_vec_len run.part ≡ 0)
-    (λ fault. (0 < array_vec_len run.part) × (fault ≡ CutOff (run.octets - array_vec_len run.part))) →
+    (λ fault. (0 < array_vec_len run.part) × (fault ≡ CutOff (octets - array_vec_len run.part))) →
     RecordingStopsWith after start now run xs r
-ends-finishes after start now run xs (Ok _) end read none =
+ends-finishes after start now run xs octets (Ok _) end read whole none =
     (end, nothing (cut_record run.options.form xs) (sym (ap length read.part) ∙ none), read)
   where
     nothing : (l : List ℕ) → length l ≡ 0 → l ≡ []
     nothing [] empty = refl
     nothing (x ∷ l) empty = absurd (let never : ⊥ = omega (arith, empty) in never)
-ends-finishes after start now run xs (Err fault) end read cut =
+ends-finishes after start now run xs octets (Err fault) end read whole cut =
     let count : array_vec_len run.part ≡ length (cut_record run.options.form xs) = ap length read.part in
     rw (cut.1) (
       end,
       omega (arith, cut.0, count),
-      omega (arith, count, read.octets),
+      omega (arith, count, whole),
       read,
     )
 
@@ -154,12 +153,12 @@ fails-within start now run samples ReadsLimit n m same halts = absurd halts
 fails-within start now run samples Facts n m same halts = absurd halts
 
 -- nor at the end of the input
-pub fails-at-end : (run : SampleRun) (r : Result (Unit {0}) SampleFault) (n m : ℕ) → m ≡ n →
+pub fails-at-end : (run : SampleRun) (octets : ℕ) (r : Result (Unit {0}) SampleFault) (n m : ℕ) → m ≡ n →
     MatchResult r (λ _. array_vec_len run.part ≡ 0)
-    (λ fault. (0 < array_vec_len run.part) × (fault ≡ CutOff (run.octets - array_vec_len run.part))) →
+    (λ fault. (0 < array_vec_len run.part) × (fault ≡ CutOff (octets - array_vec_len run.part))) →
     FailsBy n m r
-fails-at-end run (Ok _) n m same none = same
-fails-at-end run (Err fault) n m same cut = rw (cut.1) same
+fails-at-end run octets (Ok _) n m same none = same
+fails-at-end run octets (Err fault) n m same cut = rw (cut.1) same
 
 -- nor where the end was written, or was not
 pub fails-ended : {A : Type 0} (r : Result A SampleFault) (n m : ℕ) → m ≡ n →

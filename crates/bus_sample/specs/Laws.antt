@@ -1,7 +1,7 @@
 -- A law over the text of arrivals.
 use Rattle.std.specs.Prelude.{◌≡◌, Bool, true, false, List, map, None}
 use Rattle.bus_formats.specs.Capture.{text_arrivals, text_arrivals_fault}
-use Rattle.bus_pairing.specs.declared.line.Line.TheVariants.{First, Second}
+use Rattle.bus_line.specs.declared.line.Line.TheVariants.{First, Second}
 use Rattle.bus_tap.specs.Arrival.{Arrival}
 use Rattle.bus_sample.specs.Marks.{whole_text}
 

@@ -13,7 +13,7 @@ ghost use Rattle.bus_sample.specs.Marks.{mark, marks_text, whole_text};
 ghost use Rattle.bus_sample.specs.Internal.Runs.{HasMarked, HasText, length_of};
 ghost use Rattle.std.specs.Io.KnownBytes.{Appends};
 
-use bus_pairing::Line;
+use bus_line::Line;
 use bus_tap::{EdgeBlock, Edges, StopRule, lowest_one};
 use bus_text::{Page, ShortWrite};
 use std::io::Write;

@@ -39,8 +39,6 @@ pub(crate) struct SampleRun {
     pub(crate) marks: Marks,
     /// The octets of a record that is not whole yet.
     part: ArrayVec<u8, 8>,
-    /// How many octets were read.
-    octets: u128,
 }
 
 /// Whether a write failed.
@@ -67,7 +65,7 @@ impl SampleRun {
         ensures size { MatchResult result (λ _. HasSize options.now)
             (λ fault. (fault ≡ Octets) × ((size_of options.now.form < 1) ⊎ (8 < size_of options.now.form))) }
         ensures fresh { IfOk result (λ run. (start : Option (List ℕ)) → HasRead start start run []) }
-        ensures given { IfOk result (λ run. (run.options ≡ options.now) × (run.octets ≡ 0)) }
+        ensures given { IfOk result (λ run. run.options ≡ options.now) }
         ensures sound { IfOk result IsSoundRun }
     {
         if options.form.size() < 1 || options.form.size() > 8 {
@@ -79,17 +77,11 @@ impl SampleRun {
             tap: Tap::new(options.hold, options.jump),
             marks: Marks::new(options.rest),
             part: ArrayVec::new(),
-            octets: 0,
         })
     }
 
     /// Takes some samples with these levels, up to those that bring bits, and puts these. Returns how many.
-    fn consume_some<W: Write>(
-        &mut self,
-        levels: u8,
-        count: u64,
-        w: &mut W,
-    ) -> Result<u64, SampleFault>
+    fn put_some<W: Write>(&mut self, levels: u8, count: u64, w: &mut W) -> Result<u64, SampleFault>
         requires sound { IsSoundRun self.old }
         requires some { 1 ≤ count }
         ensures taken { (sample : ℕ) → levels ≡ channels self.old.options.wires sample →
@@ -115,12 +107,7 @@ impl SampleRun {
     }
 
     /// Takes samples with these levels, and puts the bits that arrive.
-    fn consume_run<W: Write>(
-        &mut self,
-        levels: u8,
-        count: u64,
-        w: &mut W,
-    ) -> Result<(), SampleFault>
+    fn put_run<W: Write>(&mut self, levels: u8, count: u64, w: &mut W) -> Result<(), SampleFault>
         requires { IsSoundRun self.old }
         ensures taken { (sample : ℕ) → levels ≡ channels self.old.options.wires sample →
             (start : Option (List ℕ)) (ss : List ℕ) → RunAfter start (W.contents w.old) self.old ss →
@@ -131,153 +118,9 @@ impl SampleRun {
     {
         let mut left = count;
         while left > 0 {
-            left -= self.consume_some(levels, left, w)?;
+            left -= self.put_some(levels, left, w)?;
         }
         Ok(())
-    }
-
-    /// Takes what a record says.
-    fn consume_record<W: Write>(&mut self, number: u64, w: &mut W) -> Result<(), SampleFault>
-        requires { IsSoundRun self.old }
-        ensures taken { (start : Option (List ℕ)) (ss : List ℕ) → RunAfter start (W.contents w.old) self.old ss →
-            MatchResult result
-            (λ _. RunAfter start (W.contents w.new) self.new (ss ++ run_of self.old.options.form number))
-            (λ fault. StopsWith start (W.contents w.new) self.new (ss ++ run_of self.old.options.form number) fault) }
-        ensures same { IsSameRecord self.old self.new }
-        ensures sound { IsSoundRun self.new }
-    {
-        match self.options.form {
-            Form::Samples { .. } => {
-                let levels = self.options.wires.channels(number);
-                self.consume_run(levels, 1, w)
-            }
-            Form::Runs => {
-                let levels = self.options.wires.channels(number % 256);
-                self.consume_run(levels, number / 256, w)
-            }
-        }
-    }
-
-    /// Takes the next octet.
-    fn consume_octet<W: Write>(&mut self, octet: u8, w: &mut W) -> Result<(), SampleFault>
-        requires sound { IsSoundRun self.old }
-        requires few { self.old.octets < 2 ^ 100 }
-        ensures read { (start : Option (List ℕ)) (xs : List ℕ) → HasRead start (W.contents w.old) self.old xs →
-            MatchResult result (λ _. HasRead start (W.contents w.new) self.new (xs ++ octet ∷ []))
-            (λ fault. StopsWith start (W.contents w.new) self.new (recorded self.old.options.form (xs ++ octet ∷ []))
-            fault) }
-        ensures octets { self.new.octets ≡ self.old.octets + 1 }
-        ensures options { self.new.options ≡ self.old.options }
-        ensures sound { IsSoundRun self.new }
-    {
-        self.octets += 1;
-        self.part.push(octet);
-        if self.part.len() < usize::from(self.options.form.size()) {
-            return Ok(());
-        }
-        let number = number_of(self.part.as_slice());
-        self.part.clear();
-        self.consume_record(number, w)
-    }
-
-    /// Takes some octets, up to the first fault.
-    fn consume_octets<W: Write>(&mut self, octets: &[u8], w: &mut W) -> Result<(), SampleFault>
-        requires sound { IsSoundRun self.old }
-        requires few { self.old.octets + length octets.now < 2 ^ 100 }
-        ensures read { (start : Option (List ℕ)) (xs : List ℕ) → HasRead start (W.contents w.old) self.old xs →
-            MatchResult result (λ _. HasRead start (W.contents w.new) self.new (xs ++ octets.now))
-            (λ fault. StopsWith start (W.contents w.new) self.new (recorded self.old.options.form (xs ++ octets.now))
-            fault) }
-        ensures octets { OnOk result (self.new.octets ≡ self.old.octets + length octets.now) }
-        ensures options { self.new.options ≡ self.old.options }
-        ensures sound { IsSoundRun self.new }
-    {
-        if self.options.form == (Form::Samples { octets: 1 }) {
-            return self.consume_samples(octets, w);
-        }
-        for octet in octets {
-            self.consume_octet(*octet, w)?;
-        }
-        Ok(())
-    }
-
-    /// Takes some samples of an octet each, up to the first fault.
-    fn consume_samples<W: Write>(&mut self, octets: &[u8], w: &mut W) -> Result<(), SampleFault>
-        requires form { self.old.options.form ≡ Samples 1 }
-        requires sound { IsSoundRun self.old }
-        requires few { self.old.octets + length octets.now < 2 ^ 100 }
-        ensures read { (start : Option (List ℕ)) (xs : List ℕ) → HasRead start (W.contents w.old) self.old xs →
-            MatchResult result (λ _. HasRead start (W.contents w.new) self.new (xs ++ octets.now))
-            (λ fault. StopsWith start (W.contents w.new) self.new (recorded self.old.options.form (xs ++ octets.now))
-            fault) }
-        ensures octets { OnOk result (self.new.octets ≡ self.old.octets + length octets.now) }
-        ensures options { self.new.options ≡ self.old.options }
-        ensures sound { IsSoundRun self.new }
-    {
-        let wires = self.options.wires;
-        let mut at = 0;
-        while at < octets.len() {
-            at += self.consume_front(&octets[at..], &wires, w)?;
-        }
-        Ok(())
-    }
-
-    /// Takes 64 samples of an octet each, or the first ones if they are the same. Returns how many.
-    #[inline(always)]
-    fn consume_front<W: Write>(
-        &mut self,
-        octets: &[u8],
-        wires: &Wires,
-        w: &mut W,
-    ) -> Result<usize, SampleFault>
-        requires wires { wires.now ≡ self.old.options.wires }
-        requires form { self.old.options.form ≡ Samples 1 }
-        requires sound { IsSoundRun self.old }
-        requires some { 1 ≤ length octets.now }
-        requires few { self.old.octets + length octets.now < 2 ^ 100 }
-        ensures read { (start : Option (List ℕ)) (xs : List ℕ) → HasRead start (W.contents w.old) self.old xs →
-            MatchResult result (λ n. HasRead start (W.contents w.new) self.new (xs ++ take n octets.now))
-            (λ fault. StopsWith start (W.contents w.new) self.new (recorded self.old.options.form (xs ++ octets.now))
-            fault) }
-        ensures count { IfOk result (λ n. (1 ≤ n) × (n ≤ length octets.now)
-            × (self.new.octets ≡ self.old.octets + n)) }
-        ensures options { self.new.options ≡ self.old.options }
-        ensures sound { IsSoundRun self.new }
-    {
-        if self.tap.takes_blocks() {
-            if let Some(block) = octets.first_chunk::<64>() {
-                self.consume_block(block, wires, w)?;
-                return Ok(64);
-            }
-        }
-        let count = alike(octets);
-        self.consume_alike(octets[0], count, w)?;
-        Ok(count)
-    }
-
-    /// Takes 64 samples of an octet each.
-    #[inline(always)]
-    fn consume_block<W: Write>(
-        &mut self,
-        octets: &[u8; 64],
-        wires: &Wires,
-        w: &mut W,
-    ) -> Result<(), SampleFault>
-        requires wires { wires.now ≡ self.old.options.wires }
-        requires form { self.old.options.form ≡ Samples 1 }
-        requires sound { IsSoundRun self.old }
-        requires takes { TakesBlocks self.old.tap }
-        requires few { self.old.octets + 64 < 2 ^ 100 }
-        ensures read { (start : Option (List ℕ)) (xs : List ℕ) → HasRead start (W.contents w.old) self.old xs →
-            MatchResult result (λ _. HasRead start (W.contents w.new) self.new (xs ++ octets.now))
-            (λ fault. StopsWith start (W.contents w.new) self.new (recorded self.old.options.form (xs ++ octets.now))
-            fault) }
-        ensures octets { self.new.octets ≡ self.old.octets + 64 }
-        ensures options { self.new.options ≡ self.old.options }
-        ensures sound { IsSoundRun self.new }
-    {
-        self.octets += 64;
-        self.put_block(octets, wires, w)
     }
 
     /// Takes 64 samples of an octet each, and puts the bits that arrive.
@@ -306,42 +149,127 @@ impl SampleRun {
         }
     }
 
-    /// Takes some samples of an octet each, which are the same.
-    fn consume_alike<W: Write>(
-        &mut self,
-        octet: u8,
-        count: usize,
-        w: &mut W,
-    ) -> Result<(), SampleFault>
-        requires form { self.old.options.form ≡ Samples 1 }
+    /// Takes what a record says.
+    fn put_record<W: Write>(&mut self, number: u64, w: &mut W) -> Result<(), SampleFault>
+        requires { IsSoundRun self.old }
+        ensures taken { (start : Option (List ℕ)) (ss : List ℕ) → RunAfter start (W.contents w.old) self.old ss →
+            MatchResult result
+            (λ _. RunAfter start (W.contents w.new) self.new (ss ++ run_of self.old.options.form number))
+            (λ fault. StopsWith start (W.contents w.new) self.new (ss ++ run_of self.old.options.form number) fault) }
+        ensures same { IsSameRecord self.old self.new }
+        ensures sound { IsSoundRun self.new }
+    {
+        match self.options.form {
+            Form::Samples { .. } => {
+                let levels = self.options.wires.channels(number);
+                self.put_run(levels, 1, w)
+            }
+            Form::Runs => {
+                let levels = self.options.wires.channels(number % 256);
+                self.put_run(levels, number / 256, w)
+            }
+        }
+    }
+
+    /// Takes the next octet.
+    fn read_octet<W: Write>(&mut self, octet: u8, w: &mut W) -> Result<(), SampleFault>
         requires sound { IsSoundRun self.old }
-        requires few { self.old.octets + count < 2 ^ 100 }
         ensures read { (start : Option (List ℕ)) (xs : List ℕ) → HasRead start (W.contents w.old) self.old xs →
-            MatchResult result (λ _. HasRead start (W.contents w.new) self.new (xs ++ replicate count octet))
-            (λ fault. StopsWith start (W.contents w.new) self.new
-            (recorded self.old.options.form (xs ++ replicate count octet)) fault) }
-        ensures octets { self.new.octets ≡ self.old.octets + count }
+            MatchResult result (λ _. HasRead start (W.contents w.new) self.new (xs ++ octet ∷ []))
+            (λ fault. StopsWith start (W.contents w.new) self.new (recorded self.old.options.form (xs ++ octet ∷ []))
+            fault) }
         ensures options { self.new.options ≡ self.old.options }
         ensures sound { IsSoundRun self.new }
     {
-        self.octets += count as u128;
-        let levels = self.levels[usize::from(octet)];
-        self.consume_run(levels, count as u64, w)
+        self.part.push(octet);
+        if self.part.len() < usize::from(self.options.form.size()) {
+            return Ok(());
+        }
+        let number = number_of(self.part.as_slice());
+        self.part.clear();
+        self.put_record(number, w)
     }
 
-    /// Takes what one read gave, and writes its text.
-    fn consume_read<W: Write>(&mut self, octets: &[u8], w: &mut W) -> Result<(), SampleFault>
+    /// Takes some octets, up to the first fault.
+    fn read_octets<W: Write>(&mut self, octets: &[u8], w: &mut W) -> Result<(), SampleFault>
         requires sound { IsSoundRun self.old }
-        requires few { self.old.octets + length octets.now < 2 ^ 100 }
         ensures read { (start : Option (List ℕ)) (xs : List ℕ) → HasRead start (W.contents w.old) self.old xs →
             MatchResult result (λ _. HasRead start (W.contents w.new) self.new (xs ++ octets.now))
             (λ fault. StopsWith start (W.contents w.new) self.new (recorded self.old.options.form (xs ++ octets.now))
             fault) }
-        ensures octets { OnOk result (self.new.octets ≡ self.old.octets + length octets.now) }
         ensures options { self.new.options ≡ self.old.options }
         ensures sound { IsSoundRun self.new }
     {
-        self.consume_octets(octets, w)?;
+        if self.options.form == (Form::Samples { octets: 1 }) {
+            return self.read_samples(octets, w);
+        }
+        for octet in octets {
+            self.read_octet(*octet, w)?;
+        }
+        Ok(())
+    }
+
+    /// Takes some samples of an octet each, up to the first fault.
+    fn read_samples<W: Write>(&mut self, octets: &[u8], w: &mut W) -> Result<(), SampleFault>
+        requires form { self.old.options.form ≡ Samples 1 }
+        requires sound { IsSoundRun self.old }
+        ensures read { (start : Option (List ℕ)) (xs : List ℕ) → HasRead start (W.contents w.old) self.old xs →
+            MatchResult result (λ _. HasRead start (W.contents w.new) self.new (xs ++ octets.now))
+            (λ fault. StopsWith start (W.contents w.new) self.new (recorded self.old.options.form (xs ++ octets.now))
+            fault) }
+        ensures options { self.new.options ≡ self.old.options }
+        ensures sound { IsSoundRun self.new }
+    {
+        let wires = self.options.wires;
+        let mut at = 0;
+        while at < octets.len() {
+            at += self.read_front(&octets[at..], &wires, w)?;
+        }
+        Ok(())
+    }
+
+    /// Takes 64 samples of an octet each, or the first ones if they are the same. Returns how many.
+    #[inline(always)]
+    fn read_front<W: Write>(
+        &mut self,
+        octets: &[u8],
+        wires: &Wires,
+        w: &mut W,
+    ) -> Result<usize, SampleFault>
+        requires wires { wires.now ≡ self.old.options.wires }
+        requires form { self.old.options.form ≡ Samples 1 }
+        requires sound { IsSoundRun self.old }
+        requires some { 1 ≤ length octets.now }
+        ensures read { (start : Option (List ℕ)) (xs : List ℕ) → HasRead start (W.contents w.old) self.old xs →
+            MatchResult result (λ n. HasRead start (W.contents w.new) self.new (xs ++ take n octets.now))
+            (λ fault. StopsWith start (W.contents w.new) self.new (recorded self.old.options.form (xs ++ octets.now))
+            fault) }
+        ensures count { IfOk result (λ n. (1 ≤ n) × (n ≤ length octets.now)) }
+        ensures options { self.new.options ≡ self.old.options }
+        ensures sound { IsSoundRun self.new }
+    {
+        if self.tap.takes_blocks() {
+            if let Some(block) = octets.first_chunk::<64>() {
+                self.put_block(block, wires, w)?;
+                return Ok(64);
+            }
+        }
+        let count = alike(octets);
+        self.put_run(self.levels[usize::from(octets[0])], count as u64, w)?;
+        Ok(count)
+    }
+
+    /// Takes what one read gave, and writes its text.
+    fn read_buffer<W: Write>(&mut self, octets: &[u8], w: &mut W) -> Result<(), SampleFault>
+        requires sound { IsSoundRun self.old }
+        ensures read { (start : Option (List ℕ)) (xs : List ℕ) → HasRead start (W.contents w.old) self.old xs →
+            MatchResult result (λ _. HasRead start (W.contents w.new) self.new (xs ++ octets.now))
+            (λ fault. StopsWith start (W.contents w.new) self.new (recorded self.old.options.form (xs ++ octets.now))
+            fault) }
+        ensures options { self.new.options ≡ self.old.options }
+        ensures sound { IsSoundRun self.new }
+    {
+        self.read_octets(octets, w)?;
         match self.marks.page.write_out(w) {
             Ok(()) => Ok(()),
             Err(cut) => Err(SampleFault::Write(cut.sent)),
@@ -366,17 +294,17 @@ impl SampleRun {
         }
     }
 
-    /// What is wrong where the input ends here.
-    fn finish(&self) -> Result<(), SampleFault>
+    /// What is wrong where the input ends behind so many octets.
+    fn finish(&self, octets: u128) -> Result<(), SampleFault>
         ensures { MatchResult result (λ _. array_vec_len self.now.part ≡ 0)
             (λ fault. (0 < array_vec_len self.now.part)
-            × (fault ≡ CutOff (self.now.octets - array_vec_len self.now.part))) }
+            × (fault ≡ CutOff (octets - array_vec_len self.now.part))) }
     {
         if self.part.is_empty() {
             return Ok(());
         }
         let part = self.part.len() as u128;
-        Err(SampleFault::CutOff(self.octets.saturating_sub(part)))
+        Err(SampleFault::CutOff(octets.saturating_sub(part)))
     }
 
     /// Reads to the end or the first fault.
@@ -388,7 +316,6 @@ impl SampleRun {
     ) -> Result<(), SampleFault>
         requires sound { IsSoundRun self.old }
         requires fresh { (start : Option (List ℕ)) → HasRead start start self.old [] }
-        requires none { self.old.octets ≡ 0 }
         requires room { R.failures r.old < 2 ^ 64 - 1 }
         ensures read { (xs : List ℕ) × Consumes (R.remaining r.old) (R.remaining r.new) xs
             × RecordingStopsWith (R.remaining r.new) (W.contents w.old) (W.contents w.new) self.new xs result
@@ -398,13 +325,15 @@ impl SampleRun {
         ensures sound { IsSoundRun self.new }
     {
         let mut buffer = [0; ROOM];
+        let mut octets: u128 = 0;
         for _turn in 0..self.options.reads {
             let count = match r.read(&mut buffer) {
-                Ok(0) => return self.finish(),
+                Ok(0) => return self.finish(octets),
                 Ok(count) => count,
                 Err(_) => return Err(SampleFault::Read),
             };
-            self.consume_read(&buffer[..count], w)?;
+            octets += count as u128;
+            self.read_buffer(&buffer[..count], w)?;
             self.look(e)?;
         }
         Err(SampleFault::ReadsLimit)

@@ -6,8 +6,8 @@ use Rattle.std.proofs.lemmas.List.{map-append}
 use Rattle.bus_bits.specs.Bits.{bit_at, bits_from}
 use Rattle.bus_bits.proofs.BitLemmas.{bits-more, length-from}
 use Rattle.bus_bits.proofs.ListLemmas.{zip-append}
-use Rattle.bus_pairing.specs.declared.line.Line.{Line}
-use Rattle.bus_pairing.specs.declared.line.Line.TheVariants.{First, Second}
+use Rattle.bus_line.specs.declared.line.Line.{Line}
+use Rattle.bus_line.specs.declared.line.Line.TheVariants.{First, Second}
 use Rattle.bus_tap.specs.Arrival.{Arrival, arrival_of, arrivals_from, own, firsts_before}
 
 -- the bits of a line

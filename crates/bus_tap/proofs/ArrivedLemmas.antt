@@ -8,9 +8,9 @@ use Rattle.std.proofs.Math.Seq.{drop-cons, take-append_seam}
 use Rattle.bus_line.specs.Report.{Report, IsReport, closed, aborted, idle, due, moved}
 use Rattle.bus_line.specs.Due.{due_at}
 use Rattle.bus_line.specs.Laws.{DueStays, DueIsIt}
-use Rattle.bus_pairing.specs.LineReport.{line_report, line_reports_at}
-use Rattle.bus_pairing.specs.declared.line.Line.{Line}
-use Rattle.bus_pairing.specs.declared.line.Line.TheVariants.{First, Second}
+use Rattle.bus_line.specs.LineReport.{line_report, line_reports_at}
+use Rattle.bus_line.specs.declared.line.Line.{Line}
+use Rattle.bus_line.specs.declared.line.Line.TheVariants.{First, Second}
 use Rattle.bus_line.proofs.DueLemmas.{class-due}
 use Rattle.bus_tap.specs.Arrival.{Arrival, own, place_of, at_places, due_on, decided_at, arrived, decides}
 use Rattle.bus_tap.proofs.ArrivalLemmas.{own-append, before-append}

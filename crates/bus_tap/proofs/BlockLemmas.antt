@@ -10,8 +10,8 @@ use Rattle.std.proofs.lemmas.List.{map-append, length-map, get_or_append_left, g
 use Rattle.std.proofs.lemmas.Bool.{cases_lt, true≢false}
 use Rattle.std.proofs.lemmas.Nat.Bits.{bit_at-zero}
 use Rattle.bus_line.specs.Due.{places}
-use Rattle.bus_pairing.specs.declared.line.Line.{Line}
-use Rattle.bus_pairing.specs.declared.line.Line.TheVariants.{First, Second}
+use Rattle.bus_line.specs.declared.line.Line.{Line}
+use Rattle.bus_line.specs.declared.line.Line.TheVariants.{First, Second}
 use Rattle.bus_tap.specs.Blocks.{has_bit, ones_in, bit_in, edges_in, block_arrivals}
 use Rattle.bus_tap.specs.Facts.{AreFacts, AreFactsOf, IsTallied, bit_samples, changes, changes_high, places_where}
 use Rattle.bus_tap.specs.Internal.Counts.{AreBitFacts, CountsLine, AreCounted, bit_between, clock_changed, clock_rose}

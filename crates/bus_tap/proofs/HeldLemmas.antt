@@ -4,8 +4,8 @@ use Rattle.std.proofs.Common.{length, replicate, refl, sym, ap, ◌∙◌, arith
 use Rattle.std.specs.Bool.{beq}
 use Rattle.std.specs.Prelude.{Option}
 use Rattle.std.proofs.lemmas.Bool.{cases_lt}
-use Rattle.bus_pairing.specs.declared.line.Line.{Line}
-use Rattle.bus_pairing.specs.declared.line.Line.TheVariants.{First, Second}
+use Rattle.bus_line.specs.declared.line.Line.{Line}
+use Rattle.bus_line.specs.declared.line.Line.TheVariants.{First, Second}
 use Rattle.bus_tap.specs.Facts.{AreLevels}
 use Rattle.bus_tap.specs.Sampled.{Channel, clock_of, data_of, bit_on, bits_of_edges, edge, timed, with_sample}
 use Rattle.bus_tap.specs.Sampled.{SamplerState, HeldState, IsHeldAfter, IsAfterSamples}

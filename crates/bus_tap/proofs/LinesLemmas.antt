@@ -11,8 +11,8 @@ use Rattle.bus_line.specs.Report.{Report}
 use Rattle.bus_line.specs.Shown.{reported}
 use Rattle.bus_line.specs.Words.{LineState}
 use Rattle.bus_line.specs.declared.event.Event.{Event}
-use Rattle.bus_pairing.specs.LineReport.{line_report}
-use Rattle.bus_pairing.specs.declared.line.Line.TheVariants.{First, Second}
+use Rattle.bus_line.specs.LineReport.{line_report}
+use Rattle.bus_line.specs.declared.line.Line.TheVariants.{First, Second}
 use Rattle.bus_tap.specs.Arrival.{Arrival, own, place_of}
 use Rattle.bus_tap.specs.Places.{KeepsPlaces, Notes, AreLocated}
 use Rattle.bus_tap.specs.Lines.{LinesState, AreAfter, PushesLines, DecodesBit, BeginsAt, OpensWith}

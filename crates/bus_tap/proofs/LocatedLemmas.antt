@@ -10,8 +10,8 @@ use Rattle.bus_line.specs.declared.event.Event.{Event}
 use Rattle.bus_line.specs.declared.event.EventKind.{EventKind}
 use Rattle.bus_line.specs.declared.event.EventKind.TheVariants as event
 use Rattle.bus_line.proofs.ReportLemmas.{due-it}
-use Rattle.bus_pairing.specs.LineReport.{LineReport, line_report}
-use Rattle.bus_pairing.specs.declared.line.Line.TheVariants.{First, Second}
+use Rattle.bus_line.specs.LineReport.{LineReport, line_report}
+use Rattle.bus_line.specs.declared.line.Line.TheVariants.{First, Second}
 use Rattle.bus_tap.specs.Arrival.{Arrival, own, place_of, at_places, decides}
 use Rattle.bus_tap.specs.Places.{KeepsPlaces, LocatesLast, IsLocated, AreLocated}
 use Rattle.bus_tap.specs.declared.places.BitPlaces.{BitPlaces}

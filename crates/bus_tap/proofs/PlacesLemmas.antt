@@ -14,7 +14,7 @@ use Rattle.bus_line.proofs.DueLemmas.{class-due}
 use Rattle.bus_line.proofs.DueStreamLemmas.{flag-fits, abort-fits, mark-fits, flag-not_abort}
 use Rattle.bus_line.proofs.ReportLemmas.{begun-it, due-it}
 use Rattle.bus_bits.specs.declared.span.Span.{Span}
-use Rattle.bus_pairing.specs.declared.line.Line.TheVariants.{First, Second}
+use Rattle.bus_line.specs.declared.line.Line.TheVariants.{First, Second}
 use Rattle.bus_tap.specs.Arrival.{Arrival, own, place_of}
 use Rattle.bus_tap.specs.Places.{IsOpenSpan, IsPast, KeepsDecided, KeepsPlaces, Notes}
 use Rattle.bus_tap.specs.Lines.{BeginsAt}

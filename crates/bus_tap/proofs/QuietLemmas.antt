@@ -9,7 +9,7 @@ use Rattle.std.proofs.lemmas.Bool.Decides.{nat_tests}
 use Rattle.std.proofs.lemmas.List.{nil_from_length}
 use Rattle.bus_bits.specs.Bits.{bit_at}
 use Rattle.bus_line.specs.Run.{ones_after}
-use Rattle.bus_pairing.specs.declared.line.Line.TheVariants.{First, Second}
+use Rattle.bus_line.specs.declared.line.Line.TheVariants.{First, Second}
 use Rattle.bus_tap.specs.Arrival.{Arrival, arrival_of, arrivals_from, own}
 use Rattle.bus_tap.specs.Internal.Quiet.{IsQuietFor, Passes}
 use Rattle.bus_tap.specs.Rested.{rested, silence, RestState, IsRestAfter}

@@ -6,7 +6,7 @@ use Rattle.std.proofs.lemmas.Bool.{cases_lt}
 use Rattle.std.proofs.lemmas.Bool.Decides.{nat_tests}
 use Rattle.bus_bits.proofs.OneMoreLemmas.{one-by-one}
 use Rattle.bus_line.specs.Run.{ones_after}
-use Rattle.bus_pairing.specs.declared.line.Line.TheVariants.{First, Second}
+use Rattle.bus_line.specs.declared.line.Line.TheVariants.{First, Second}
 use Rattle.bus_tap.specs.Arrival.{Arrival, own}
 use Rattle.bus_tap.specs.Laws.{RestNeedsSilence, RestStays, SilenceBringsRest}
 use Rattle.bus_tap.specs.Rested.{rests, silence, comes_to_rest, fill, rested}

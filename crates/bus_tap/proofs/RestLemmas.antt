@@ -11,7 +11,7 @@ use Rattle.std.proofs.lemmas.Bool.Decides.{nat_tests}
 use Rattle.bus_bits.proofs.OneMoreLemmas.{one-by-one}
 use Rattle.bus_line.specs.Run.{ones_after}
 use Rattle.bus_line.specs.Spelling.{ones}
-use Rattle.bus_pairing.specs.declared.line.Line.TheVariants.{First, Second}
+use Rattle.bus_line.specs.declared.line.Line.TheVariants.{First, Second}
 use Rattle.bus_tap.specs.Arrival.{Arrival, own, firsts_before}
 use Rattle.bus_tap.specs.Rested.{rests, silence, comes_to_rest, fill, with_rest, rested, RestState, IsRestAfter}
 use Rattle.bus_tap.proofs.ArrivalLemmas.{own-append, before-append, before-now, before-within}

@@ -5,8 +5,8 @@ use Rattle.std.specs.Bool.{beq}
 use Rattle.std.proofs.lemmas.List.{get_or_append_left}
 use Rattle.std.proofs.Math.Seq.{get_or-append_seam}
 use Rattle.std.proofs.lemmas.Bool.{cases_lt, eqb-true, eqb-false}
-use Rattle.bus_pairing.specs.declared.line.Line.{Line}
-use Rattle.bus_pairing.specs.declared.line.Line.TheVariants.{First, Second}
+use Rattle.bus_line.specs.declared.line.Line.{Line}
+use Rattle.bus_line.specs.declared.line.Line.TheVariants.{First, Second}
 use Rattle.bus_tap.specs.Sampled.{Channel, clock_of, data_of, level, stood, counted_level, edge, bit_on}
 use Rattle.bus_tap.specs.Sampled.{timed, with_sample}
 use Rattle.bus_tap.specs.Sampled.{HeldState, IsHeldAfter}

@@ -6,8 +6,8 @@ use Rattle.std.specs.Prelude.{nat_lt, nat_le, slice_index}
 use Rattle.std.specs.List.{flat_map}
 use Rattle.std.proofs.lemmas.List.{take-append-le}
 use Rattle.std.proofs.Math.Seq.{take-append_seam, get_or-append_seam}
-use Rattle.bus_pairing.specs.declared.line.Line.{Line}
-use Rattle.bus_pairing.specs.declared.line.Line.TheVariants.{First, Second}
+use Rattle.bus_line.specs.declared.line.Line.{Line}
+use Rattle.bus_line.specs.declared.line.Line.TheVariants.{First, Second}
 use Rattle.bus_tap.specs.Arrival.{Arrival}
 use Rattle.bus_tap.specs.Sampled.{Timed}
 use Rattle.bus_tap.specs.Stopped.{AdvancesStops, behind, is_long_after, on_time_until, samples_of, stop_fill}

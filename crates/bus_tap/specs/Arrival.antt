@@ -11,9 +11,9 @@ use Rattle.bus_bits.specs.Bits.{bits_from}
 use Rattle.bus_line.specs.Report.{Report, moved}
 use Rattle.bus_bits.specs.declared.span.Span.{Span}
 use Rattle.bus_line.specs.Due.{places, due_at, begun}
-use Rattle.bus_pairing.specs.LineReport.{LineReport, line_report, line_reports_at}
-use Rattle.bus_pairing.specs.declared.line.Line.{Line}
-use Rattle.bus_pairing.specs.declared.line.Line.TheVariants.{First, Second}
+use Rattle.bus_line.specs.LineReport.{LineReport, line_report, line_reports_at}
+use Rattle.bus_line.specs.declared.line.Line.{Line}
+use Rattle.bus_line.specs.declared.line.Line.TheVariants.{First, Second}
 
 -- a bit, and the line that it arrived on
 abbrev pub Arrival : Type 0

@@ -4,7 +4,7 @@ use Rattle.std.specs.Prelude.{if◌then◌else◌, Option, Some, None, IsSome}
 use Rattle.std.specs.List.{flat_map}
 use Rattle.bus_bits.specs.Limits.{most_places}
 use Rattle.bus_line.specs.Due.{places}
-use Rattle.bus_pairing.specs.declared.line.Line.TheVariants.{First, Second}
+use Rattle.bus_line.specs.declared.line.Line.TheVariants.{First, Second}
 use Rattle.bus_tap.specs.Facts.{places_where}
 use Rattle.bus_tap.specs.Sampled.{Channel, Timed, clock_of, data_of, level, bits_of_edges, with_sample}
 use Rattle.bus_tap.specs.Tapped.{TapState}

@@ -7,14 +7,14 @@ use Rattle.std.specs.List.{flat_map}
 use Rattle.std.specs.Bool.{beq}
 use Rattle.std.specs.Int.{abs_diff}
 use Rattle.bus_line.specs.Due.{places}
-use Rattle.bus_pairing.specs.declared.line.Line.{Line}
+use Rattle.bus_line.specs.declared.line.Line.{Line}
 use Rattle.bus_tap.specs.Sampled.{Channel, clock_of, data_of, counted_level, rises}
 use Rattle.bus_tap.specs.declared.facts.Occurrences.{Occurrences}
 use Rattle.bus_tap.specs.declared.facts.Gap.{Gap}
 use Rattle.bus_tap.specs.declared.facts.Levels.{Levels}
 use Rattle.bus_tap.specs.declared.facts.LineFacts.{LineFacts}
 use Rattle.bus_tap.specs.declared.facts.TapFacts.{TapFacts}
-use Rattle.bus_pairing.specs.declared.line.Line.TheVariants.{First, Second}
+use Rattle.bus_line.specs.declared.line.Line.TheVariants.{First, Second}
 
 -- the places below `n` where something is so
 abbrev pub places_where : (ℕ → Bool) → ℕ → List ℕ

@@ -1,7 +1,7 @@
 -- Laws over the definitions.
 use Rattle.std.specs.Prelude.{◌≡◌, ◌↔◌, ℕ, ◌+◌, ◌<◌, ◌≤◌, Bool, true, List, [], ◌∷◌, ◌++◌, replicate}
 use Rattle.std.specs.List.{list_all}
-use Rattle.bus_pairing.specs.declared.line.Line.TheVariants.{First, Second}
+use Rattle.bus_line.specs.declared.line.Line.TheVariants.{First, Second}
 use Rattle.bus_tap.specs.Arrival.{Arrival, own, arrived, decides}
 use Rattle.bus_tap.specs.Rested.{rested, rests, silence}
 use Rattle.bus_tap.specs.Sampled.{Channel, IsCounted, counted_level, sampled}

@@ -8,8 +8,8 @@ use Rattle.bus_line.specs.Report.{moved}
 use Rattle.bus_line.specs.Shown.{reported}
 use Rattle.bus_line.specs.Words.{LineState}
 use Rattle.bus_line.specs.declared.event.Event.{Event}
-use Rattle.bus_pairing.specs.LineReport.{LineReport}
-use Rattle.bus_pairing.specs.declared.line.Line.TheVariants.{First, Second}
+use Rattle.bus_line.specs.LineReport.{LineReport}
+use Rattle.bus_line.specs.declared.line.Line.TheVariants.{First, Second}
 use Rattle.bus_tap.specs.Arrival.{Arrival, own, decides}
 use Rattle.bus_tap.specs.Places.{KeepsPlaces}
 use Rattle.bus_tap.specs.declared.places.BitPlaces.{BitPlaces}

@@ -7,7 +7,7 @@ use Rattle.bus_line.specs.Report.{Report, Kind, moved}
 use Rattle.bus_line.specs.Shown.{reported}
 use Rattle.bus_line.specs.declared.event.Event.{Event}
 use Rattle.bus_line.specs.declared.event.EventKind.TheVariants as event
-use Rattle.bus_pairing.specs.declared.line.Line.TheVariants.{First, Second}
+use Rattle.bus_line.specs.declared.line.Line.TheVariants.{First, Second}
 use Rattle.bus_tap.specs.Arrival.{Arrival, own, place_of, at_places, begun_places}
 use Rattle.bus_tap.specs.declared.places.BitPlaces.{BitPlaces}
 use Rattle.bus_bits.specs.declared.span.Span.{Span}

@@ -7,7 +7,7 @@ use Rattle.std.specs.Prelude.{length, drop, replicate, fold}
 use Rattle.std.specs.List.{list_all}
 use Rattle.bus_line.specs.Run.{ones_after}
 use Rattle.bus_line.specs.Spelling.{ones}
-use Rattle.bus_pairing.specs.declared.line.Line.TheVariants.{First, Second}
+use Rattle.bus_line.specs.declared.line.Line.TheVariants.{First, Second}
 use Rattle.bus_tap.specs.Arrival.{Arrival, own, firsts_before}
 
 -- a line rests where its last fifteen bits are 1s; those before its first bit count as 1s

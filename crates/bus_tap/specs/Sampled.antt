@@ -7,8 +7,8 @@ use Rattle.std.specs.Prelude.{◌++◌, length, map, if◌then◌else◌, Option
 use Rattle.std.specs.List.{flat_map}
 use Rattle.std.specs.Bool.{beq}
 use Rattle.bus_line.specs.Due.{places}
-use Rattle.bus_pairing.specs.declared.line.Line.{Line}
-use Rattle.bus_pairing.specs.declared.line.Line.TheVariants.{First, Second}
+use Rattle.bus_line.specs.declared.line.Line.{Line}
+use Rattle.bus_line.specs.declared.line.Line.TheVariants.{First, Second}
 use Rattle.bus_tap.specs.Arrival.{Arrival}
 use Rattle.bus_tap.specs.declared.sampler.Edges.{Edges}
 

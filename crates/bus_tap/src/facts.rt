@@ -7,7 +7,7 @@ ghost use Rattle.bus_tap.specs.Blocks.{has_bit};
 ghost use Rattle.bus_tap.specs.Internal.Counts.{AdvancesFactsBy, AreBitFacts, marked};
 ghost use Rattle.bus_tap.specs.Internal.Tallies.{where_is, AdvancesFacts};
 ghost use Rattle.bus_tap.specs.Internal.Held.{levels_in};
-ghost use Rattle.bus_pairing.specs.declared.line.Line.TheVariants.{First};
+ghost use Rattle.bus_line.specs.declared.line.Line.TheVariants.{First};
 
 use crate::block::{CountedLine, lowest_one};
 

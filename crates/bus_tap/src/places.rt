@@ -1,7 +1,7 @@
 //! The places of the second line's bits.
 
 ghost use Rattle.std.specs.Prelude.{◌≡◌, ◌+◌, ◌-◌, ◌++◌, ◌∷◌, [], ℕ, List, Bool, Some, length, replicate};
-ghost use Rattle.bus_pairing.specs.declared.line.Line.TheVariants.{First, Second};
+ghost use Rattle.bus_line.specs.declared.line.Line.TheVariants.{First, Second};
 ghost use Rattle.bus_tap.specs.Arrival.{Arrival, own};
 ghost use Rattle.bus_tap.specs.Lines.{BeginsAt};
 ghost use Rattle.bus_tap.specs.Places.{AreLocated, IsLocated, IsOpenSpan, IsPast, KeepsDecided, KeepsPlaces};

@@ -7,10 +7,10 @@ ghost use Rattle.bus_tap.specs.Internal.Quiet.{IsQuietFor, Passes};
 ghost use Rattle.bus_tap.specs.Rested.{IsRestAfter, rested, fill};
 ghost use Rattle.bus_bits.specs.Bits.{bit_at};
 ghost use Rattle.bus_line.specs.Run.{ones_after};
-ghost use Rattle.bus_pairing.specs.declared.line.Line.TheVariants.{Second};
+ghost use Rattle.bus_line.specs.declared.line.Line.TheVariants.{Second};
 
 use bus_bits::bit_at;
-use bus_pairing::Line;
+use bus_line::Line;
 use std::cmp::min;
 use std::marker::Model;
 

@@ -2,7 +2,7 @@
 
 ghost use Rattle.std.specs.Prelude.{◌≡◌, ◌+◌, ◌≤◌, ◌/◌, ◌%◌, ◌==◌, ◌&&◌, ◌++◌, ◌∷◌, [], List, ℕ};
 ghost use Rattle.std.specs.Prelude.{if◌then◌else◌, length, not, Some, None};
-ghost use Rattle.bus_pairing.specs.declared.line.Line.TheVariants.{First};
+ghost use Rattle.bus_line.specs.declared.line.Line.TheVariants.{First};
 ghost use Rattle.std.specs.Prelude.{IsTrue, ◌↔◌};
 ghost use Rattle.bus_tap.specs.Blocks.{HasLevels, IsBlockOf};
 ghost use Rattle.bus_tap.specs.Internal.Counts.{AreCounted, CountsLine, HadCounted, HasCounted};
@@ -13,7 +13,7 @@ ghost use Rattle.bus_tap.specs.Sampled.{clock_of, data_of};
 
 use crate::block::{CountedBlock, CountedLine, LevelBlock, LineBlock};
 use crate::facts::Levels;
-use bus_pairing::Line;
+use bus_line::Line;
 use std::marker::Model;
 
 /// The bits that arrive with one sample. The first line's arrives first.

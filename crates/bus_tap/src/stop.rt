@@ -3,7 +3,7 @@
 ghost use Rattle.std.specs.Prelude.{◌≡◌, ◌++◌, ◌∷◌, [], Bool};
 ghost use Rattle.bus_tap.specs.Stopped.{AdvancesStops, IsStopAfter, stop_fill};
 
-use bus_pairing::Line;
+use bus_line::Line;
 
 /// Brings a line to rest where its clock stands still, as with senders that drive it only while they send: a bit that
 /// comes long after the one before it comes behind fifteen 1s (ISO/IEC 13239, idle state). The layout is C's.

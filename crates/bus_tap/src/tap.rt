@@ -10,12 +10,12 @@ ghost use Rattle.bus_tap.specs.Blocks.{IsBlockOf, TakesBlocks, block_arrivals};
 ghost use Rattle.bus_tap.specs.Facts.{AreLevels, AreTapFacts};
 ghost use Rattle.bus_tap.specs.Internal.Counts.{AreCounted};
 ghost use Rattle.bus_tap.specs.Internal.Taps.{HasHold, IsSettledTap};
-ghost use Rattle.bus_pairing.specs.declared.line.Line.TheVariants.{First, Second};
+ghost use Rattle.bus_line.specs.declared.line.Line.TheVariants.{First, Second};
 
 use crate::block::{CountedBlock, EdgeBlock, LevelBlock};
 use crate::facts::{Levels, LineFacts, TapFacts};
 use crate::sampler::{Edges, Sampler};
-use bus_pairing::Line;
+use bus_line::Line;
 use std::marker::Model;
 
 /// The most samples of a recording.

@@ -8,7 +8,7 @@ use Rattle.bus_fcs.specs.Division.{add, step, divided, remainder}
 use Rattle.bus_fcs.specs.FrameCheck.{ends_inverted, is_good}
 use Rattle.bus_line.specs.Due.{placed}
 use Rattle.bus_dictionary.specs.Entry.{FrameType}
-use Rattle.bus_pairing.specs.LineReport.{LineReport, of_line}
+use Rattle.bus_line.specs.LineReport.{LineReport, of_line}
 use Rattle.bus_pairing.specs.Seen.{seen}
 use Rattle.bus_pairing.specs.History.{tally, history}
 use Rattle.bus_text.specs.Listing.{listing, text_of}

@@ -5,7 +5,7 @@ use Rattle.bus_line.specs.Due.{places}
 use Rattle.bus_pairing.specs.History.{KeptFrame}
 use Rattle.bus_pairing.specs.declared.counts.Counts.{Counts}
 use Rattle.bus_bits.specs.declared.span.Span.{Span}
-use Rattle.bus_pairing.specs.declared.line.Line.{Line}
+use Rattle.bus_line.specs.declared.line.Line.{Line}
 use Rattle.bus_text.specs.Listing.{hex_of, line_number, span_text}
 use Rattle.bus_text.specs.declared.summary.Summary.{Summary}
 

@@ -13,8 +13,8 @@ use Rattle.bus_dictionary.specs.Entry.{FrameType}
 use Rattle.bus_dictionary.specs.declared.standing.Standing.{Standing}
 use Rattle.bus_dictionary.specs.Standing.{station_in, type_in}
 use Rattle.bus_pairing.specs.Seen.{SeenReport, type_of}
-use Rattle.bus_pairing.specs.declared.line.Line as on
-use Rattle.bus_pairing.specs.declared.line.Line.TheVariants.{First, Second}
+use Rattle.bus_line.specs.declared.line.Line as on
+use Rattle.bus_line.specs.declared.line.Line.TheVariants.{First, Second}
 use Rattle.bus_pairing.specs.declared.outcome.Outcome.{Outcome}
 use Rattle.bus_pairing.specs.declared.outcome.Outcome.TheVariants.{Answered, Late, Missing, Spoilt}
 use Rattle.bus_pairing.specs.declared.verdict.Verdict.{Verdict}

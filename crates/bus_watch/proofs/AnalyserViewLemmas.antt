@@ -15,8 +15,8 @@ use Rattle.bus_line.specs.declared.event.Event.{Event}
 use Rattle.bus_line.specs.declared.event.EventKind.{EventKind}
 use Rattle.bus_line.specs.declared.event.EventKind.TheVariants as event
 use Rattle.bus_dictionary.specs.Dictionary.{longest_of}
-use Rattle.bus_pairing.specs.LineReport.{LineReport, line_report}
-use Rattle.bus_pairing.specs.declared.line.Line.{Line}
+use Rattle.bus_line.specs.LineReport.{LineReport, line_report}
+use Rattle.bus_line.specs.declared.line.Line.{Line}
 use Rattle.bus_pairing.specs.Ledger.{kind_steps, steps, handled, handled_of, copied_of}
 use Rattle.bus_pairing.specs.Conversation.{ConversationState, ConversationAfter, HasRoom, IsWhole}
 use Rattle.bus_watch.specs.After.{AnalyserState, IsAfter, line_reports}

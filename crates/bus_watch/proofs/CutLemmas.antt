@@ -7,7 +7,7 @@ use Rattle.bus_line.specs.Report.{Report, moved}
 use Rattle.bus_line.specs.Due.{reports, placed}
 use Rattle.bus_line.specs.Suffix.{CutAtFlag}
 use Rattle.bus_dictionary.specs.Entry.{FrameType}
-use Rattle.bus_pairing.specs.LineReport.{LineReport, line_report, of_line}
+use Rattle.bus_line.specs.LineReport.{LineReport, line_report, of_line}
 use Rattle.bus_pairing.specs.Talk.{talk, is_idle_kind, begins, verdict, pending, standing_of}
 use Rattle.bus_pairing.specs.Seen.{SeenReport, seen, seen_of, decided, is_stray}
 use Rattle.bus_watch.specs.Cut.{CutLosesNothing, CutLosesVerdict, FlagLosesNothing}

@@ -14,13 +14,13 @@ use Rattle.bus_line.specs.Ledger.{octet_count}
 use Rattle.bus_line.specs.LineState.{LineState}
 use Rattle.bus_line.specs.After.{After}
 use Rattle.bus_dictionary.specs.Dictionary.{longest_of}
-use Rattle.bus_pairing.specs.LineReport.{LineReport, line_report, of_line}
+use Rattle.bus_line.specs.LineReport.{LineReport, line_report, of_line}
 use Rattle.bus_pairing.specs.Seen.{SeenReport, seen}
 use Rattle.bus_pairing.specs.Conversation.{ConversationState, ConversationAfter, HasRoom}
 use Rattle.bus_watch.specs.Decodes.{Decodes, DecodesMany, KeepsUp, line_reports_of}
 use Rattle.bus_watch.specs.After.{AnalyserState, IsAfter, AdvancesAnalyser, line_reports, one_line}
 use Rattle.bus_watch.specs.Watch.{AdvancesWatchShown}
-use Rattle.bus_pairing.specs.declared.line.Line.{Line}
+use Rattle.bus_line.specs.declared.line.Line.{Line}
 use Rattle.bus_watch.proofs.AnalyserViewLemmas.{reports-octets, line-length, octets-moved, room-of}
 use Rattle.bus_watch.proofs.PairLemmas.{copied-adds, few-option}
 

@@ -9,7 +9,7 @@ use Rattle.bus_line.specs.Laws.{ReportsGrow}
 use Rattle.bus_dictionary.specs.Entry.{FrameType}
 use Rattle.bus_dictionary.specs.Dictionary.{longest_of}
 use Rattle.bus_pairing.specs.Sink.{SinkView}
-use Rattle.bus_pairing.specs.LineReport.{LineReport, line_report, of_line}
+use Rattle.bus_line.specs.LineReport.{LineReport, line_report, of_line}
 use Rattle.bus_pairing.specs.Seen.{SeenReport, report_in, seen}
 use Rattle.bus_watch.specs.Laws.{SeenAreReports}
 use Rattle.bus_watch.specs.Fed.{ForSink}

@@ -8,7 +8,7 @@ use Rattle.bus_line.specs.Due.{placed, reports}
 use Rattle.bus_line.specs.Laws.{ReportsAre}
 use Rattle.bus_line.specs.Ledger.{stored_open}
 use Rattle.bus_dictionary.specs.Dictionary.{longest_of}
-use Rattle.bus_pairing.specs.LineReport.{of_line}
+use Rattle.bus_line.specs.LineReport.{of_line}
 use Rattle.bus_line.specs.Told.{told}
 use Rattle.bus_pairing.specs.Sink.{SinkView}
 use Rattle.bus_pairing.specs.Seen.{SeenReport, report_in}

@@ -12,7 +12,7 @@ use Rattle.bus_line.specs.Ledger.{kind_octets, octet_count, stored, is_stored, i
 use Rattle.bus_line.specs.Spelling.{IsSpelledBy, ends, short, five, ones}
 use Rattle.bus_line.specs.Laws.{OneMore, SettlesOne, StoresOne, DueIsIt, FrameIsSpelled}
 use Rattle.bus_pairing.specs.Ledger.{kind_steps, steps, total}
-use Rattle.bus_pairing.specs.LineReport.{firsts, seconds}
+use Rattle.bus_line.specs.LineReport.{firsts, seconds}
 use Rattle.bus_watch.proofs.MergedLemmas.{firsts-append, seconds-append}
 use Rattle.bus_watch.specs.Laws.{BitCosts, PairCosts, ClosedPaid}
 

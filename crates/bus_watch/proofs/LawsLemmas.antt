@@ -15,7 +15,7 @@ use Rattle.bus_line.specs.Due.{placed, reports, due_at}
 use Rattle.bus_dictionary.specs.Entry.{FrameType}
 use Rattle.bus_dictionary.specs.Dictionary.{longest_of}
 use Rattle.bus_pairing.specs.Talk.{verdicts}
-use Rattle.bus_pairing.specs.LineReport.{LineReport, line_report, of_line}
+use Rattle.bus_line.specs.LineReport.{LineReport, line_report, of_line}
 use Rattle.bus_pairing.specs.Seen.{SeenReport, report_in, decided, seen_of, seen, seen_at}
 use Rattle.bus_watch.specs.After.{AnalyserState, IsAfter, line_reports, seen_after}
 use Rattle.bus_watch.specs.Laws.{SeenGrows}

@@ -9,12 +9,12 @@ use Rattle.std.proofs.lemmas.Grind.{flat_map-append}
 use Rattle.bus_line.specs.Report.{Report, moved}
 use Rattle.bus_line.specs.Due.{reports, placed, places, due_at}
 use Rattle.bus_line.specs.Laws.{DueStays, OneMore, ReportsGrow}
-use Rattle.bus_pairing.specs.LineReport.{LineReport, line_report, firsts, seconds, line_reports_at, merged, is_line}
-use Rattle.bus_pairing.specs.LineReport.{of_side}
+use Rattle.bus_line.specs.LineReport.{LineReport, line_report, firsts, seconds, line_reports_at, merged, is_line}
+use Rattle.bus_line.specs.LineReport.{of_side}
 use Rattle.bus_watch.specs.Decodes.{line_reports_of}
 use Rattle.bus_line.proofs.DueMoreLemmas.{map-option}
-use Rattle.bus_pairing.specs.declared.line.Line.{Line}
-use Rattle.bus_pairing.specs.declared.line.Line.TheVariants.{First, Second}
+use Rattle.bus_line.specs.declared.line.Line.{Line}
+use Rattle.bus_line.specs.declared.line.Line.TheVariants.{First, Second}
 
 flat_map-places : {Y : Type 0} (f g : ℕ → List Y) (n : ℕ) → ((i : ℕ) → i < n → f i ≡ g i) →
     flat_map f (places n) ≡ flat_map g (places n)

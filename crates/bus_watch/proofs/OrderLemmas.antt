@@ -9,10 +9,10 @@ use Rattle.std.proofs.lemmas.Grind.{flat_map-append}
 use Rattle.bus_line.specs.Report.{Report, moved}
 use Rattle.bus_line.specs.Due.{places, due_at}
 use Rattle.bus_line.specs.Laws.{DueIsIt}
-use Rattle.bus_pairing.specs.LineReport.{LineReport, line_report, firsts, seconds, line_reports_at}
+use Rattle.bus_line.specs.LineReport.{LineReport, line_report, firsts, seconds, line_reports_at}
 use Rattle.bus_watch.specs.Laws.{ComesBefore, MergedIsMerged}
-use Rattle.bus_pairing.specs.declared.line.Line.{Line}
-use Rattle.bus_pairing.specs.declared.line.Line.TheVariants.{First, Second}
+use Rattle.bus_line.specs.declared.line.Line.{Line}
+use Rattle.bus_line.specs.declared.line.Line.TheVariants.{First, Second}
 use Rattle.bus_watch.proofs.MergedLemmas.{merged-first, merged-second}
 use Rattle.bus_watch.proofs.PairLemmas.{reports-due, both-due, below}
 

@@ -7,10 +7,10 @@ use Rattle.bus_line.specs.Due.{reports}
 use Rattle.bus_line.specs.Laws.{ReportsAre}
 use Rattle.bus_line.specs.Ledger.{stored_open}
 use Rattle.bus_dictionary.specs.Dictionary.{longest_of}
-use Rattle.bus_pairing.specs.LineReport.{firsts, seconds, merged, of_side}
+use Rattle.bus_line.specs.LineReport.{firsts, seconds, merged, of_side}
 use Rattle.bus_pairing.specs.History.{history}
 use Rattle.bus_pairing.specs.Seen.{report_in}
-use Rattle.bus_pairing.specs.declared.line.Line.TheVariants.{First, Second}
+use Rattle.bus_line.specs.declared.line.Line.TheVariants.{First, Second}
 use Rattle.bus_pairing.specs.Ledger.{IsPairLedger, total}
 use Rattle.bus_watch.specs.Pairs.{PairState, IsAfterPairs, two_lines, pair_reports}
 use Rattle.bus_watch.specs.Laws.{AnyCutOfPairs, SeenAreReports, MergedIsMerged, joined, ended, called}

@@ -18,7 +18,7 @@ use Rattle.bus_line.specs.Ledger.{octet_count, copied, stored, IsLedger as IsLin
 use Rattle.bus_line.specs.LineState.{LineState}
 use Rattle.bus_dictionary.specs.Entry.{FrameType}
 use Rattle.bus_dictionary.specs.Dictionary.{longest_of}
-use Rattle.bus_pairing.specs.LineReport.{LineReport, line_report, firsts, seconds, line_reports_at, merged}
+use Rattle.bus_line.specs.LineReport.{LineReport, line_report, firsts, seconds, line_reports_at, merged}
 use Rattle.bus_pairing.specs.Seen.{SeenReport, report_in, seen, all_seen_at}
 use Rattle.bus_pairing.specs.Conversation.{ConversationState, HasRoom}
 use Rattle.bus_watch.specs.Decodes.{Decodes, line_reports_of}
@@ -26,8 +26,8 @@ use Rattle.bus_pairing.specs.Ledger.{steps, handled, handled_of, copied_of, tota
 use Rattle.bus_pairing.specs.Ledger.{IsPairLedger}
 use Rattle.bus_watch.specs.Pairs.{PairState, IsAfterPairs, pair_reports, seen_after_pairs}
 use Rattle.bus_watch.specs.Laws.{PairsGrow, StepsWithinFour, StepsWithinThree}
-use Rattle.bus_pairing.specs.declared.line.Line.{Line}
-use Rattle.bus_pairing.specs.declared.line.Line.TheVariants.{First, Second}
+use Rattle.bus_line.specs.declared.line.Line.{Line}
+use Rattle.bus_line.specs.declared.line.Line.TheVariants.{First, Second}
 use Rattle.bus_watch.proofs.MergedLemmas.{added, merged-more, merged-adds, of_one, length-firsts, length-seconds}
 use Rattle.bus_watch.proofs.AnalyserViewLemmas.{room-of, reports-octets, reports-steps, octets-moved, steps-moved}
 use Rattle.bus_watch.proofs.AnalyserViewLemmas.{line-length}

@@ -12,7 +12,7 @@ use Rattle.bus_line.specs.Due.{placed}
 use Rattle.bus_line.specs.Laws.{OneMore, ReportsGrow, DueStays, FramesStored, StoredPaid, AssembledWithin}
 use Rattle.bus_line.specs.Ledger.{octet_count}
 use Rattle.bus_dictionary.specs.Dictionary.{longest_of}
-use Rattle.bus_pairing.specs.LineReport.{LineReport, line_report, firsts, seconds, merged}
+use Rattle.bus_line.specs.LineReport.{LineReport, line_report, firsts, seconds, merged}
 use Rattle.bus_pairing.specs.Seen.{SeenReport, seen}
 use Rattle.bus_pairing.specs.Ledger.{copied_of}
 use Rattle.bus_pairing.specs.Conversation.{ConversationState, ConversationAfter}
@@ -21,7 +21,7 @@ use Rattle.bus_watch.specs.Pairs.{PairState, IsAfterPairs, AdvancesPairs, pair_r
 use Rattle.bus_watch.specs.Watch.{AdvancesWatchShown, Watch}
 use Rattle.bus_watch.proofs.FedLemmas.{leads-more, leads-nil}
 use Rattle.bus_watch.proofs.DecodesLemmas.{decodes-one}
-use Rattle.bus_pairing.specs.declared.line.Line.TheVariants.{First, Second}
+use Rattle.bus_line.specs.declared.line.Line.TheVariants.{First, Second}
 use Rattle.bus_watch.proofs.MergedLemmas.{firsts-append, length-firsts, length-seconds, merged-adds, merged-led}
 use Rattle.bus_watch.proofs.MergedLemmas.{seconds-append}
 use Rattle.bus_watch.proofs.AnalyserViewLemmas.{reports-octets, line-length}

@@ -5,7 +5,7 @@ use Rattle.bus_line.specs.Due.{placed}
 use Rattle.bus_line.specs.LineState.{LineState}
 use Rattle.bus_line.specs.After.{After}
 use Rattle.bus_dictionary.specs.Dictionary.{longest_of}
-use Rattle.bus_pairing.specs.LineReport.{LineReport, of_line}
+use Rattle.bus_line.specs.LineReport.{LineReport, of_line}
 use Rattle.bus_pairing.specs.Seen.{SeenReport, seen}
 use Rattle.bus_watch.specs.Watch.{Watch, AdvancesWatch}
 use Rattle.bus_pairing.specs.Conversation.{ConversationState, ConversationAfter}

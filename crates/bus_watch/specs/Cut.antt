@@ -3,7 +3,7 @@ use Rattle.std.specs.Prelude.{◌≡◌, ℕ, ◌+◌, Bool, false, List, [], �
 use Rattle.bus_line.specs.Mark.{flag}
 use Rattle.bus_line.specs.Due.{placed}
 use Rattle.bus_dictionary.specs.Entry.{FrameType}
-use Rattle.bus_pairing.specs.LineReport.{LineReport, of_line}
+use Rattle.bus_line.specs.LineReport.{LineReport, of_line}
 use Rattle.bus_pairing.specs.Talk.{talk, is_idle_kind, begins, verdict, pending}
 use Rattle.bus_pairing.specs.Seen.{SeenReport, seen, seen_of}
 

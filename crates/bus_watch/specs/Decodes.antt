@@ -12,13 +12,13 @@ use Rattle.bus_line.specs.declared.event.Event.{Event}
 use Rattle.bus_line.specs.Ledger.{octet_count}
 use Rattle.bus_line.specs.LineState.{LineState}
 use Rattle.bus_line.specs.After.{Advances, After, Led}
-use Rattle.bus_pairing.specs.LineReport.{LineReport, line_report}
+use Rattle.bus_line.specs.LineReport.{LineReport, line_report}
 use Rattle.bus_pairing.specs.Seen.{SeenReport, seen}
 use Rattle.bus_pairing.specs.Shown.{found_on}
 use Rattle.bus_pairing.specs.Ledger.{copied_of}
 use Rattle.bus_pairing.specs.Conversation.{ConversationState, ConversationAfter}
 use Rattle.bus_pairing.specs.declared.finding.Finding.{Finding}
-use Rattle.bus_pairing.specs.declared.line.Line.{Line}
+use Rattle.bus_line.specs.declared.line.Line.{Line}
 
 -- a decoder stands after some list of bits
 pub record Stands {C : Type 0} (view : CheckView C) (d : LineState C) : Type 0 where

@@ -9,7 +9,7 @@ use Rattle.bus_line.specs.Ledger.{stored_open}
 use Rattle.bus_line.specs.Report.{Report, AreReports, moved}
 use Rattle.bus_dictionary.specs.Entry.{FrameType}
 use Rattle.bus_dictionary.specs.Dictionary.{longest_of}
-use Rattle.bus_pairing.specs.LineReport.{of_line}
+use Rattle.bus_line.specs.LineReport.{of_line}
 use Rattle.bus_pairing.specs.Seen.{SeenReport, report_in, seen}
 use Rattle.bus_pairing.specs.History.{KeptFrame, history}
 use Rattle.bus_pairing.specs.Ledger.{IsAnalyserLedger, total}

@@ -10,13 +10,13 @@ use Rattle.bus_line.specs.Due.{placed, due_at}
 use Rattle.bus_line.specs.Ledger.{octet_count}
 use Rattle.bus_dictionary.specs.Entry.{FrameType}
 use Rattle.bus_pairing.specs.Talk.{verdicts}
-use Rattle.bus_pairing.specs.LineReport.{LineReport, of_line, firsts, seconds, merged, of_side}
+use Rattle.bus_line.specs.LineReport.{LineReport, of_line, firsts, seconds, merged, of_side}
 use Rattle.bus_pairing.specs.Seen.{SeenReport, report_in, seen, seen_at, all_seen_at}
 use Rattle.bus_pairing.specs.Ledger.{IsAnalyserLedger, IsPairLedger, total}
 use Rattle.bus_watch.specs.Watch.{Watch, AdvancesWatch, seen_by}
 use Rattle.bus_watch.specs.After.{one_line}
 use Rattle.bus_watch.specs.Pairs.{two_lines}
-use Rattle.bus_pairing.specs.declared.line.Line.TheVariants.{First, Second}
+use Rattle.bus_line.specs.declared.line.Line.TheVariants.{First, Second}
 
 -- one bit more adds what is seen at it, if it decides a report
 abbrev pub SeenGrows : Type 0

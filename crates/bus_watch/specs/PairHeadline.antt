@@ -5,7 +5,7 @@ use Rattle.bus_line.specs.Ledger.{stored_open}
 use Rattle.bus_line.specs.Report.{Report, AreReports, moved}
 use Rattle.bus_dictionary.specs.Entry.{FrameType}
 use Rattle.bus_dictionary.specs.Dictionary.{longest_of}
-use Rattle.bus_pairing.specs.LineReport.{firsts, seconds, merged, of_side}
+use Rattle.bus_line.specs.LineReport.{firsts, seconds, merged, of_side}
 use Rattle.bus_pairing.specs.Seen.{SeenReport, report_in, seen}
 use Rattle.bus_watch.specs.Fed.{Lacks}
 use Rattle.bus_pairing.specs.History.{KeptFrame, history}
@@ -14,7 +14,7 @@ use Rattle.bus_line.specs.Told.{told}
 use Rattle.bus_pairing.specs.Sink.{SinkView}
 use Rattle.bus_watch.specs.Pairs.{PairState, IsAfterPairs, two_lines}
 use Rattle.bus_watch.specs.Laws.{joined, Runs}
-use Rattle.bus_pairing.specs.declared.line.Line.TheVariants.{First, Second}
+use Rattle.bus_line.specs.declared.line.Line.TheVariants.{First, Second}
 use Rattle.bus_watch.specs.declared.pair.usage.PairUsage.{PairUsage}
 
 -- what is seen of these pairs, the first of which has the place `origin`, by the dictionary d

@@ -7,8 +7,8 @@ use Rattle.bus_pairing.specs.declared.seen.Seen.{Seen}
 use Rattle.bus_watch.specs.Pairs.{PairState}
 use Rattle.bus_watch.specs.declared.pair.analyser.PairFound.{PairFound}
 use Rattle.bus_watch.specs.declared.pair.seen.PairSeen.{PairSeen}
-use Rattle.bus_pairing.specs.declared.line.Line.{Line}
-use Rattle.bus_pairing.specs.declared.line.Line.TheVariants.{First, Second}
+use Rattle.bus_line.specs.declared.line.Line.{Line}
+use Rattle.bus_line.specs.declared.line.Line.TheVariants.{First, Second}
 
 -- on a line
 abbrev pub shown_option_on : Line → Option Seen → Option SeenReport

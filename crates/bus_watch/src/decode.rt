@@ -12,7 +12,7 @@ ghost use Rattle.bus_line.specs.Limits.{most_octets};
 ghost use Rattle.bus_watch.specs.Decodes.{Decided, newest, Decodes, DecodesMany, Stands, KeepsUp, told_on};
 ghost use Rattle.bus_pairing.specs.Conversation.{HasRoom};
 ghost use Rattle.bus_pairing.specs.Shown.{begun_span, found, found_on, shown_option, IsKeepable};
-ghost use Rattle.bus_pairing.specs.declared.line.Line.{Line};
+ghost use Rattle.bus_line.specs.declared.line.Line.{Line};
 ghost use Rattle.bus_watch.specs.PairShown.{shown_option_on};
 
 use crate::observer::ReportObserver;

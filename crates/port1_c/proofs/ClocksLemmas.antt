@@ -2,8 +2,8 @@
 use Rattle.std.proofs.Common.{◌≡◌, ℕ, ◌+◌, ◌-◌, ◌<◌, ◌≤◌, List, [], ◌∷◌, ◌++◌, None, length, map, take, drop, get_or}
 use Rattle.std.proofs.Common.{refl, sym, ap, ◌∙◌, arith, subst, append_assoc, append-nil}
 use Rattle.std.proofs.lemmas.List.{map-append, take_more, get_or-drop, length-drop}
-use Rattle.bus_pairing.specs.LineReport.{LineReport}
-use Rattle.bus_pairing.specs.declared.line.Line.{Line}
+use Rattle.bus_line.specs.LineReport.{LineReport}
+use Rattle.bus_line.specs.declared.line.Line.{Line}
 use Rattle.bus_tap.specs.Arrival.{Arrival, arrived}
 use Rattle.port1_c.specs.Clocks.{ClocksAfter, DecideNone, TakesArrivals, arrived_told, decided_told}
 use Rattle.port1_c.specs.Line.{report_told}

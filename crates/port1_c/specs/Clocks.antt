@@ -7,10 +7,10 @@ use Rattle.bus_fcs.specs.declared.octet_check.OctetCheck.{OctetCheck}
 use Rattle.bus_fcs.specs.Folded.{by_tables}
 use Rattle.bus_line.specs.Shown.{reported}
 use Rattle.bus_line.specs.declared.event.Event.{Event}
-use Rattle.bus_pairing.specs.LineReport.{LineReport, line_report}
+use Rattle.bus_line.specs.LineReport.{LineReport, line_report}
 use Rattle.bus_pairing.specs.Shown.{begun_span}
-use Rattle.bus_pairing.specs.declared.line.Line.{Line}
-use Rattle.bus_pairing.specs.declared.line.Line.TheVariants.{First, Second}
+use Rattle.bus_line.specs.declared.line.Line.{Line}
+use Rattle.bus_line.specs.declared.line.Line.TheVariants.{First, Second}
 use Rattle.bus_tap.specs.Arrival.{Arrival, own, arrived, begun_places}
 use Rattle.bus_tap.specs.Lines.{LinesState, AreAfter, PushesLines}
 use Rattle.port1_c.specs.Line.{Sound, held, octets_of, report_told}

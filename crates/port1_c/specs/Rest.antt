@@ -1,6 +1,6 @@
 -- What a C caller's memory says of the rule of rest, and of a bit that arrives.
 use Rattle.std.specs.Prelude.{◌≡◌, ◌≤◌, ◌==◌, ◌-◌, ◌++◌, not, ℕ, List, length, map, take, drop, if◌then◌else◌}
-use Rattle.bus_pairing.specs.declared.line.Line.TheVariants.{First, Second}
+use Rattle.bus_line.specs.declared.line.Line.TheVariants.{First, Second}
 use Rattle.bus_tap.specs.Arrival.{Arrival}
 use Rattle.bus_tap.specs.Rested.{RestState, IsRestAfter, rested}
 use Rattle.port1_c.specs.Tap.{put_over}

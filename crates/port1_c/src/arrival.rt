@@ -8,7 +8,7 @@ ghost use Rattle.bus_tap.specs.Stopped.{AdvancesStops, stop_fill};
 ghost use Rattle.port1_c.specs.Rest.{arrival_told};
 ghost use Rattle.port1_c.specs.Tap.{PutsArrivals, coded};
 
-use bus_pairing::Line;
+use bus_line::Line;
 use bus_tap::StopRule;
 
 /// 1s that make a line idle (ISO/IEC 13239, idle state).

@@ -4,7 +4,7 @@ ghost use Rattle.std.specs.Prelude.{◌≡◌, ◌≤◌, ◌↔◌, List, IsErr
 ghost use Rattle.bus_bits.specs.Limits.{most_places};
 ghost use Rattle.bus_fcs.specs.Folded.{by_tables};
 ghost use Rattle.bus_pairing.specs.Shown.{begun_span};
-ghost use Rattle.bus_pairing.specs.declared.line.Line.TheVariants.{First, Second};
+ghost use Rattle.bus_line.specs.declared.line.Line.TheVariants.{First, Second};
 ghost use Rattle.bus_tap.specs.Arrival.{Arrival, own, begun_places};
 ghost use Rattle.bus_tap.specs.Lines.{DecodesBit};
 ghost use Rattle.port1_c.specs.Line.{Sound, held};
@@ -12,8 +12,7 @@ ghost use Rattle.port1_c.specs.Clocks.{AreSound, ClocksAfter, PushesClocks, memo
 
 use crate::line::Port1Line;
 use bus_bits::Span;
-use bus_line::{Event, PlaceLimit};
-use bus_pairing::Line;
+use bus_line::{Event, Line, PlaceLimit};
 use bus_tap::BitPlaces;
 
 /// Two decoders, and what is kept of the places of the second line's bits. Its layout is that of `c/include/port1.h`.

@@ -1,7 +1,7 @@
 //! What C calls to pair commands with answers.
 
 ghost use Rattle.std.specs.Prelude.{◌≡◌, ◌≢◌, ◌<◌, ◌↔◌, ◌⊎◌, List, [], ◌∷◌, ◌++◌, Some, IsSome, IfSome};
-ghost use Rattle.bus_pairing.specs.LineReport.{LineReport};
+ghost use Rattle.bus_line.specs.LineReport.{LineReport};
 ghost use Rattle.bus_pairing.specs.Seen.{seen_of};
 ghost use Rattle.port1_c.specs.Pair.{CanBeReport, IsCodedSeen, PairAfter, entries_told, line_report_told, line_told};
 ghost use Rattle.port1_c.specs.Pair.{no_reports, seen_told};
@@ -12,7 +12,7 @@ use crate::pair::Port1Pair;
 use crate::report::Port1Report;
 use crate::seen::Port1Seen;
 use crate::status::{BAD_ARGUMENT, OK};
-use bus_pairing::Line;
+use bus_line::Line;
 
 /// The line of a number, if it is that of one.
 fn line_of(number: u32) -> Option<Option<Line>>

@@ -8,7 +8,7 @@ ghost use Rattle.port1_c.specs.Tap.{HasTapped, samples_from};
 
 use crate::arrival::{Port1Arrival, put_bit};
 use crate::wires::Port1Wires;
-use bus_pairing::Line;
+use bus_line::Line;
 use bus_tap::{SampleLimit, StopRule, Tap, TapWords, Wires, number_of};
 
 /// What a sample may bring: a bit of each line, behind fifteen 1s.

@@ -1,6 +1,6 @@
 -- Arrivals parted by line, and those up to a bit of the second line.
 use Rattle.std.specs.Prelude.{◌≡◌, ℕ, zero, suc, ◌<◌, ◌≤◌, List, [], ◌∷◌, length, Some, slice_get}
-use Rattle.bus_pairing.specs.declared.line.Line.TheVariants.{First, Second}
+use Rattle.bus_line.specs.declared.line.Line.TheVariants.{First, Second}
 use Rattle.bus_tap.specs.Arrival.{Arrival, own, firsts_before}
 use Rattle.bus_clocks.specs.declared.parted.Parted.{Parted}
 

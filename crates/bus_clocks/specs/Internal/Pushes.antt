@@ -1,7 +1,7 @@
 -- A report, and what a conversation makes of it.
 use Rattle.std.specs.Prelude.{◌≡◌, List, ◌++◌, Option}
 use Rattle.std.specs.Option.{option_to_list}
-use Rattle.bus_pairing.specs.LineReport.{LineReport}
+use Rattle.bus_line.specs.LineReport.{LineReport}
 use Rattle.bus_pairing.specs.Seen.{SeenReport, seen}
 use Rattle.bus_pairing.specs.Conversation.{ConversationState, ConversationAfter}
 

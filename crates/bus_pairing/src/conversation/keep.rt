@@ -8,10 +8,10 @@ ghost use Rattle.bus_pairing.specs.declared.pair_kept.PairKept.{PairKept};
 
 use crate::conversation::Conversation;
 use crate::kept::Kept;
-use crate::line::{Line, kept_line};
+use crate::line::kept_line;
 use crate::pair_kept::PairKept;
 use bus_bits::Span;
-use bus_line::CopyCount;
+use bus_line::{CopyCount, Line};
 use circular_buffer::HeapCircularBuffer;
 
 /// Where one frame more is to lie: behind the others, where a full ring gives up its oldest, or in place of the only

@@ -5,12 +5,13 @@ ghost use Rattle.bus_dictionary.specs.Dictionary.{entry_at};
 ghost use Rattle.bus_pairing.specs.Talk.{command_on, is_late, outcome, verdict, window_of};
 ghost use Rattle.bus_pairing.specs.declared.outcome.Outcome.TheVariants.{Answered, Late};
 
-use crate::line::{Line, carries_answers, carries_commands};
+use crate::line::{carries_answers, carries_commands};
 use crate::outcome::Outcome;
 use crate::pending::Pending;
 use crate::verdict::Verdict;
 use bus_bits::Span;
 use bus_dictionary::{Rules, Standing};
+use bus_line::Line;
 
 /// The address of all stations (ISO/IEC 13239, all-station address).
 const ALL_STATIONS: u8 = 255;

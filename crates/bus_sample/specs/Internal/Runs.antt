@@ -58,7 +58,6 @@ pub record IsSoundRun (run : SampleRun) : Type 0 where
 pub record HasRead (start now : Option (List ℕ)) (run : SampleRun) (xs : List ℕ) : Type 0 where
   pub taken : RunAfter start now run (recorded run.options.form xs)
   pub part : run.part.items ≡ cut_record run.options.form xs
-  pub octets : run.octets ≡ length xs
 
 -- this fault stopped it among these samples
 abbrev pub StopsWith : Option (List ℕ) → Option (List ℕ) → SampleRun → List ℕ → SampleFault → Type 0
@@ -71,7 +70,7 @@ StopsWith start now run samples _ = ⊥
 
 -- the open record stays
 abbrev pub IsSameRecord : SampleRun → SampleRun → Type 0
-IsSameRecord old new = (new.part ≡ old.part) × (new.octets ≡ old.octets) × (new.options ≡ old.options)
+IsSameRecord old new = (new.part ≡ old.part) × (new.options ≡ old.options)
 
 -- how the reading of these octets ended, whose reader has `after` left
 abbrev pub RecordingStopsWith : Option (List ℕ) → Option (List ℕ) → Option (List ℕ) → SampleRun → List ℕ

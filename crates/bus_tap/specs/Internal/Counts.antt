@@ -5,7 +5,7 @@ use Rattle.std.specs.Bool.{beq}
 use Rattle.bus_tap.specs.Blocks.{has_bit}
 use Rattle.bus_tap.specs.Facts.{AreFactsOf, IsTallied, IsLongest, jumps, places_where, spacing}
 use Rattle.bus_tap.specs.Sampled.{Channel, clock_of, counted_level, data_of}
-use Rattle.bus_pairing.specs.declared.line.Line.TheVariants.{First, Second}
+use Rattle.bus_line.specs.declared.line.Line.TheVariants.{First, Second}
 use Rattle.bus_tap.specs.declared.block.CountedBlock.{CountedBlock}
 use Rattle.bus_tap.specs.declared.block.CountedLine.{CountedLine}
 use Rattle.bus_tap.specs.declared.facts.LineFacts.{LineFacts}

@@ -2,8 +2,8 @@
 use Rattle.std.specs.Prelude.{◌≡◌, ℕ, ◌+◌, ◌≤◌, ◌==◌, ◌&&◌, not, Bool, Option, Some, None, if◌then◌else◌}
 use Rattle.std.specs.Bool.{beq}
 use Rattle.bus_tap.specs.Sampled.{Channel, HeldState, SamplerState, clock_of, data_of}
-use Rattle.bus_pairing.specs.declared.line.Line.{Line}
-use Rattle.bus_pairing.specs.declared.line.Line.TheVariants.{First, Second}
+use Rattle.bus_line.specs.declared.line.Line.{Line}
+use Rattle.bus_line.specs.declared.line.Line.TheVariants.{First, Second}
 use Rattle.bus_tap.specs.declared.facts.Levels.{Levels}
 use Rattle.bus_tap.specs.declared.sampler.HeldLevel.{HeldLevel}
 use Rattle.bus_tap.specs.declared.sampler.Sampler.TheInside.{Inside}

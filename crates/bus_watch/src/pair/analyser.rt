@@ -63,7 +63,7 @@ impl<C: Check> PairAnalyser<C> {
     ghost use Rattle.bus_pairing.specs.History.{history, tally};
     ghost use Rattle.bus_pairing.specs.Ledger.{IsPairLedger, total};
     ghost use Rattle.bus_pairing.specs.Talk.{pending};
-    ghost use Rattle.bus_pairing.specs.LineReport.{firsts, seconds, bits_on};
+    ghost use Rattle.bus_line.specs.LineReport.{firsts, seconds, bits_on};
     ghost use Rattle.bus_line.specs.Ledger.{stored_open};
 
     /// An analyser that took no pair of bits, whose first pair has the place `origin`.

@@ -1,5 +1,5 @@
 use Rattle.std.proofs.Common.{◌≡◌, ◌+◌, ◌∷◌, [], length, take, sym, ◌∙◌, arith, length-take}
-use Rattle.bus_pairing.specs.declared.line.Line.TheVariants.{First}
+use Rattle.bus_line.specs.declared.line.Line.TheVariants.{First}
 use Rattle.bus_tap.specs.Arrival.{own}
 use Rattle.bus_clocks.proofs.FeedLemmas.{arrival_at, count-more, first-own, second-own}
 use Rattle.bus_clocks.proofs.RoomLemmas.{own-count}

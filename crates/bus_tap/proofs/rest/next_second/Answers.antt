@@ -1,5 +1,5 @@
 use Rattle.std.proofs.Common.{◌≡◌, ◌+◌, ◌-◌, sym, ap, ◌∙◌, arith}
-use Rattle.bus_pairing.specs.declared.line.Line.TheVariants.{Second}
+use Rattle.bus_line.specs.declared.line.Line.TheVariants.{Second}
 use Rattle.bus_tap.specs.Arrival.{own}
 use Rattle.bus_tap.proofs.ArrivalLemmas.{arrivals-none}
 use Rattle.bus_tap.proofs.QuietLemmas.{none-behind, octet-behind}

@@ -1,6 +1,6 @@
 use Rattle.std.proofs.Common.{◌≡◌, ◌+◌, ◌-◌, ℕ, sym, ap, ◌∙◌, arith}
 use Rattle.bus_line.specs.Run.{ones_after}
-use Rattle.bus_pairing.specs.declared.line.Line.TheVariants.{Second}
+use Rattle.bus_line.specs.declared.line.Line.TheVariants.{Second}
 use Rattle.bus_tap.specs.Arrival.{arrivals_from, own}
 use Rattle.bus_tap.proofs.ArrivalLemmas.{arrivals-none}
 use Rattle.bus_bits.proofs.OctetLemmas.{least}

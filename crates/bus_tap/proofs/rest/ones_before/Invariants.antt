@@ -1,6 +1,6 @@
 use Rattle.std.proofs.Common.{◌≡◌, ◌+◌, ◌-◌, ◌≤◌}
 use Rattle.bus_line.specs.Run.{ones_after}
-use Rattle.bus_pairing.specs.declared.line.Line.TheVariants.{Second}
+use Rattle.bus_line.specs.declared.line.Line.TheVariants.{Second}
 use Rattle.bus_tap.specs.Arrival.{arrivals_from, own}
 use Rattle.bus_tap.proofs.rest.ones_before.Given as goal
 

@@ -1,5 +1,5 @@
 use Rattle.std.proofs.Common.{◌≡◌, ◌-◌, ◌≤◌, ℕ, List, []}
-use Rattle.bus_pairing.specs.declared.line.Line.TheVariants.{Second}
+use Rattle.bus_line.specs.declared.line.Line.TheVariants.{Second}
 use Rattle.bus_tap.specs.Arrival.{arrivals_from, own}
 use Rattle.bus_tap.proofs.rest.past_second.Given as goal
 

@@ -4,7 +4,7 @@ use Rattle.bus_line.specs.After.{Advances}
 use Rattle.bus_line.specs.Due.{due_at}
 use Rattle.bus_line.specs.Report.{moved}
 use Rattle.bus_line.specs.Shown.{reported}
-use Rattle.bus_pairing.specs.LineReport.{line_report}
+use Rattle.bus_line.specs.LineReport.{line_report}
 use Rattle.bus_pairing.specs.Conversation.{AdvancesConversation}
 use Rattle.bus_pairing.specs.Shown.{found_on}
 use Rattle.bus_watch.specs.Decodes.{told_on}

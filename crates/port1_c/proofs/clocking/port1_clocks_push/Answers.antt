@@ -2,7 +2,7 @@ use Rattle.std.proofs.Common.{◌++◌, Some, map, sym, ap, ◌∙◌}
 use Rattle.std.specs.Option.{option_to_list}
 use Rattle.bus_line.proofs.DueMoreLemmas.{due_at-append}
 use Rattle.bus_line.proofs.ReportLemmas.{due-it}
-use Rattle.bus_pairing.specs.LineReport.{line_report}
+use Rattle.bus_line.specs.LineReport.{line_report}
 use Rattle.bus_tap.proofs.ArrivedLemmas.{arrived-more}
 use Rattle.port1_c.specs.Clocks.{arrived_told, memory_of}
 use Rattle.port1_c.specs.Line.{octets_of}

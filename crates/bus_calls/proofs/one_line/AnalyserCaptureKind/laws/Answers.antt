@@ -2,7 +2,7 @@ use Rattle.std.proofs.Common.{[], ◌∷◌, ◌++◌, ◌+◌, length, refl}
 use Rattle.bus_formats.specs.Packed.{packed_capture, packed_body}
 use Rattle.std.specs.Option.{option_to_list}
 use Rattle.bus_line.specs.Due.{placed}
-use Rattle.bus_pairing.specs.LineReport.{of_line}
+use Rattle.bus_line.specs.LineReport.{of_line}
 use Rattle.bus_pairing.specs.Seen.{seen_at}
 use Rattle.bus_calls.specs.Captures.{form_of_one}
 use Rattle.bus_calls.proofs.HeadedLemmas.{head-clean}

@@ -1,6 +1,6 @@
 use Rattle.std.proofs.Common.{[], ◌∷◌, ◌++◌, ◌+◌, length, refl}
 use Rattle.bus_formats.specs.Packed.{packed_pair_capture, pair_body}
-use Rattle.bus_pairing.specs.LineReport.{merged}
+use Rattle.bus_line.specs.LineReport.{merged}
 use Rattle.bus_pairing.specs.Seen.{all_seen_at}
 use Rattle.bus_calls.specs.Captures.{form_of_two}
 use Rattle.bus_calls.proofs.HeadedLemmas.{head-clean}

@@ -1,6 +1,6 @@
 use Rattle.std.proofs.Common.{◌≡◌, ◌+◌, ◌-◌, length, refl, ◌∙◌, arith}
 use Rattle.bus_line.specs.Due.{begun}
-use Rattle.bus_pairing.specs.declared.line.Line.TheVariants.{Second}
+use Rattle.bus_line.specs.declared.line.Line.TheVariants.{Second}
 use Rattle.bus_tap.specs.Arrival.{own, place_of}
 use Rattle.bus_clocks.specs.Internal.ClockView.{clock_state}
 use Rattle.bus_tap.proofs.LinesLemmas.{open-places}

@@ -1,7 +1,7 @@
 use Rattle.std.proofs.Common.{◌+◌, ◌-◌, ◌≤◌, length, take, drop}
 use Rattle.bus_bits.specs.Limits.{most_places}
 use Rattle.bus_pairing.specs.Sink.{SinkTook}
-use Rattle.bus_pairing.specs.declared.line.Line.{Line}
+use Rattle.bus_line.specs.declared.line.Line.{Line}
 use Rattle.bus_watch.specs.Fed.{FedBy}
 use Rattle.bus_tap.specs.Arrival.{own}
 use Rattle.bus_clocks.specs.Clocks.{two_clocks, decoder_on}

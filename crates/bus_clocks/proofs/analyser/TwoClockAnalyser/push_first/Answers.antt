@@ -1,6 +1,6 @@
 use Rattle.std.proofs.Common.{◌∷◌, ◌++◌, [], Some, refl, ap, ◌∙◌, arith}
 use Rattle.std.specs.Option.{option_to_list}
-use Rattle.bus_pairing.specs.declared.line.Line.TheVariants.{First}
+use Rattle.bus_line.specs.declared.line.Line.TheVariants.{First}
 use Rattle.bus_watch.specs.Decodes.{told_on}
 use Rattle.bus_tap.specs.Arrival.{own}
 use Rattle.bus_clocks.specs.Clocks.{AdvancesArrivals}

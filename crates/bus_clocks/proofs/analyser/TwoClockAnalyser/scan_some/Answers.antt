@@ -2,7 +2,7 @@ use Rattle.std.proofs.Common.{◌≡◌, ◌+◌, ◌-◌, ◌++◌, List, lengt
 use Rattle.std.specs.Option.{option_to_list}
 use Rattle.bus_bits.proofs.BitLemmas.{length-from}
 use Rattle.bus_pairing.specs.Seen.{SeenReport}
-use Rattle.bus_pairing.specs.declared.line.Line.TheVariants.{First, Second}
+use Rattle.bus_line.specs.declared.line.Line.TheVariants.{First, Second}
 use Rattle.bus_tap.specs.Arrival.{Arrival, own}
 use Rattle.bus_watch.specs.Decodes.{DecodesMany, told_on}
 use Rattle.bus_watch.specs.Watch.{AdvancesWatchShown}

@@ -1,6 +1,6 @@
 use Rattle.std.proofs.Common.{◌++◌, length, refl, ap, ◌∙◌, arith}
 use Rattle.bus_bits.proofs.OctetLemmas.{one_bit}
-use Rattle.bus_pairing.specs.declared.line.Line.TheVariants.{First, Second}
+use Rattle.bus_line.specs.declared.line.Line.TheVariants.{First, Second}
 use Rattle.bus_clocks.proofs.PartsLemmas.{parts-first, parts-second}
 use Rattle.bus_clocks.proofs.RoomLemmas.{own-count}
 use Rattle.bus_clocks.proofs.parted.Parted.take_one.Goals as goal

@@ -1,4 +1,4 @@
-use Rattle.bus_pairing.specs.declared.line.Line.TheVariants.{First}
+use Rattle.bus_line.specs.declared.line.Line.TheVariants.{First}
 use Rattle.bus_pairing.specs.declared.pair_kept.PairKept.{PairKept}
 use Rattle.bus_pairing.proofs.HistoryLemmas.{appended}
 use Rattle.bus_pairing.proofs.conversation.keep.next_place.Goals as goal

@@ -10,5 +10,4 @@ returns-clause-fresh c = λ start.
     record {
       taken = rw (recorded-none form some) (record { tap = c.new.ensures.after; marks = c.new-2.ensures.none start });
       part = c.new-3.ensures ∙ sym (cut-none form);
-      octets = refl;
     }

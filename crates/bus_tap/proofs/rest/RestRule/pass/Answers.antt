@@ -3,7 +3,7 @@ use Rattle.std.proofs.Common.{◌∙◌}
 use Rattle.std.proofs.Common.{arith, append_assoc, append-nil}
 use Rattle.bus_bits.specs.Bits.{bit_at}
 use Rattle.bus_line.specs.Run.{ones_after}
-use Rattle.bus_pairing.specs.declared.line.Line.TheVariants.{Second}
+use Rattle.bus_line.specs.declared.line.Line.TheVariants.{Second}
 use Rattle.bus_tap.specs.Arrival.{Arrival, arrivals_from, own}
 use Rattle.bus_tap.specs.Internal.RestView.{rest_state}
 use Rattle.bus_tap.specs.Rested.{IsRestAfter, RestState, rested, silence}

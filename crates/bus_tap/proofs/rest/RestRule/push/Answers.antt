@@ -1,5 +1,5 @@
 use Rattle.std.proofs.Common.{false, sym, ◌∙◌}
-use Rattle.bus_pairing.specs.declared.line.Line.TheVariants.{First, Second}
+use Rattle.bus_line.specs.declared.line.Line.TheVariants.{First, Second}
 use Rattle.bus_tap.specs.Rested.{rested}
 use Rattle.bus_tap.proofs.RestLemmas.{rested-more, comes-first, comes-second, after-first, after-second}
 use Rattle.bus_tap.proofs.rest.RestRule.push.Goals as goal

@@ -1,7 +1,7 @@
 use Rattle.std.proofs.Common.{◌≡◌, ◌+◌, ◌-◌, ◌≤◌, ◌++◌, [], ◌∷◌, ℕ, Bool, List, refl, sym, ap, ◌∙◌, subst, arith}
 use Rattle.std.proofs.Common.{append_assoc}
 use Rattle.bus_bits.specs.Bits.{bit_at}
-use Rattle.bus_pairing.specs.declared.line.Line.{Line}
+use Rattle.bus_line.specs.declared.line.Line.{Line}
 use Rattle.bus_tap.specs.Arrival.{Arrival, arrival_of, arrivals_from}
 use Rattle.bus_tap.specs.Rested.{fill, rested, IsRestAfter, RestState}
 use Rattle.bus_tap.proofs.ArrivalLemmas.{arrivals-last}

@@ -1,4 +1,4 @@
-use Rattle.bus_pairing.specs.declared.line.Line.TheVariants.{First, Second}
+use Rattle.bus_line.specs.declared.line.Line.TheVariants.{First, Second}
 use Rattle.bus_tap.specs.Sampled.{clock_of, data_of}
 use Rattle.bus_tap.proofs.sampler.Sampler.take.Goals as goal
 

@@ -1,7 +1,7 @@
 use Rattle.std.proofs.Common.{◌≡◌, ℕ, ◌+◌, ◌-◌, ◌^◌, refl, sym, ap, ◌∙◌, arith, min, if◌then◌else◌}
 use Rattle.std.specs.Prelude.{nat_lt}
 use Rattle.bus_tap.specs.Stopped.{on_time_until}
-use Rattle.bus_pairing.specs.declared.line.Line.TheVariants.{First, Second}
+use Rattle.bus_line.specs.declared.line.Line.TheVariants.{First, Second}
 use Rattle.bus_tap.proofs.StopLemmas.{push-stops, push-until, other-first, other-second, until-none, until-some}
 use Rattle.bus_tap.proofs.stop.StopRule.push.Goals as goal
 use Rattle.bus_tap.proofs.stop.StopRule.push.Goals.{then-self-eq0, else-self-eq0}

@@ -1,5 +1,5 @@
 use Rattle.std.proofs.Common.{◌+◌, refl, sym, ap, arith, length-append}
-use Rattle.bus_pairing.specs.declared.line.Line.TheVariants.{First, Second}
+use Rattle.bus_line.specs.declared.line.Line.TheVariants.{First, Second}
 use Rattle.bus_tap.proofs.BlockLemmas.{facts-block, timed-block}
 use Rattle.bus_tap.proofs.tap.Tap.consume_block.Goals as goal
 

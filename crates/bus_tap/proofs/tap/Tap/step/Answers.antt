@@ -1,5 +1,5 @@
 use Rattle.std.proofs.Common.{refl, arith}
-use Rattle.bus_pairing.specs.declared.line.Line.TheVariants.{First, Second}
+use Rattle.bus_line.specs.declared.line.Line.TheVariants.{First, Second}
 use Rattle.bus_tap.proofs.EachLemmas.{length-more}
 use Rattle.bus_tap.proofs.TapLemmas.{facts-more}
 use Rattle.bus_tap.proofs.tap.Tap.step.Goals as goal

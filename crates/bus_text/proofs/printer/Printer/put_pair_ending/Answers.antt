@@ -1,5 +1,5 @@
 use Rattle.std.proofs.Common.{◌++◌, Some}
-use Rattle.bus_pairing.specs.declared.line.Line.TheVariants.{First, Second}
+use Rattle.bus_line.specs.declared.line.Line.TheVariants.{First, Second}
 use Rattle.bus_text.specs.Listing.{begun_lines, pending_lines}
 use Rattle.bus_text.proofs.ListingLemmas.{put-both}
 use Rattle.bus_text.proofs.printer.Printer.put_pair_ending.Goals as goal

@@ -2,7 +2,7 @@ use Rattle.std.proofs.Common.{rules, tests, ◌≡◌, ◌∙◌, true, false, s
 use Rattle.std.specs.Option.{option_to_list}
 use Rattle.bus_bits.specs.declared.span.Span.{Span}
 use Rattle.bus_dictionary.specs.declared.standing.Standing.{Standing}
-use Rattle.bus_pairing.specs.declared.line.Line.{Line}
+use Rattle.bus_line.specs.declared.line.Line.{Line}
 use Rattle.bus_text.specs.Listing.{strays_at, frame_line}
 use Rattle.bus_dictionary.specs.Standing.{station_in}
 use Rattle.bus_text.specs.declared.kind.Kind.TheVariants as kind

@@ -1,4 +1,4 @@
-use Rattle.bus_pairing.specs.declared.line.Line.TheVariants.{First}
+use Rattle.bus_line.specs.declared.line.Line.TheVariants.{First}
 use Rattle.bus_tap.specs.Arrival.{own}
 use Rattle.port1_c.proofs.clocks.Port1Clocks.open_first.Goals as goal
 

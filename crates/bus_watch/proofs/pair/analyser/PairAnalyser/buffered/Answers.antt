@@ -1,4 +1,4 @@
-use Rattle.bus_pairing.specs.LineReport.{firsts, seconds}
+use Rattle.bus_line.specs.LineReport.{firsts, seconds}
 use Rattle.bus_watch.proofs.pair.analyser.PairAnalyser.buffered.Goals as goal
 
 pub returns-in-First-clause-stored : goal.returns-in-First-clause-stored

@@ -1,5 +1,5 @@
 use Rattle.std.proofs.Common.{◌∙◌, ap}
-use Rattle.bus_pairing.specs.LineReport.{firsts, seconds}
+use Rattle.bus_line.specs.LineReport.{firsts, seconds}
 use Rattle.bus_pairing.specs.Shown.{begun_span}
 use Rattle.bus_watch.proofs.pair.analyser.PairAnalyser.ending.Goals as goal
 

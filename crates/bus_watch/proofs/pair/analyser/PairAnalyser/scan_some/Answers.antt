@@ -3,13 +3,13 @@ use Rattle.std.proofs.Common.{◌∙◌, subst, arith}
 use Rattle.std.specs.Option.{is_some, option_to_list}
 use Rattle.bus_bits.specs.Bits.{bits_from}
 use Rattle.bus_bits.proofs.BitLemmas.{length-from}
-use Rattle.bus_pairing.specs.LineReport.{seconds}
+use Rattle.bus_line.specs.LineReport.{seconds}
 use Rattle.bus_pairing.specs.Seen.{SeenReport}
 use Rattle.bus_watch.specs.Decodes.{newest, told_on}
 use Rattle.bus_watch.specs.Internal.PairView.{pair_state}
 use Rattle.bus_watch.specs.Pairs.{PairState, two_lines}
 use Rattle.bus_watch.specs.Watch.{AdvancesWatchShown}
-use Rattle.bus_pairing.specs.declared.line.Line.TheVariants.{Second}
+use Rattle.bus_line.specs.declared.line.Line.TheVariants.{Second}
 use Rattle.bus_watch.proofs.DecodesLemmas.{keeps_up-room}
 use Rattle.bus_watch.proofs.PairScanLemmas.{leads-scanned, pairs-keep_up}
 use Rattle.bus_watch.proofs.pair.analyser.PairAnalyser.scan_some.Given.{Over}

@@ -1,7 +1,7 @@
 use Rattle.std.proofs.Common.{◌≡◌, ◌-◌, refl, ◌∙◌, arith}
 use Rattle.std.proofs.lemmas.Result.{err_from_is_err_and}
 use Rattle.bus_sample.proofs.RunLemmas.{run-on, run-all, run-none}
-use Rattle.bus_sample.proofs.reader.SampleRun.consume_run.Goals as goal
+use Rattle.bus_sample.proofs.reader.SampleRun.put_run.Goals as goal
 
 pub loop-left-init : goal.loop-left-init
 loop-left-init g c = record {
@@ -22,7 +22,7 @@ returns-in_err-left-clause-taken g c =
 pub loop-left-preserved : goal.loop-left-preserved
 loop-left-preserved g c =
     let n = c.in_ok-left.field-0 in
-    let same = c.consume_some.ensures.same in
+    let same = c.put_some.ensures.same in
     let before = c.loop-left.invariant.same in record {
       within = omega (arith, c.loop-left.invariant.within);
       taken = λ sample is start ss taken.
@@ -31,7 +31,7 @@ loop-left-preserved g c =
           (c.in_ok-left.ensures.taken sample (rw (before.2) is) start _
           (c.loop-left.invariant.taken sample is start ss taken));
       same = (same.0 ∙ before.0, same.1 ∙ before.1, same.2 ∙ before.2);
-      sound = c.consume_some.ensures.sound;
+      sound = c.put_some.ensures.sound;
     }
 
 pub returns-clause-taken : goal.returns-clause-taken

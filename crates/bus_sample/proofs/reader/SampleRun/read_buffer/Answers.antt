@@ -1,16 +1,16 @@
 use Rattle.std.proofs.Common.{◌++◌, [], sym, ap, append-nil}
 use Rattle.std.proofs.lemmas.Result.{err_from_is_err_and}
 use Rattle.bus_sample.specs.Recording.{recorded}
-use Rattle.bus_sample.proofs.reader.SampleRun.consume_read.Goals as goal
+use Rattle.bus_sample.proofs.reader.SampleRun.read_buffer.Goals as goal
 
-pub returns-in_err-consume_octets-clause-read : goal.returns-in_err-consume_octets-clause-read
-returns-in_err-consume_octets-clause-read g c =
+pub returns-in_err-read_octets-clause-read : goal.returns-in_err-read_octets-clause-read
+returns-in_err-read_octets-clause-read g c =
     let raised = err_from_is_err_and c.from_residual.result c.from_residual.ensures.1 in
-    rw (raised.1, raised.2) (λ start xs read. c.in_err-consume_octets.ensures.read start xs read)
+    rw (raised.1, raised.2) (λ start xs read. c.in_err-read_octets.ensures.read start xs read)
 
 pub returns-in-Ok-clause-read : goal.returns-in-Ok-clause-read
 returns-in-Ok-clause-read g c = λ start xs read.
-    let now = c.in_ok-consume_octets.ensures.read start xs read in record {
+    let now = c.in_ok-read_octets.ensures.read start xs read in record {
       taken = record {
         tap = now.taken.tap;
         marks = record {
@@ -21,13 +21,12 @@ returns-in-Ok-clause-read g c = λ start xs read.
         };
       };
       part = now.part;
-      octets = now.octets;
     }
 
 pub returns-in-Err-clause-read : goal.returns-in-Err-clause-read
 returns-in-Err-clause-read g c = λ start xs read.
-    let now = c.in_ok-consume_octets.ensures.read start xs read in
-    let form = ap (λ o. o.form) c.consume_octets.ensures.options in
+    let now = c.in_ok-read_octets.ensures.read start xs read in
+    let form = ap (λ o. o.form) c.read_octets.ensures.options in
     let samples = recorded c.args.self.now.options.form (xs ++ c.args.octets.now) in (
       samples,
       ([], sym (append-nil samples)),

@@ -1,6 +1,6 @@
 use Rattle.std.proofs.Common.{◌≡◌, ◌-◌, ◌+◌, ◌≤◌, ◌++◌, List, ℕ, Option, take, length}
 use Rattle.bus_sample.specs.Internal.Runs.{HasRead, IsSoundRun}
-use Rattle.bus_sample.proofs.reader.SampleRun.consume_samples.Given as goal
+use Rattle.bus_sample.proofs.reader.SampleRun.read_samples.Given as goal
 
 -- the samples so far were taken
 abbrev pub invariant-loop-at : goal.invariant-loop-at
@@ -9,7 +9,6 @@ invariant-loop-at g l = record {
   read : (start : Option (List ℕ)) (xs : List ℕ) →
       HasRead start (g.W.Write.contents l.initial.w) l.initial.self xs →
       HasRead start (g.W.Write.contents l.w) l.self (xs ++ take l.at l.octets);
-  octets : l.self.octets ≡ l.initial.self.octets + l.at;
   options : l.self.options ≡ l.initial.self.options;
   sound : IsSoundRun l.self;
 }

@@ -1,10 +1,9 @@
 use Rattle.std.proofs.Common.{◌≡◌, ◌+◌, ◌<◌, ◌≤◌, ◌++◌, ◌∷◌, [], length, sym, ap, ◌∙◌, arith}
-use Rattle.bus_tap.proofs.EachLemmas.{length-more}
 use Rattle.bus_tap.specs.Recorded.{record_number}
 use Rattle.bus_sample.specs.Recording.{cut_record, size_of, run_of, recorded}
 use Rattle.bus_sample.proofs.RecordLemmas.{part-cut, part-recorded, whole-cut, whole-recorded, cut-short}
 use Rattle.bus_sample.proofs.ReadLemmas.{read-whole}
-use Rattle.bus_sample.proofs.reader.SampleRun.consume_octet.Goals as goal
+use Rattle.bus_sample.proofs.reader.SampleRun.read_octet.Goals as goal
 
 pub returns-then-len-from-clause-read : goal.returns-then-len-from-clause-read
 returns-then-len-from-clause-read g c = λ start xs read.
@@ -17,7 +16,6 @@ returns-then-len-from-clause-read g c = λ start xs read.
     record {
       taken = rw (part-recorded form xs x some inside) (record { tap = read.taken.tap; marks = read.taken.marks });
       part = c.push.ensures.items ∙ (ap (λ p. p ++ x ∷ []) read.part ∙ sym (part-cut form xs x some inside));
-      octets = omega (arith, read.octets, length-more xs x);
     }
 
 pub returns-clause-read : goal.returns-clause-read
@@ -43,10 +41,9 @@ returns-clause-read g c = λ start xs read.
     c.number_of-number.ensures ∙ ap record_number (c.as_slice.ensures.value ∙ items) in
     let is : recorded form (xs ++ x ∷ []) ≡ recorded form xs ++ run_of form c.number_of-number.result =
     whole-recorded form xs x some last ∙ ap (λ n. recorded form xs ++ run_of form n) (sym number) in
-    let same = c.consume_record.ensures.same in
-    read-whole start (g.W.Write.contents c.consume_record.new.w) c.consume_record.new.self form (xs ++ x ∷ [])
-    (recorded form xs ++ run_of form c.number_of-number.result) c.consume_record.result (ap (λ o. o.form) same.2) is
+    let same = c.put_record.ensures.same in
+    read-whole start (g.W.Write.contents c.put_record.new.w) c.put_record.new.self form (xs ++ x ∷ [])
+    (recorded form xs ++ run_of form c.number_of-number.result) c.put_record.result (ap (λ o. o.form) same.1) is
     (whole-cut form xs x some last) (ap (λ p. p.items) same.0 ∙ c.clear.ensures)
-    (omega (arith, same.1, read.octets, length-more xs x))
-    (c.consume_record.ensures.taken start (recorded form xs)
+    (c.put_record.ensures.taken start (recorded form xs)
     (record { tap = read.taken.tap; marks = read.taken.marks }))

@@ -5,7 +5,7 @@ use Rattle.std.proofs.lemmas.List.{length-replicate, length-map}
 use Rattle.bus_tap.specs.Tapped.{channels}
 use Rattle.bus_sample.proofs.CloseLemmas.{whole-front}
 use Rattle.bus_sample.proofs.RunLemmas.{advances-run, arrivals-with, taken-with, run-front}
-use Rattle.bus_sample.proofs.reader.SampleRun.consume_some.Goals as goal
+use Rattle.bus_sample.proofs.reader.SampleRun.put_some.Goals as goal
 
 pub returns-in-Err-clause-taken : goal.returns-in-Err-clause-taken
 returns-in-Err-clause-taken g c = λ sample is start ss taken. (

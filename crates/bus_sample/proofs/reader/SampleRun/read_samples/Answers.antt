@@ -2,30 +2,29 @@ use Rattle.std.proofs.Common.{◌∙◌, ap, subst, sym, rules, arith}
 use Rattle.std.proofs.lemmas.Result.{err_from_is_err_and}
 use Rattle.bus_sample.specs.Internal.Runs.{HasRead}
 use Rattle.bus_sample.proofs.ReadLemmas.{all-octets, behind-next, halts-behind}
-use Rattle.bus_sample.proofs.reader.SampleRun.consume_samples.Goals as goal
+use Rattle.bus_sample.proofs.reader.SampleRun.read_samples.Goals as goal
 
-pub consume_front-requires-clause-wires : goal.consume_front-requires-clause-wires
-consume_front-requires-clause-wires g c = sym (ap (λ o. o.wires) c.loop-at.invariant.options)
+pub read_front-requires-clause-wires : goal.read_front-requires-clause-wires
+read_front-requires-clause-wires g c = sym (ap (λ o. o.wires) c.loop-at.invariant.options)
 
 pub returns-in_err-at-clause-read : goal.returns-in_err-at-clause-read
 returns-in_err-at-clause-read g c =
     let raised = err_from_is_err_and c.from_residual.result c.from_residual.ensures.1 in
     let form = ap (λ o. o.form) c.loop-at.invariant.options in
     rw (raised.1, raised.2) (λ start xs read.
-    halts-behind start (g.W.Write.contents c.consume_front.new.w) c.consume_front.new.self
+    halts-behind start (g.W.Write.contents c.read_front.new.w) c.read_front.new.self
     c.args.self.now.options.form xs c.args.octets.now c.loop-at.at c.in_err-at.field-0.0 c.loop-at.invariant.within
     (rw form at (c.in_err-at.ensures.read start _ (c.loop-at.invariant.read start xs read))))
 
 pub loop-at-preserved : goal.loop-at-preserved
 loop-at-preserved g c =
     let front = c.in_ok-at.ensures in
-    let new = c.consume_front.new.self in record {
+    let new = c.read_front.new.self in record {
       within = search rules;
       read = λ start xs read.
-          subst (λ l. HasRead start (g.W.Write.contents c.consume_front.new.w) new l)
+          subst (λ l. HasRead start (g.W.Write.contents c.read_front.new.w) new l)
           (behind-next xs c.args.octets.now c.loop-at.at c.in_ok-at.field-0 c.loop-at.invariant.within)
           (front.read start _ (c.loop-at.invariant.read start xs read));
-      octets = omega (arith, c.loop-at.invariant.octets, front.count.2);
       options = front.options ∙ c.loop-at.invariant.options;
       sound = front.sound;
     }

@@ -1,7 +1,7 @@
 use Rattle.std.proofs.Common.{◌≡◌, ◌-◌, ◌≤◌, ◌++◌, List, ℕ, Option, replicate}
 use Rattle.bus_tap.specs.Tapped.{channels}
 use Rattle.bus_sample.specs.Internal.Runs.{RunAfter, IsSoundRun, IsSameRecord}
-use Rattle.bus_sample.proofs.reader.SampleRun.consume_run.Given as goal
+use Rattle.bus_sample.proofs.reader.SampleRun.put_run.Given as goal
 
 -- the samples so far were taken
 abbrev pub invariant-loop-left : goal.invariant-loop-left

@@ -6,8 +6,8 @@ use Rattle.std.specs.Option.{option_to_list}
 use Rattle.bus_bits.specs.Octet.{bits_of}
 use Rattle.bus_line.specs.Report.{Report, moved}
 use Rattle.bus_line.specs.Due.{places, due_at}
-use Rattle.bus_pairing.specs.declared.line.Line.{Line}
-use Rattle.bus_pairing.specs.declared.line.Line.TheVariants.{First, Second}
+use Rattle.bus_line.specs.declared.line.Line.{Line}
+use Rattle.bus_line.specs.declared.line.Line.TheVariants.{First, Second}
 
 -- a report, and on which of two lines it came; `None` where there is one line
 pub record LineReport : Type 0 where
@@ -16,18 +16,6 @@ pub record LineReport : Type 0 where
 
 abbrev pub line_report : Option Line → Report → LineReport
 line_report line r = record { line = line; report = r }
-
--- commands wait on the only line, and on the first of two
-abbrev pub carries_commands : Option Line → Bool
-carries_commands None = true
-carries_commands (Some First) = true
-carries_commands (Some Second) = false
-
--- answers come on the only line, and on the second of two
-abbrev pub carries_answers : Option Line → Bool
-carries_answers None = true
-carries_answers (Some First) = false
-carries_answers (Some Second) = true
 
 -- the reports of one line
 abbrev pub of_line : List Report → List LineReport
