@@ -6,7 +6,7 @@ use Rattle.bus_text.specs.declared.put.ShortWrite.{ShortWrite}
 use Rattle.bus_text.specs.declared.page.Page.{Page}
 use Rattle.bus_pairing.specs.Seen.{SeenReport}
 use Rattle.bus_pairing.specs.Shown.{found, found_on}
-use Rattle.bus_pairing.specs.declared.finding.Finding.{Finding}
+use Rattle.bus_pairing.specs.declared.seen_event.SeenEvent.{SeenEvent}
 use Rattle.bus_line.specs.declared.line.Line.{Line}
 use Rattle.bus_text.specs.Summary.{summary_of}
 use Rattle.bus_text.proofs.PagesLemmas.{cuts-more}
@@ -33,7 +33,7 @@ not-none None is none = cc
 not-none (Some cut) is none = not-both (Some cut) cut none refl
 
 -- a report counts the same whatever its line
-pub counted-on : (before : List SeenReport) (line : Option Line) (octets : List ℕ) (f : Finding) →
+pub counted-on : (before : List SeenReport) (line : Option Line) (octets : List ℕ) (f : SeenEvent) →
     summary_of (before ++ found octets f ∷ []) ≡ summary_of (before ++ found_on line octets f ∷ [])
 counted-on before line octets f =
     summary-more before (found octets f) ∙ sym (summary-more before (found_on line octets f))

@@ -12,7 +12,7 @@ ghost use Rattle.bus_calls.specs.Internal.ReportingLaws.{has-less, reports-more,
 
 use bus_dictionary::Dictionary;
 use bus_text::{Page, Printer, ShortWrite, Summary, ToolFault};
-use bus_watch::{Finding, Line, ReportObserver};
+use bus_watch::{Line, ReportObserver, SeenEvent};
 use std::io::Write;
 
 /// Counts what is seen, and writes its lines.
@@ -69,7 +69,7 @@ impl<W: Write> ReportObserver<W> for Reporter {
     fn observe(
         &mut self,
         line: Option<Line>,
-        finding: &Finding,
+        seen_event: &SeenEvent,
         octets: &[u8],
         dictionary: &Dictionary,
         w: &mut W,
@@ -77,7 +77,7 @@ impl<W: Write> ReportObserver<W> for Reporter {
         if self.cut.is_some() {
             return;
         }
-        self.summary.count(finding);
+        self.summary.count(seen_event);
         let Some(printer) = &self.printer else {
             return;
         };
@@ -85,7 +85,7 @@ impl<W: Write> ReportObserver<W> for Reporter {
             self.cut = Some(cut);
             return;
         }
-        printer.put(line, finding, octets, dictionary, &mut self.page);
+        printer.put(line, seen_event, octets, dictionary, &mut self.page);
     }
 
     ghost observes_none = { λ d l w. reports-none d l (W.contents w) };

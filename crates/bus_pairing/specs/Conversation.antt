@@ -9,7 +9,7 @@ use Rattle.bus_pairing.specs.Seen.{SeenReport, seen_of}
 use Rattle.bus_pairing.specs.History.{KeptFrame, history, tally}
 use Rattle.bus_pairing.specs.Ledger.{handled_of, copied_of}
 use Rattle.bus_pairing.specs.declared.counts.Counts.{Counts}
-use Rattle.bus_pairing.specs.declared.finding.Finding.{Finding}
+use Rattle.bus_pairing.specs.declared.seen_event.SeenEvent.{SeenEvent}
 use Rattle.bus_pairing.specs.declared.pending.Pending.{Pending}
 
 -- what contracts see of a conversation; `last` is what its last report was found to be, and says nothing before the
@@ -20,7 +20,7 @@ pub record ConversationState : Type 0 where
   pub history : List KeptFrame
   pub waiting : Option Pending
   pub tally : List Counts
-  pub last : Finding
+  pub last : SeenEvent
   pub copied : ℕ
   pub handled : ℕ
 

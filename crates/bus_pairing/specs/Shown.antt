@@ -11,7 +11,7 @@ use Rattle.bus_line.specs.declared.line.Line.{Line}
 use Rattle.bus_pairing.specs.declared.pair_kept.PairKept.{PairKept}
 use Rattle.bus_pairing.specs.Seen.{SeenReport}
 use Rattle.bus_pairing.specs.declared.seen.Seen.{Seen}
-use Rattle.bus_pairing.specs.declared.finding.Finding.{Finding}
+use Rattle.bus_pairing.specs.declared.seen_event.SeenEvent.{SeenEvent}
 use Rattle.bus_pairing.specs.declared.kept.Kept.{Kept}
 
 -- a report of a line and what follows from it
@@ -27,8 +27,8 @@ abbrev pub shown_option : Option Seen → Option SeenReport
 shown_option None = None
 shown_option (Some s) = Some (shown s)
 
--- a finding on a line, a frame's octets being these
-abbrev pub found_on : Option Line → List ℕ → Finding → SeenReport
+-- what is seen of an event on a line, a frame's octets being these
+abbrev pub found_on : Option Line → List ℕ → SeenEvent → SeenReport
 found_on line octets f =
     record {
       line = line;
@@ -39,7 +39,7 @@ found_on line octets f =
     }
 
 -- on the only line
-abbrev pub found : List ℕ → Finding → SeenReport
+abbrev pub found : List ℕ → SeenEvent → SeenReport
 found octets f = found_on None octets f
 
 -- a frame has no more octets than are kept of one

@@ -8,10 +8,10 @@ mod count;
 mod keep;
 
 use crate::counts::Counts;
-use crate::finding::Finding;
 use crate::pair_kept::PairKept;
 use crate::pairing::Pairing;
 use crate::pending::Pending;
+use crate::seen_event::SeenEvent;
 use bus_bits::{Span, Spent};
 use bus_dictionary::Dictionary;
 use bus_line::{CopyCount, Event, EventKind, Line};
@@ -32,7 +32,7 @@ pub struct Conversation {
     tally: [Counts; 256],
     history: HeapCircularBuffer<PairKept>,
     /// What the last report was found to be; before the first it says nothing.
-    last: Finding,
+    last: SeenEvent,
     /// The steps `copied`.
     copied: CopyCount,
     /// The steps `handled`; the others are counted elsewhere.
@@ -82,7 +82,7 @@ impl Conversation {
             pairing: Pairing::new(),
             tally: no_counts(),
             history,
-            last: Finding::nothing(),
+            last: SeenEvent::nothing(),
             copied: CopyCount::new(alloc),
             spent: Spent::zero(),
         })
@@ -121,7 +121,7 @@ impl Conversation {
 
     /// What the last report was found to be; before the first it says nothing.
     #[inline(always)]
-    pub fn last(&self) -> &Finding
+    pub fn last(&self) -> &SeenEvent
         ensures { result.now ≡ self.now.last }
     {
         &self.last

@@ -3,14 +3,13 @@
 //!
 //! [`Pairing`] pairs commands with answers by rules in any memory; [`Conversation`] also keeps the verdicts and the
 //! last frames. Both are given reports, of one line or of two in the order in which they are decided, and know nothing
-//! of bits. What they find is a [`Finding`], and with a frame's octets a [`Seen`]; sinks take these one after another.
+//! of bits. What they see is a [`SeenEvent`], and with a frame's octets a [`Seen`]; sinks take these one after another.
 //! `pair_reports` of the crate `bus_examples` gives a conversation the reports of a decoder of one's own.
 #![tactic(auto)]
 
 mod conversation;
 mod counts;
 mod ending;
-mod finding;
 mod kept;
 mod line;
 mod logged_report;
@@ -24,6 +23,7 @@ mod pending;
 mod report_log;
 mod report_sink;
 mod seen;
+mod seen_event;
 mod verdict;
 
 pub use bus_bits::Span;
@@ -31,7 +31,6 @@ pub use bus_line::{Line, SinkRefused};
 pub use conversation::Conversation;
 pub use counts::Counts;
 pub use ending::Ending;
-pub use finding::Finding;
 pub use kept::Kept;
 pub use logged_report::{LoggedPiece, LoggedReport};
 pub use outcome::Outcome;
@@ -44,4 +43,5 @@ pub use pending::Pending;
 pub use report_log::ReportLog;
 pub use report_sink::ReportSink;
 pub use seen::Seen;
+pub use seen_event::SeenEvent;
 pub use verdict::Verdict;

@@ -11,8 +11,8 @@ ghost use Rattle.bus_pairing.specs.Talk.{verdict};
 mod decide;
 mod stray;
 
-use crate::finding::Finding;
 use crate::pending::Pending;
+use crate::seen_event::SeenEvent;
 use bus_dictionary::{Rules, Standing};
 use bus_line::{Event, EventKind, Line};
 pub(crate) use decide::{command, verdict};
@@ -43,17 +43,17 @@ impl Pairing {
         line: Option<Line>,
         event: Event,
         octets: &[u8],
-    ) -> Finding
+    ) -> SeenEvent
         requires whole { IsWhole event.kind octets.now }
         ensures advances { AdvancesPairing (R.entries rules.now) self.old.waiting
             (line_report line (reported octets.now event)) (found_on line octets.now result) self.new.waiting }
     {
-        let mut found = Finding::nothing();
+        let mut found = SeenEvent::nothing();
         self.judge(rules, line, event, octets, &mut found);
         found
     }
 
-    /// Takes a report of a line, and writes what follows from it where the last finding stood.
+    /// Takes a report of a line, and writes what follows from it where the last one stood.
     #[inline(always)]
     pub(crate) fn judge<R: Rules>(
         &mut self,
@@ -61,7 +61,7 @@ impl Pairing {
         line: Option<Line>,
         event: Event,
         octets: &[u8],
-        found: &mut Finding,
+        found: &mut SeenEvent,
     )
         requires whole { IsWhole event.kind octets.now }
         ensures advances { AdvancesPairing (R.entries rules.now) self.old.waiting
@@ -84,7 +84,7 @@ impl Pairing {
 
     /// What follows from a piece that is no frame.
     #[inline(always)]
-    fn judge_damage<R: Rules>(&mut self, rules: &R, found: &mut Finding)
+    fn judge_damage<R: Rules>(&mut self, rules: &R, found: &mut SeenEvent)
         requires damage { (octets : List ℕ) → is_damage (kind_with octets found.old.event.kind) ≡ true }
         ensures advances { (line : Option Line) (octets : List ℕ) →
             AdvancesPairing (R.entries rules.now) self.old.waiting
@@ -103,7 +103,7 @@ impl Pairing {
         rules: &R,
         line: Option<Line>,
         octets: &[u8],
-        found: &mut Finding,
+        found: &mut SeenEvent,
     )
         requires frame { found.old.event.kind ≡ EventKind.Frame }
         requires whole { 4 ≤ length octets.now }
@@ -129,7 +129,7 @@ impl Pairing {
         &mut self,
         rules: &R,
         right: Option<(Option<Line>, u64, Standing)>,
-        found: &mut Finding,
+        found: &mut SeenEvent,
     )
         ensures value { found.new
             ≡ record found.old { verdict = option_map (verdict (R.entries rules.now) right) self.old.waiting } }

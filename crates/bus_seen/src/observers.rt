@@ -2,7 +2,7 @@
 
 use crate::text::{push_seen, push_seen_on};
 use bus_dictionary::Dictionary;
-use bus_pairing::{Finding, Line};
+use bus_pairing::{Line, SeenEvent};
 use bus_watch::ReportObserver;
 
 /// An observer that writes what is seen, and of two lines on which.
@@ -17,12 +17,12 @@ impl ReportObserver<String> for Writing {
     fn observe(
         &mut self,
         line: Option<Line>,
-        finding: &Finding,
+        seen_event: &SeenEvent,
         octets: &[u8],
         _dictionary: &Dictionary,
         text: &mut String,
     ) {
-        let seen = finding.with_octets(octets);
+        let seen = seen_event.with_octets(octets);
         let _ = match line {
             Some(line) => push_seen_on(text, line, &seen),
             None => push_seen(text, &seen),
@@ -48,7 +48,7 @@ impl ReportObserver<u64> for Counting {
     fn observe(
         &mut self,
         _line: Option<Line>,
-        _finding: &Finding,
+        _seen_event: &SeenEvent,
         _octets: &[u8],
         _dictionary: &Dictionary,
         count: &mut u64,

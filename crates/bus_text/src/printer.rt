@@ -25,7 +25,7 @@ use crate::text::push_octets;
 use arrayvec::ArrayVec;
 use bus_dictionary::{Dictionary, Standing};
 use bus_line::{EventKind, Span};
-use bus_pairing::{Ending, Finding, Line, Outcome, PairEnding, Pending, Verdict};
+use bus_pairing::{Ending, Line, Outcome, PairEnding, Pending, SeenEvent, Verdict};
 
 /// Puts the lines of what is seen on a page.
 #[derive(Clone, Copy)]
@@ -125,7 +125,7 @@ impl Printer {
     pub fn put(
         &self,
         line: Option<Line>,
-        finding: &Finding,
+        seen_event: &SeenEvent,
         octets: &[u8],
         dictionary: &Dictionary,
         page: &mut Page,
@@ -133,25 +133,25 @@ impl Printer {
         requires room { HasRoomFor 964 page.old }
         requires held { length octets.now ≤ most_octets }
         ensures { AdvancesPage page.old
-            (listing self.now dictionary.now (found_on line octets.now finding.now ∷ [])) 964 page.new }
+            (listing self.now dictionary.now (found_on line octets.now seen_event.now ∷ [])) 964 page.new }
     {
-        self.put_report(line, finding, octets, dictionary, page);
-        self.put_verdict(line, finding.verdict, page);
-        self.put_stray(line, finding, page);
+        self.put_report(line, seen_event, octets, dictionary, page);
+        self.put_verdict(line, seen_event.verdict, page);
+        self.put_stray(line, seen_event, page);
     }
 
     /// Whether the filter passes a report's own line.
     #[inline(always)]
-    fn passes(&self, finding: &Finding) -> bool
+    fn passes(&self, seen_event: &SeenEvent) -> bool
         ensures { (octets : List ℕ) → result ≡ passes self.now.filter
-            (report_kind (kind_with octets finding.now.event.kind)) (station_of finding.now.standing)
-            (type_of finding.now.standing) }
+            (report_kind (kind_with octets seen_event.now.event.kind)) (station_of seen_event.now.standing)
+            (type_of seen_event.now.standing) }
     {
         self.filter.is_open()
             || self.filter.passes(
-                kind_of(finding.event.kind),
-                finding.standing.map(Standing::station),
-                finding.standing.and_then(Standing::frame_type),
+                kind_of(seen_event.event.kind),
+                seen_event.standing.map(Standing::station),
+                seen_event.standing.and_then(Standing::frame_type),
             )
     }
 
@@ -160,7 +160,7 @@ impl Printer {
     fn put_report(
         &self,
         line: Option<Line>,
-        finding: &Finding,
+        seen_event: &SeenEvent,
         octets: &[u8],
         dictionary: &Dictionary,
         page: &mut Page,
@@ -169,15 +169,15 @@ impl Printer {
         requires held { length octets.now ≤ most_octets }
         ensures { AdvancesPage page.old
             (text_of self.now.filter
-            (report_line self.now.heads dictionary.now (found_on line octets.now finding.now) ∷ [])) 629
+            (report_line self.now.heads dictionary.now (found_on line octets.now seen_event.now) ∷ [])) 629
             page.new }
     {
-        if !self.passes(finding) {
+        if !self.passes(seen_event) {
             return;
         }
         push_line_number(&mut page.text, line);
-        push_front(&mut page.text, &mut page.places, &finding.event, octets);
-        self.put_head(finding.standing, dictionary, page);
+        push_front(&mut page.text, &mut page.places, &seen_event.event, octets);
+        self.put_head(seen_event.standing, dictionary, page);
         page.text.push(b'\n');
     }
 
@@ -222,26 +222,26 @@ impl Printer {
 
     /// Puts the line of a stray on the page, if there is a dictionary.
     #[inline(always)]
-    fn put_stray(&self, line: Option<Line>, finding: &Finding, page: &mut Page)
+    fn put_stray(&self, line: Option<Line>, seen_event: &SeenEvent, page: &mut Page)
         requires room { HasRoomFor 100 page.old }
         ensures { AdvancesPage page.old
             (text_of self.now.filter
-            (strays_at line self.now.heads finding.now.stray finding.now.event.span finding.now.standing)) 100
+            (strays_at line self.now.heads seen_event.now.stray seen_event.now.event.span seen_event.now.standing)) 100
             page.new }
     {
         if !self.heads {
             return;
         }
-        if !finding.stray {
+        if !seen_event.stray {
             return;
         }
-        let Some(standing) = finding.standing else {
+        let Some(standing) = seen_event.standing else {
             return;
         };
         let Some(ftype) = standing.frame_type() else {
             return;
         };
-        let span = finding.event.span;
+        let span = seen_event.event.span;
         self.put_frame(line, Kind::Stray, span, standing.station(), ftype, page);
     }
 

@@ -8,7 +8,7 @@ ghost use Rattle.bus_text.specs.Summary.{summary_of};
 ghost use Rattle.bus_text.specs.Counting.{with_kind, with_verdict, with_seen, IsFew};
 
 use bus_line::EventKind;
-use bus_pairing::{Finding, Outcome, Verdict};
+use bus_pairing::{Outcome, SeenEvent, Verdict};
 
 /// How often each thing was seen, on one line or on two.
 #[derive(Clone, Copy, Debug, PartialEq, Eq)]
@@ -70,16 +70,16 @@ impl Summary {
 
     /// Counts a report, and what follows from it.
     #[inline(always)]
-    pub fn count(&mut self, finding: &Finding)
+    pub fn count(&mut self, seen_event: &SeenEvent)
         requires { (most : ℕ) × IsFew most self.old × (most < 2 ^ 62) }
         ensures counted { (before : List SeenReport) (octets : List ℕ) → self.old ≡ summary_of before →
-            self.new ≡ summary_of (before ++ found octets finding.now ∷ []) }
-        ensures adds { (octets : List ℕ) → self.new ≡ with_seen (found octets finding.now) self.old }
+            self.new ≡ summary_of (before ++ found octets seen_event.now ∷ []) }
+        ensures adds { (octets : List ℕ) → self.new ≡ with_seen (found octets seen_event.now) self.old }
         ensures few { (most : ℕ) → IsFew most self.old → IsFew (most + 1) self.new }
     {
-        self.count_kind(finding.event.kind);
-        self.count_verdict(finding.verdict);
-        if finding.stray {
+        self.count_kind(seen_event.event.kind);
+        self.count_verdict(seen_event.verdict);
+        if seen_event.stray {
             self.strays += 1;
         }
     }

@@ -17,7 +17,7 @@ use Rattle.bus_pairing.specs.Seen.{SeenReport, seen}
 use Rattle.bus_pairing.specs.Shown.{found_on}
 use Rattle.bus_pairing.specs.Ledger.{copied_of}
 use Rattle.bus_pairing.specs.Conversation.{ConversationState, ConversationAfter}
-use Rattle.bus_pairing.specs.declared.finding.Finding.{Finding}
+use Rattle.bus_pairing.specs.declared.seen_event.SeenEvent.{SeenEvent}
 use Rattle.bus_line.specs.declared.line.Line.{Line}
 
 -- a decoder stands after some list of bits
@@ -32,12 +32,12 @@ pub record Decided {C : Type 0} (d : LineState C) (event : Option Event) : Type 
       ≡ option_map (moved d.origin) (due_at d.longest bits (length bits - 1))
 
 -- what the last report was found to be, if the last bits decided it
-abbrev pub newest : Bool → Finding → Option Finding
+abbrev pub newest : Bool → SeenEvent → Option SeenEvent
 newest true last = Some last
 newest false last = None
 
 -- and as it is seen
-abbrev pub told_on : Option Line → List ℕ → Bool → Finding → Option SeenReport
+abbrev pub told_on : Option Line → List ℕ → Bool → SeenEvent → Option SeenReport
 told_on line octets is_decided last = option_map (found_on line octets) (newest is_decided last)
 
 -- a report of a line or none, as one of the bus

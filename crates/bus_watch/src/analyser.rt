@@ -21,7 +21,7 @@ use bus_dictionary::Dictionary;
 use bus_fcs::Check;
 use bus_line::laws::settled_places;
 use bus_line::{LineDecoder, LineFault, PlaceLimit};
-use bus_pairing::{Conversation, Counts, Ending, Finding, Kept, Seen};
+use bus_pairing::{Conversation, Counts, Ending, Kept, Seen, SeenEvent};
 use std::alloc::Global;
 use std::cmp::min;
 use std::marker::Model;
@@ -133,16 +133,16 @@ impl<C: Check> Analyser<C> {
 
     /// Takes a bit; what the report that it decides is found to be, if it decides one.
     #[inline(always)]
-    pub(crate) fn advance(&mut self, bit: bool) -> Result<Option<Finding>, PlaceLimit>
+    pub(crate) fn advance(&mut self, bit: bool) -> Result<Option<SeenEvent>, PlaceLimit>
         ensures limit { IsErr result ↔ (most_places ≤ self.old.decoder.place) }
-        ensures sees { IfOk result (λ finding. AdvancesAnalyser C.check self.old (bit ∷ [])
-            (option_to_list (option_map (found self.new.decoder.octets) finding)) self.new) }
+        ensures sees { IfOk result (λ seen_event. AdvancesAnalyser C.check self.old (bit ∷ [])
+            (option_to_list (option_map (found self.new.decoder.octets) seen_event)) self.new) }
         ensures unchanged { OnErr result (self.new ≡ self.old) }
     {
         settled_places();
         // The `?` parts the two cases for the proof.
-        let finding = decode_bit(&mut self.decoder, &mut self.conversation, None, bit)?;
-        Ok(finding)
+        let seen_event = decode_bit(&mut self.decoder, &mut self.conversation, None, bit)?;
+        Ok(seen_event)
     }
 
     /// Takes a bit, and returns what is seen at it, if it decides a report. A frame's octets are
@@ -161,8 +161,8 @@ impl<C: Check> Analyser<C> {
             × OnErr result (new ≡ self.old))) }
     {
         seen_grows();
-        let finding = self.advance(bit)?;
-        Ok(lent(&self.decoder, finding))
+        let seen_event = self.advance(bit)?;
+        Ok(lent(&self.decoder, seen_event))
     }
 
     /// A frame of the history, of which the oldest has the number 0.

@@ -21,7 +21,7 @@ use bus_dictionary::Dictionary;
 use bus_fcs::Check;
 use bus_line::laws::{frame_is_spelled, reports_are, settled_places};
 use bus_line::{Consumed, Event, LineDecoder, PlaceLimit};
-use bus_pairing::{Conversation, Finding, Line, Seen};
+use bus_pairing::{Conversation, Line, Seen, SeenEvent};
 
 /// The conversation takes the event that the last bit of a line decided, if it decided one. `line` is `None` where
 /// there is one line.
@@ -53,12 +53,12 @@ pub(crate) fn decode_bit<C: Check>(
     conversation: &mut Conversation,
     line: Option<Line>,
     bit: bool,
-) -> Result<Option<Finding>, PlaceLimit>
+) -> Result<Option<SeenEvent>, PlaceLimit>
     requires reached { Stands C.check decoder.old }
     requires room { decoder.old.place < most_places → HasRoom conversation.old }
     ensures limit { IsErr result ↔ (most_places ≤ decoder.old.place) }
-    ensures reports { IfOk result (λ finding. Decodes C.check line decoder.old conversation.old (bit ∷ [])
-        (option_map (found_on line decoder.new.octets) finding) decoder.new conversation.new) }
+    ensures reports { IfOk result (λ seen_event. Decodes C.check line decoder.old conversation.old (bit ∷ [])
+        (option_map (found_on line decoder.new.octets) seen_event) decoder.new conversation.new) }
     ensures unchanged { OnErr result ((decoder.new ≡ decoder.old) × (conversation.new ≡ conversation.old)) }
 {
     let event = decoder.advance(bit)?;
@@ -70,7 +70,7 @@ pub(crate) fn decode_bit<C: Check>(
 #[inline(always)]
 pub fn show<X, L: ReportObserver<X>>(
     line: Option<Line>,
-    finding: Option<&Finding>,
+    seen_event: Option<&SeenEvent>,
     octets: &[u8],
     dictionary: &Dictionary,
     observer: &mut L,
@@ -79,12 +79,12 @@ pub fn show<X, L: ReportObserver<X>>(
     requires room { L.has_room observer.old 1 }
     requires fits { length octets.now ≤ most_octets }
     ensures observed { L.observes dictionary.now observer.old out.old
-        (option_to_list (option_map (found_on line octets.now) (option_copied finding.entry)))
+        (option_to_list (option_map (found_on line octets.now) (option_copied seen_event.entry)))
         observer.new out.new }
     ensures left { (more : ℕ) → L.has_room observer.old (1 + more) → L.has_room observer.new more }
 {
-    if let Some(finding) = finding {
-        observer.observe(line, finding, octets, dictionary, out);
+    if let Some(seen_event) = seen_event {
+        observer.observe(line, seen_event, octets, dictionary, out);
     }
 }
 
@@ -134,7 +134,7 @@ pub fn observe_bits<C: Check, X, L: ReportObserver<X>>(
 
 /// What the last report was found to be, if the last bits decided it.
 #[inline(always)]
-pub fn newest(conversation: &Conversation, is_decided: bool) -> Option<&Finding>
+pub fn newest(conversation: &Conversation, is_decided: bool) -> Option<&SeenEvent>
     ensures { option_copied result ≡ newest is_decided conversation.now.last }
 {
     if is_decided {
@@ -144,16 +144,19 @@ pub fn newest(conversation: &Conversation, is_decided: bool) -> Option<&Finding>
     }
 }
 
-/// A finding as it is handed out, with the octets of a frame that the line's last bit closed.
+/// What was seen as it is handed out, with the octets of a frame that the line's last bit closed.
 #[inline(always)]
-pub(crate) fn lent<C: Check>(decoder: &LineDecoder<C>, finding: Option<Finding>) -> Option<Seen<'_>>
-    ensures only_line { shown_option result ≡ option_map (found decoder.now.octets) finding }
+pub(crate) fn lent<C: Check>(
+    decoder: &LineDecoder<C>,
+    seen_event: Option<SeenEvent>,
+) -> Option<Seen<'_>>
+    ensures only_line { shown_option result ≡ option_map (found decoder.now.octets) seen_event }
     ensures either_line { (line : Line) →
-        shown_option_on line result ≡ option_map (found_on (Some line) decoder.now.octets) finding }
+        shown_option_on line result ≡ option_map (found_on (Some line) decoder.now.octets) seen_event }
     ensures fits { IsKeepable result }
 {
-    match finding {
-        Some(finding) => Some(finding.with_octets(decoder.octets())),
+    match seen_event {
+        Some(seen_event) => Some(seen_event.with_octets(decoder.octets())),
         None => None,
     }
 }

@@ -26,8 +26,8 @@ mod usage;
 
 pub use analyser::Analyser;
 pub use bus_pairing::{
-    Counts, Ending, Finding, Kept, Line, LoggedPiece, LoggedReport, Outcome, PairEnding, PairKept,
-    PairLog, PairLogged, PairSink, Pairing, Pending, ReportLog, ReportSink, Seen, SinkRefused,
+    Counts, Ending, Kept, Line, LoggedPiece, LoggedReport, Outcome, PairEnding, PairKept, PairLog,
+    PairLogged, PairSink, Pairing, Pending, ReportLog, ReportSink, Seen, SeenEvent, SinkRefused,
     Span, Verdict,
 };
 pub use decode::{newest, observe_bits, show};

@@ -7,7 +7,7 @@ ghost use Rattle.bus_pairing.specs.Seen.{SeenReport};
 ghost use Rattle.bus_pairing.specs.Shown.{found_on};
 
 use bus_dictionary::Dictionary;
-use bus_pairing::{Finding, Line};
+use bus_pairing::{Line, SeenEvent};
 
 /// Observes what is seen on a line, or on two, one report after another, and refuses none. For each report it is lent
 /// an `X`, what it writes to.
@@ -23,7 +23,7 @@ pub trait ReportObserver<X> {
     fn observe(
         &mut self,
         line: Option<Line>,
-        finding: &Finding,
+        seen_event: &SeenEvent,
         octets: &[u8],
         dictionary: &Dictionary,
         out: &mut X,
@@ -31,7 +31,7 @@ pub trait ReportObserver<X> {
         requires room { has_room self.old 1 }
         requires fits { length octets.now ≤ most_octets }
         ensures observed { observes dictionary.now self.old out.old
-            (found_on line octets.now finding.now ∷ []) self.new out.new }
+            (found_on line octets.now seen_event.now ∷ []) self.new out.new }
         ensures left { (more : ℕ) → has_room self.old (1 + more) → has_room self.new more };
 
     ghost observes_none: { (d : List FrameType) (l : Self) (x : X) → observes d l x [] l x };

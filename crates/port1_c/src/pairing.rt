@@ -68,8 +68,8 @@ pub extern "C" fn port1_pair_take(
         return BAD_ARGUMENT;
     };
     let mut pairing = pair.load();
-    let finding = pairing.pair(&Table { entries }, line, event, octets);
+    let seen_event = pairing.pair(&Table { entries }, line, event, octets);
     *pair = Port1Pair::of(pairing);
-    *seen = Port1Seen::of(&finding);
+    *seen = Port1Seen::of(&seen_event);
     OK
 }

@@ -4,7 +4,7 @@ ghost use Rattle.std.specs.Prelude.{◌≡◌, ◌≢◌, ◌≤◌, ◌==◌, n
 ghost use Rattle.port1_c.specs.Pair.{IsCodedSeen, outcome_told, standing_told, standing_by, verdict_told};
 
 use bus_dictionary::Standing;
-use bus_pairing::{Finding, Outcome};
+use bus_pairing::{SeenEvent, Outcome};
 
 /// How a frame stands to the table, or 0 for a piece that is no frame. The numbers are those of
 /// `c/include/port1.h`, with PORT1_ before each name.
@@ -105,15 +105,15 @@ fn outcome_number(outcome: Outcome) -> u32
 
 impl Port1Seen {
     /// What follows from a report.
-    pub(crate) fn of(finding: &Finding) -> Self
+    pub(crate) fn of(seen_event: &SeenEvent) -> Self
         ensures coded { IsCodedSeen result }
-        ensures standing { standing_told result ≡ finding.now.standing }
-        ensures verdict { verdict_told result ≡ finding.now.verdict }
-        ensures stray { not (result.stray == 0) ≡ finding.now.stray }
+        ensures standing { standing_told result ≡ seen_event.now.standing }
+        ensures verdict { verdict_told result ≡ seen_event.now.verdict }
+        ensures stray { not (result.stray == 0) ≡ seen_event.now.stray }
     {
-        let stands = Stands::of(finding.standing);
-        let stray = u32::from(finding.stray);
-        match finding.verdict {
+        let stands = Stands::of(seen_event.standing);
+        let stray = u32::from(seen_event.stray);
+        match seen_event.verdict {
             None => Port1Seen::undecided(stands, stray),
             Some(verdict) => Port1Seen {
                 verdict: outcome_number(verdict.outcome),

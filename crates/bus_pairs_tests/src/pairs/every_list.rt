@@ -8,7 +8,7 @@ use bus_dictionary::Dictionary;
 use bus_fcs::{Check, OctetCheck};
 use bus_line::{OwnedPiece, Piece, reports_whole};
 use bus_rows::{bits_of_pattern, octets_of};
-use bus_watch::{Finding, Line, PairAnalyser, PairSink, ReportObserver, Seen, SinkRefused};
+use bus_watch::{Line, PairAnalyser, PairSink, ReportObserver, Seen, SeenEvent, SinkRefused};
 use std::alloc::Global;
 use std::process::Abort;
 
@@ -152,13 +152,13 @@ impl ReportObserver<u64> for Comparing<'_> {
     fn observe(
         &mut self,
         line: Option<Line>,
-        finding: &Finding,
+        seen_event: &SeenEvent,
         octets: &[u8],
         dictionary: &Dictionary,
         out: &mut u64,
     ) {
         *out = out.saturating_add(1);
-        let seen = finding.with_octets(octets);
+        let seen = seen_event.with_octets(octets);
         let is_taken = line.is_some_and(|line| self.take(line, &seen).is_ok());
         self.differs = !is_taken || self.differs;
     }

@@ -19,7 +19,7 @@ use bus_dictionary::Dictionary;
 use bus_fcs::Check;
 use bus_line::laws::{reports_grow, settled_places};
 use bus_line::{LineDecoder, LineFault, PlaceLimit};
-use bus_pairing::{Conversation, Counts, Finding, Line, PairEnding, PairKept};
+use bus_pairing::{Conversation, Counts, Line, PairEnding, PairKept, SeenEvent};
 use std::alloc::Global;
 use std::marker::Model;
 
@@ -38,8 +38,8 @@ pub struct PairAnalyser<C: Check> {
 /// What a pair of bits decided on either line, without the octets of frames.
 #[derive(Clone, Copy)]
 pub(crate) struct PairFound {
-    pub(crate) first: Option<Finding>,
-    pub(crate) second: Option<Finding>,
+    pub(crate) first: Option<SeenEvent>,
+    pub(crate) second: Option<SeenEvent>,
 }
 
 impl<C: Check> Model for PairAnalyser<C> {
@@ -131,7 +131,7 @@ impl<C: Check> PairAnalyser<C> {
             Some(Line::Second),
             second,
         ) {
-            Ok(finding) => finding,
+            Ok(seen_event) => seen_event,
             Err(PlaceLimit) => unreachable!(),
         };
         Ok(PairFound {

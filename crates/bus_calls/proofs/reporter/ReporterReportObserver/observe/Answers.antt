@@ -36,7 +36,7 @@ returns-in-Err-clause-observed g c =
           let before = subst (λ cut. IsOut start (g.W.Write.contents c.args.w.now) c.args.self.now.page cut text) none
           so-far in
           let more = printed c.args.self.now.printer c.args.dictionary.now
-          (found_on c.args.line c.args.octets.now c.args.finding.now ∷ []) in
+          (found_on c.args.line c.args.octets.now c.args.seen_event.now ∷ []) in
           let short = cut-short start (g.W.Write.contents c.args.w.now) c.args.self.now.page.text
           c.args.self.now.page.written text c.in-Err.cut.sent before c.in-Err.ensures.short in (
             cuts-more start _ text more c.in-Err.cut.sent (c.in-Err.ensures.turned start text before),
@@ -51,7 +51,7 @@ returns-in-Err-clause-observed g c =
 pub returns-clause-observed : goal.returns-clause-observed
 returns-clause-observed g c =
     let none : c.args.self.now.cut ≡ None = not-cut c.args.self.now.cut (c.if-is_some.ensures) in
-    let seen = found_on c.args.line c.args.octets.now c.args.finding.now in
+    let seen = found_on c.args.line c.args.octets.now c.args.seen_event.now in
     record {
       printer = refl;
       out = λ start text so-far.
@@ -63,7 +63,7 @@ returns-clause-observed g c =
           (pages-printed c.put.ensures (c.in_default-make_room.ensures.turned start text before)));
       stays = λ sent cut. cut;
       counted = λ all is whole. c.count.ensures.counted all c.args.octets.now is
-          ∙ counted-on all c.args.line c.args.octets.now c.args.finding.now;
+          ∙ counted-on all c.args.line c.args.octets.now c.args.seen_event.now;
       few = λ most few. c.count.ensures.few most few;
       octets = omega (arith, c.put.ensures.len, c.put.ensures.written, c.in_default-make_room.ensures.sum);
     }
@@ -86,7 +86,7 @@ returns-in_default-clause-observed g c = record {
   out = λ start text so-far. rw (c.in_default.is, append-nil text) so-far;
   stays = λ sent cut. cut;
   counted = λ all is whole. c.count.ensures.counted all c.args.octets.now is
-      ∙ counted-on all c.args.line c.args.octets.now c.args.finding.now;
+      ∙ counted-on all c.args.line c.args.octets.now c.args.seen_event.now;
   few = λ most few. c.count.ensures.few most few;
   octets = omega arith;
 }

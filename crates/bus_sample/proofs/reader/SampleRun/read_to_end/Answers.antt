@@ -123,8 +123,8 @@ returns-clause-read g c =
 
 pub returns-in-Ok-eq0-clause-failures : goal.returns-in-Ok-eq0-clause-failures
 returns-in-Ok-eq0-clause-failures g c =
-    fails-at-end c.loop-turn.self c.loop-turn.octets c.finish.result _ _ (c.in-Ok-eq0.ensures.same ∙ c.loop-turn.invariant.unfailed)
-    c.finish.ensures
+    fails-at-end c.loop-turn.self c.loop-turn.octets c.finish.result _ _
+    (c.in-Ok-eq0.ensures.same ∙ c.loop-turn.invariant.unfailed) c.finish.ensures
 
 pub returns-in_err-read_buffer-clause-failures : goal.returns-in_err-read_buffer-clause-failures
 returns-in_err-read_buffer-clause-failures g c =

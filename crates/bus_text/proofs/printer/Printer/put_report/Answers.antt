@@ -10,15 +10,15 @@ pub returns-then-not-passes : goal.returns-then-not-passes
 returns-then-not-passes c =
     put-dropped c.args.self.now.filter
     (report_line c.args.self.now.heads c.args.dictionary.now
-    (found_on c.args.line c.args.octets.now c.args.finding.now)) _ c.args.page.now
+    (found_on c.args.line c.args.octets.now c.args.seen_event.now)) _ c.args.page.now
     (sym (c.passes.ensures c.args.octets.now) ∙ c.if-not-passes.true)
 
 pub returns : goal.returns
 returns c =
     let page = c.args.page.now.text.items in
-    let r = reported c.args.octets.now c.args.finding.now.event in
+    let r = reported c.args.octets.now c.args.seen_event.now.event in
     let front = span_text (span_of r) ++ report_word r.kind in
-    let head = head_part c.args.self.now.heads c.args.dictionary.now c.args.finding.now.standing in
+    let head = head_part c.args.self.now.heads c.args.dictionary.now c.args.seen_event.now.standing in
     let end : c.push.new.self.items ≡ c.put_head.new.page.text.items ++ codes "\n" = search rules in
     let line = line_number c.args.line in
     let told : c.push_front.new.text.items ≡ page ++ (line ++ front) =
@@ -30,6 +30,6 @@ returns c =
     ∙ append_assoc page ((line ++ front) ++ head) (codes "\n") in
     put-left c.args.self.now.filter
     (report_line c.args.self.now.heads c.args.dictionary.now
-    (found_on c.args.line c.args.octets.now c.args.finding.now))
+    (found_on c.args.line c.args.octets.now c.args.seen_event.now))
     (sym (c.passes.ensures c.args.octets.now) ∙ c.if-not-passes.false)
     (record { bytes = all; len = grind (arith, common_steps); written = search rules })

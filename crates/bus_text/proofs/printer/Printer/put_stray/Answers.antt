@@ -21,14 +21,14 @@ is_told line heads stray span standing h s = ap (λ (b : Bool). strays_at line b
 
 pub returns-then-not-self : goal.returns-then-not-self
 returns-then-not-self c =
-    let b = c.args.finding.now in
+    let b = c.args.seen_event.now in
     put-none c.args.self.now.filter (strays_at c.args.line c.args.self.now.heads b.stray b.event.span b.standing) _
     c.args.page.now
     (no_heads c.args.line c.args.self.now.heads b.stray b.event.span b.standing (search (rules, tests)))
 
-pub returns-then-not-finding : goal.returns-then-not-finding
-returns-then-not-finding c =
-    let b = c.args.finding.now in
+pub returns-then-not-seen_event : goal.returns-then-not-seen_event
+returns-then-not-seen_event c =
+    let b = c.args.seen_event.now in
     let heads : c.args.self.now.heads ≡ true = search (rules, tests) in
     let stray : b.stray ≡ false = search (rules, tests) in
     put-none c.args.self.now.filter (strays_at c.args.line c.args.self.now.heads b.stray b.event.span b.standing) _
@@ -38,7 +38,7 @@ returns-then-not-finding c =
 
 pub returns-in_default : goal.returns-in_default
 returns-in_default c =
-    let b = c.args.finding.now in
+    let b = c.args.seen_event.now in
     put-none c.args.self.now.filter (strays_at c.args.line c.args.self.now.heads b.stray b.event.span b.standing) _
     c.args.page.now
     (is_told c.args.line c.args.self.now.heads b.stray b.event.span b.standing (search (rules, tests))
@@ -47,7 +47,7 @@ returns-in_default c =
 
 pub returns-in_default-frame_type : goal.returns-in_default-frame_type
 returns-in_default-frame_type c =
-    let b = c.args.finding.now in
+    let b = c.args.seen_event.now in
     put-none c.args.self.now.filter (strays_at c.args.line c.args.self.now.heads b.stray b.event.span b.standing) _
     c.args.page.now
     (is_told c.args.line c.args.self.now.heads b.stray b.event.span b.standing (search (rules, tests))

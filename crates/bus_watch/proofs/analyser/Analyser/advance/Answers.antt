@@ -16,7 +16,7 @@ decode_bit-requires-clause-room g c = λ place.
 
 pub invariant_of-self-2 : goal.invariant_of-self-2
 invariant_of-self-2 g c =
-    let decoded = c.in_ok-finding.ensures.reports in
+    let decoded = c.in_ok-seen_event.ensures.reports in
     let bits = c.args.bit ∷ [] in
     let new : AnalyserState g.row.C.Denot = record
     { decoder = c.decode_bit.new.decoder; conversation = c.decode_bit.new.conversation } in
@@ -33,7 +33,7 @@ pub returns-clause-sees : goal.returns-clause-sees
 returns-clause-sees g c =
     let new : AnalyserState g.row.C.Denot = record
     { decoder = c.decode_bit.new.decoder; conversation = c.decode_bit.new.conversation } in
-    let told = option_to_list (option_map (found c.decode_bit.new.decoder.octets) c.in_ok-finding.finding) in
+    let told = option_to_list (option_map (found c.decode_bit.new.decoder.octets) c.in_ok-seen_event.seen_event) in
     subst (λ a. AdvancesAnalyser g.C.Check.check a (c.args.bit ∷ []) told new) c.self.view_is
     (sees-decoded g.C.Check.check (analyser_state c.self.inside) new (c.args.bit ∷ []) _ (omega arith)
-    c.in_ok-finding.ensures.reports)
+    c.in_ok-seen_event.ensures.reports)

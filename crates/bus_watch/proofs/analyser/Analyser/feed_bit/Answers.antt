@@ -12,7 +12,8 @@ returns-clause-refused g c = elim c.match-lent.branch [
   | in-None w ↦ rw (w.result-is) tt
   | in-Some w ↦
       let shown =
-      ap (λ (a : AnalyserState g.row.C.Denot). option_map (found a.decoder.octets) c.in-Ok.finding) (sym c.self.view_is)
+      ap (λ (a : AnalyserState g.row.C.Denot). option_map (found a.decoder.octets) c.in-Ok.seen_event)
+      (sym c.self.view_is)
       ∙ sym c.lent.ensures.only_line ∙ ap shown_option w.in-Some.is in
       let sees =
       subst (λ o. AdvancesAnalyser g.C.Check.check c.args.self.now (c.args.bit ∷ [])

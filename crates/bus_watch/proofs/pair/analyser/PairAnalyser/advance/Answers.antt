@@ -53,7 +53,7 @@ next-state g c =
 
 sees : (g : Over) (c : goal.In-Ok g) → AdvancesPairs g.C.Check.check (pair_state c.self.inside)
     ((c.args.first, c.args.second) ∷ [])
-    (seen_of_pair (next-state g c) (record { first = c.in_ok-found_first.found_first; second = c.in-Ok.finding }))
+    (seen_of_pair (next-state g c) (record { first = c.in_ok-found_first.found_first; second = c.in-Ok.seen_event }))
     (next-state g c)
 sees g c =
     sees-pair g.C.Check.check c.args.first c.args.second (pair_state c.self.inside) (next-state g c)

@@ -13,7 +13,7 @@ use bus_line::{Event, EventKind};
 /// One report, and what follows from it for the talk on the line, without the octets of a frame, which
 /// whoever decoded it lends, as `LineDecoder::octets` of `bus_line` does.
 #[derive(Clone, Copy, Debug, PartialEq, Eq)]
-pub struct Finding {
+pub struct SeenEvent {
     /// The report itself, with its bit places.
     pub event: Event,
     /// How a frame's head matches the dictionary; nothing else has a standing.
@@ -24,10 +24,10 @@ pub struct Finding {
     pub stray: bool,
 }
 
-impl Finding {
+impl SeenEvent {
     /// What stands where there was no report.
     pub(crate) fn nothing() -> Self {
-        Finding {
+        SeenEvent {
             event: Event {
                 span: Span { first: 0, past: 0 },
                 kind: EventKind::Idle,
@@ -38,7 +38,7 @@ impl Finding {
         }
     }
 
-    /// The finding as it is handed out; a frame's piece borrows `octets`.
+    /// The same as it is handed out; a frame's piece borrows `octets`.
     pub fn with_octets<'a>(self, octets: &'a [u8]) -> Seen<'a>
         ensures only_line { shown result ≡ found octets.now self }
         ensures either_line { (line : Line) → shown_on (Some line) result ≡ found_on (Some line) octets.now self }
