@@ -21,7 +21,7 @@ use Rattle.bus_text.specs.Pages.{Pages}
 use Rattle.bus_text.specs.Put.{TextStopsAt}
 use Rattle.bus_text.proofs.PagesLemmas.{cuts-more, pages-more}
 use Rattle.bus_sample.specs.Marks.{mark, mark_at, marks_text, whole_text, line_end}
-use Rattle.bus_sample.specs.Internal.Runs.{HasMarked, HasText, length_of}
+use Rattle.bus_sample.specs.Internal.Runs.{HasMarked, HasText}
 use Rattle.bus_sample.specs.declared.marks.Marks.{Marks}
 
 pub marks-more : (xs : List Arrival) (x : Arrival) →

@@ -9,13 +9,14 @@ use Rattle.std.specs.Io.KnownBytes.{IsAtEnd}
 use Rattle.arrayvec.specs.ArrayVec.{array_vec_len}
 use Rattle.bus_sample.specs.Recording.{recorded, cut_record, size_of}
 use Rattle.bus_sample.specs.Samples.{FailsAt, FailsBy, IsFrontOf}
-use Rattle.bus_sample.specs.Internal.Runs.{RunAfter, HasRead, StopsWith, RecordingStopsWith}
+use Rattle.bus_sample.specs.Internal.Runs.{RunAfter, HasRead, IsSameRecord, StopsWith, RecordingStopsWith}
 use Rattle.bus_sample.specs.declared.options.Form.{Form}
+use Rattle.bus_sample.specs.declared.options.Form.TheVariants.{Samples}
 use Rattle.bus_sample.specs.declared.reader.SampleRun.{SampleRun}
 use Rattle.bus_sample.specs.declared.fault.SampleFault.{SampleFault}
 use Rattle.bus_sample.specs.declared.fault.SampleFault.TheVariants.{Octets, CutOff, TooMany, Read, ReadsLimit}
 use Rattle.bus_sample.specs.declared.fault.SampleFault.TheVariants.{Facts, Write}
-use Rattle.bus_sample.proofs.RecordLemmas.{recorded-grows}
+use Rattle.bus_sample.proofs.RecordLemmas.{recorded-grows, octets-recorded, octets-cut}
 
 -- a record is whole
 pub read-whole : (start now : Option (List ℕ)) (new : SampleRun) (form : Form) (xs ss : List ℕ)
@@ -29,6 +30,20 @@ read-whole start now new form xs ss (Ok _) same is none part taken = record {
   part = part ∙ (sym none ∙ ap (λ f. cut_record f xs) (sym same));
 }
 read-whole start now new form xs ss (Err fault) same is none part halts = rw is halts
+
+-- samples of an octet each are whole
+pub samples-read : (start now : Option (List ℕ)) (old new : SampleRun) (xs more : List ℕ)
+    (r : Result (Unit {0}) SampleFault) → old.options.form ≡ Samples 1 → IsSameRecord old new →
+    old.part.items ≡ cut_record old.options.form xs →
+    MatchResult r (λ _. RunAfter start now new (recorded old.options.form xs ++ more))
+    (λ fault. StopsWith start now new (recorded old.options.form xs ++ more) fault) →
+    MatchResult r (λ _. HasRead start now new (xs ++ more))
+    (λ fault. StopsWith start now new (recorded old.options.form (xs ++ more)) fault)
+samples-read start now old new xs more r is same part taken =
+    let form = old.options.form in
+    read-whole start now new form (xs ++ more) (recorded form xs ++ more) r (ap (λ o. o.form) same.1)
+    (octets-recorded form is xs more) (octets-cut form is (xs ++ more))
+    (ap (λ p. p.items) same.0 ∙ (part ∙ octets-cut form is xs)) taken
 
 -- a fault among the first samples is one among more of them
 front-further : (xs ys zs : List ℕ) → IsFrontOf zs ys → IsFrontOf ys xs → IsFrontOf zs xs

@@ -10,7 +10,7 @@ use Rattle.bus_sample.proofs.sample.sample_recording.Goals as goal
 pub returns-in-Ok-clause-samples : goal.returns-in-Ok-clause-samples
 returns-in-Ok-clause-samples g c =
     let read = c.in-Ok.ensures.read in
-    let given = c.in_ok-run.ensures.given.0 in
+    let given = c.in_ok-run.ensures.given in
     let options = c.in-Ok.ensures.options ∙ given in
     let start = g.E.Write.contents c.args.e.now in
     let now = g.E.Write.contents c.read_to_end.new.e in (
@@ -24,7 +24,7 @@ returns-in-Ok-clause-samples g c =
 pub returns-in-Err-clause-samples : goal.returns-in-Err-clause-samples
 returns-in-Err-clause-samples g c =
     let read = c.in-Err.ensures.read in
-    let given = c.in_ok-run.ensures.given.0 in
+    let given = c.in_ok-run.ensures.given in
     let options = c.in-Err.ensures.options ∙ given in
     let after = g.R.RecordingReader.remaining c.read_to_end.new.r in
     let start = g.E.Write.contents c.args.e.now in

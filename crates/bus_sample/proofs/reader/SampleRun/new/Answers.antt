@@ -1,4 +1,4 @@
-use Rattle.std.proofs.Common.{◌≤◌, refl, sym, ◌∙◌, arith}
+use Rattle.std.proofs.Common.{◌≤◌, sym, ◌∙◌, arith}
 use Rattle.bus_sample.specs.Recording.{size_of}
 use Rattle.bus_sample.proofs.RecordLemmas.{recorded-none, cut-none}
 use Rattle.bus_sample.proofs.reader.SampleRun.new.Goals as goal

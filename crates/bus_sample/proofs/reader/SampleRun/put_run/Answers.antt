@@ -7,7 +7,7 @@ pub loop-left-init : goal.loop-left-init
 loop-left-init g c = record {
   within = omega arith;
   taken = λ sample is start ss taken. rw (run-none ss c.args.count sample) taken;
-  same = (refl, refl, refl);
+  same = (refl, refl);
   sound = c.requires;
 }
 
@@ -16,7 +16,7 @@ returns-in_err-left-clause-taken g c =
     let raised = err_from_is_err_and c.from_residual.result c.from_residual.ensures.1 in
     rw (raised.1, raised.2) (λ sample is start ss taken.
     rw (run-all ss c.args.count c.loop-left.left sample c.loop-left.invariant.within)
-    (c.in_err-left.ensures.taken sample (rw (c.loop-left.invariant.same.2) is) start _
+    (c.in_err-left.ensures.taken sample (rw (c.loop-left.invariant.same.1) is) start _
     (c.loop-left.invariant.taken sample is start ss taken)))
 
 pub loop-left-preserved : goal.loop-left-preserved
@@ -28,9 +28,9 @@ loop-left-preserved g c =
       taken = λ sample is start ss taken.
           rw (run-on ss c.args.count c.loop-left.left n sample c.loop-left.invariant.within
           c.in_ok-left.ensures.count.1)
-          (c.in_ok-left.ensures.taken sample (rw (before.2) is) start _
+          (c.in_ok-left.ensures.taken sample (rw (before.1) is) start _
           (c.loop-left.invariant.taken sample is start ss taken));
-      same = (same.0 ∙ before.0, same.1 ∙ before.1, same.2 ∙ before.2);
+      same = (same.0 ∙ before.0, same.1 ∙ before.1);
       sound = c.put_some.ensures.sound;
     }
 

@@ -1,4 +1,4 @@
-use Rattle.std.proofs.Common.{◌∙◌, ap, rules, arith}
+use Rattle.std.proofs.Common.{◌∙◌, ap, rules}
 use Rattle.std.proofs.lemmas.Result.{err_from_is_err_and}
 use Rattle.bus_sample.proofs.ReadLemmas.{halts-at, read-next, all-octets}
 use Rattle.bus_sample.proofs.reader.SampleRun.read_octets.Goals as goal

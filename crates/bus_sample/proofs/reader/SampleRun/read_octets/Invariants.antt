@@ -1,4 +1,4 @@
-use Rattle.std.proofs.Common.{◌≡◌, ◌+◌, ◌++◌, List, ℕ, Option, take}
+use Rattle.std.proofs.Common.{◌≡◌, ◌++◌, List, ℕ, Option, take}
 use Rattle.bus_sample.specs.Internal.Runs.{HasRead, IsSoundRun}
 use Rattle.bus_sample.proofs.reader.SampleRun.read_octets.Given as goal
 

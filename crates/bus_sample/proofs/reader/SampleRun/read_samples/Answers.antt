@@ -1,4 +1,4 @@
-use Rattle.std.proofs.Common.{◌∙◌, ap, subst, sym, rules, arith}
+use Rattle.std.proofs.Common.{◌∙◌, ap, subst, sym, rules}
 use Rattle.std.proofs.lemmas.Result.{err_from_is_err_and}
 use Rattle.bus_sample.specs.Internal.Runs.{HasRead}
 use Rattle.bus_sample.proofs.ReadLemmas.{all-octets, behind-next, halts-behind}
