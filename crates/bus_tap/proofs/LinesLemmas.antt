@@ -1,5 +1,5 @@
 -- An arrival leads two decoders on, with what is kept of places.
-use Rattle.std.proofs.Common.{◌≡◌, ℕ, ◌+◌, ◌-◌, ◌%◌, ◌^◌, ◌≤◌, ◌==◌, Bool, true, false, if◌then◌else◌, List, []}
+use Rattle.std.proofs.Common.{◌≡◌, ℕ, ◌+◌, ◌-◌, ◌%◌, ◌^◌, ◌≤◌, ◌==◌, Bool, true, false, List, []}
 use Rattle.std.proofs.Common.{◌∷◌, ◌++◌, length, map, Option, Some, None, sym, ap, ◌∙◌, subst, arith, append-nil}
 use Rattle.std.proofs.Common.{◌⊎◌, inl, inr}
 use Rattle.std.specs.List.{slice_get}
@@ -17,7 +17,7 @@ use Rattle.bus_tap.specs.Arrival.{Arrival, own, place_of}
 use Rattle.bus_tap.specs.Places.{KeepsPlaces, Notes, AreLocated}
 use Rattle.bus_tap.specs.Lines.{LinesState, AreAfter, PushesLines, DecodesBit, BeginsAt, OpensWith}
 use Rattle.bus_tap.specs.declared.places.BitPlaces.{BitPlaces}
-use Rattle.bus_tap.proofs.ArrivalLemmas.{own-append, before-append, before-within}
+use Rattle.bus_tap.proofs.ArrivalLemmas.{own-append, before-within}
 use Rattle.bus_tap.proofs.ArrivedLemmas.{decides-first}
 use Rattle.bus_tap.proofs.LocatedLemmas.{LastBit, decides-located, same-number, some-is}
 use Rattle.bus_tap.proofs.PlacesLemmas.{places-first, places-second, opened-place, WasOpen, begun-within}

@@ -1,5 +1,4 @@
-use Rattle.std.proofs.Common.{refl, ◌-◌}
-use Rattle.bus_tap.specs.Places.{IsPast}
+use Rattle.std.proofs.Common.{refl}
 use Rattle.bus_tap.proofs.PlacesLemmas.{open-span}
 use Rattle.bus_tap.proofs.places.BitPlaces.open_span.Goals as goal
 

@@ -1,7 +1,7 @@
 use Rattle.std.proofs.Common.{refl, ap, ◌∙◌, sym}
 use Rattle.bus_line.specs.declared.line.Line.TheVariants.{First, Second}
 use Rattle.bus_tap.specs.Internal.Held.{held_state}
-use Rattle.bus_tap.specs.Sampled.{bit_on, with_sample}
+use Rattle.bus_tap.specs.Sampled.{bit_on}
 use Rattle.bus_tap.proofs.SampledLemmas.{held-more, edge-is, timed-more}
 use Rattle.bus_tap.proofs.sampler.Sampler.sample.Goals as goal
 

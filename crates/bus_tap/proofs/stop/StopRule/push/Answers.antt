@@ -1,4 +1,4 @@
-use Rattle.std.proofs.Common.{◌≡◌, ℕ, ◌+◌, ◌-◌, ◌^◌, refl, sym, ap, ◌∙◌, arith, min, if◌then◌else◌}
+use Rattle.std.proofs.Common.{◌≡◌, ◌+◌, ◌-◌, ◌^◌, refl, sym, ap, ◌∙◌, arith, min, if◌then◌else◌}
 use Rattle.std.specs.Prelude.{nat_lt}
 use Rattle.bus_tap.specs.Stopped.{on_time_until}
 use Rattle.bus_line.specs.declared.line.Line.TheVariants.{First, Second}
