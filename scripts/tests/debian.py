@@ -10,12 +10,10 @@ from typing import Dict, Iterator, List, NamedTuple, Sequence, Tuple
 
 from needs import LOADER_OF_ARM, Skipped, needs, needs_file
 from tests import installing
-from tests.case import ONE_CALL, SECONDS, TOP, Run, Test, Word, packed
+from tests.case import ONE_CALL, SECONDS, TOP, Word, packed
 from tests.packages import ARCHIVE, ONE_FRAME, told, unlike
 from tests.python_module import captures, orders
 from tests.releasing import LIBRARY_FOR_ARM, packages, tarball, version
-
-RUNS: List[Run] = []
 
 # The errors of lintian that stand: nobody has chosen a licence yet, so no package has a file of one.
 ERRORS_THAT_STAND = ["no-copyright-file"]
@@ -252,6 +250,3 @@ def library_for_arm(folder: Path) -> List[str]:
             problems.append(f"{name} {words}: wanted {wanted}, got {got}"[:2000])
     shown = told([*EMULATED, there["list"]], ONE_CALL)
     return problems + unlike("list", ONE_FRAME if ARCHIVE_FOR_ARM.is_file() else "", shown)
-
-
-TESTS: List[Test] = [lintian, tarball_at_work, installed_and_taken_away, installed_for_both, library_for_arm]

@@ -485,18 +485,3 @@ def what_is_run(folder: Path) -> List[str]:
     due_at = f"# bus_line.specs.Due, line {number}\ndef bus_line__Due__due_at(a0, a1, a2):"
     wanted = [due_at, "# std.specs.Prelude.drop: "]
     return [f"{each!r} is not written" for each in wanted if each not in text]
-
-
-TESTS = [
-    known_forms,
-    unknown_forms,
-    lists_of_cells,
-    what_is_run,
-    as_it_is_written,
-    as_the_program,
-    on_random_captures,
-    on_random_recordings,
-    on_dictionaries_with_faults,
-    on_long_captures,
-    on_too_long_a_capture,
-]

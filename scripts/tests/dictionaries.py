@@ -132,6 +132,3 @@ def nobody_reads_findings(folder: Path) -> List[str]:
     got = subprocess.run(words, stdout=writer, stderr=subprocess.PIPE, timeout=SECONDS)
     os.close(writer)
     return differing((2, ""), (got.returncode, got.stderr.decode()), "broken pipe")
-
-
-TESTS = [vectors, spoilt_files, things_missing, where_the_program_is, nobody_reads_findings]

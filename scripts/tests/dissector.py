@@ -228,14 +228,3 @@ def dissector_of_a_listing(folder: Path) -> List[str]:
     senders = [row[0] for row in ways(folder, [*words, "-r", path])]
     late = columns(folder, path, ["frame.number"], *words, "-Y", 'port1.type == 0 && frame.comment contains "late"')
     return compared([[*row, sender] for row, sender in zip(rows, senders)], wanted) + compared(late, [["3"]])
-
-
-TESTS = [
-    dissector_fields,
-    dissector_names,
-    dissector_filters,
-    dissector_ways,
-    dissector_of_malformed,
-    dissector_of_other_name,
-    dissector_of_a_listing,
-]

@@ -4,7 +4,7 @@ import random
 from pathlib import Path
 from typing import List
 
-from needs import needs, needs_module
+from needs import needs
 from tests.case import CALL, Run, lines, plain, ran, random_bits, written_by
 
 # Definitions as IEEE 1364 has them, other kinds of signals among them, the data before the clock.
@@ -208,7 +208,6 @@ def plain_dump(bits: str) -> bytes:
 
 def vcd_through_sigrok(folder: Path) -> List[str]:
     """The real sigrok-cli makes a session of a dump, and writes it as a dump of its own."""
-    needs_module("numpy")
     needs("sigrok-cli")
     bits = random_bits(random.Random(2), 20_000)
     dumped, session = folder / "tap.vcd", folder / "tap.sr"
@@ -217,6 +216,3 @@ def vcd_through_sigrok(folder: Path) -> List[str]:
     written = written_by(["sigrok-cli", "-i", session, "-O", "vcd"])
     got = ran(["recording-to-bits", "clk", "dat"], written)
     return [] if got.stdout == lines(bits) else [f"got {got.stdout[:99]!r}.. {got.stderr!r}"]
-
-
-TESTS = [vcd_through_sigrok]

@@ -4,12 +4,10 @@ import re
 from pathlib import Path
 from typing import List
 
-from tests.case import TOP, Run, listed, ran
+from tests.case import TOP, listed, ran
 from tests.simulated.failing_bus import RATE, ROUNDS, failing_bus
 from tests.listings import EXAMPLE, differing, objects_of, timed
 from tests.summaries import quantile, sentences_of, summary_of, table_of
-
-RUNS: List[Run] = []
 
 EXAMPLE_DICTIONARY = (TOP / "examples" / "port1-failure.toml").read_text(encoding="ascii")
 
@@ -122,6 +120,3 @@ def draft_of_example(_: Path) -> List[str]:
             wanted += ["answered = true", f"# window = {longest}"]
     got = [line for line in draft.splitlines() if " = " in line and line[:6] not in ("versio", "[[fram")]
     return differing(wanted, got, "entries")
-
-
-TESTS = [example_is_generated, example_places, summary_of_example, objects_of_example, draft_of_example]

@@ -1,7 +1,7 @@
 """Outputs of the commands that were kept, so that another writing of a command cannot change them unseen.
 
-`golden.json` has the status and both streams of each run, long ones by their SHA-256. Where an output is to change,
-this writes the file anew, and the change stands in CHANGELOG.md:
+`golden.json` has a line for each run: its name, status and both streams, long ones by their SHA-256. Where an output is
+to change, this writes the file anew, and the change stands in CHANGELOG.md:
 
     cd scripts && PYTHONPATH=../tests:. python3 -B -m tests.golden
 """
@@ -13,13 +13,11 @@ import subprocess
 import zipfile
 from functools import lru_cache
 from pathlib import Path
-from typing import Any, Callable, Dict, Iterator, List, NamedTuple, Sequence
+from typing import Any, Callable, Iterator, List, NamedTuple, Sequence
 
 from needs import needs
 from tests import listings, summaries
-from tests.case import SCRIPTS, TOP, Run, Test, plain, ran
-
-RUNS: List[Run] = []
+from tests.case import SCRIPTS, TOP, plain, ran
 
 KEPT = SCRIPTS / "tests" / "golden.json"
 
@@ -120,9 +118,9 @@ def shown(octets: bytes) -> str:
     return octets.decode() if len(octets) <= SHORT else f"sha256:{hashlib.sha256(octets).hexdigest()}"
 
 
-def outcome(case: Case) -> Dict[str, Any]:
+def outcome(case: Case) -> List[Any]:
     got = ran(case.words, case.stdin())
-    return {"status": got.returncode, "stdout": shown(got.stdout), "stderr": shown(got.stderr)}
+    return [got.returncode, shown(got.stdout), shown(got.stderr)]
 
 
 def problems_of(which: Callable[[Case], bool]) -> List[str]:
@@ -157,8 +155,6 @@ def session_of_samples(folder: Path) -> List[str]:
     return [] if same and plain(got.stdout.decode()) else [f"{got.returncode}, {got.stderr!r}, {got.stdout[:80]!r}"]
 
 
-TESTS: List[Test] = [outputs_of_small_inputs, outputs_of_big_listings, session_of_samples]
-
-
 if __name__ == "__main__":
-    KEPT.write_text(json.dumps({case.name: outcome(case) for case in cases()}, indent=1) + "\n", encoding="utf-8")
+    rows = ",\n".join(f" {json.dumps(case.name)}: {json.dumps(outcome(case))}" for case in cases())
+    KEPT.write_text(f"{{\n{rows}\n}}\n", encoding="utf-8")

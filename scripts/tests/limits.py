@@ -7,7 +7,7 @@ import xml.etree.ElementTree as Xml
 from pathlib import Path
 from typing import Dict, List, NamedTuple
 
-from tests.case import Run, Test, listed, ran
+from tests.case import listed, ran
 from tests.simulated.failing_bus import CONTROL, RATE, ROUND, ROUNDS, Line, frame_bits
 
 DICTIONARY = """version = 2
@@ -285,10 +285,3 @@ def holds_each_to_limits(folder: Path) -> List[str]:
         ]
         found += [] if counts == [count] * 3 else [f"{text!r}: {counts} are not judged, not {count}"]
     return found
-
-
-RUNS: List[Run] = []
-
-TESTS: List[Test] = [
-    *(finds_what_is_planted, holds_each_to_limits, compares_with_an_earlier_run, names_faults, summary_as_json),
-]

@@ -221,6 +221,3 @@ def big_listings(folder: Path) -> List[str]:
         if much > MOST_MEMORY or much - little > MORE_MEMORY:
             problems.append(f"{script}: {little} KiB, then {much} KiB")
     return problems
-
-
-TESTS = [drafts_are_accepted, big_listings]

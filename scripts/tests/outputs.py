@@ -10,15 +10,13 @@ from pathlib import Path
 from typing import Any, Dict, List, Tuple
 
 from needs import needs
-from tests.case import SCRIPTS, SECONDS, Run, ran
+from tests.case import SCRIPTS, SECONDS, ran
 
 RATE = "153600"
 
 LISTING = b"8 49 frame 108300fde5\n57 98 frame 118300fde5\n"
 
 LIMITS = "[bus]\nframes = 2\n"
-
-RUNS: List[Run] = []
 
 
 def compared(got: Any, wanted: Any) -> List[str]:
@@ -142,14 +140,3 @@ def catches(status: str, number: int) -> bool:
         key, _, value = line.partition(":")
         fields[key] = value.strip()
     return bool(int(fields.get("SigCgt", "0"), 16) >> (number - 1) & 1)
-
-
-TESTS = [
-    modes_stay,
-    links_stay,
-    pipe_in_tshark,
-    reports_into_pipes,
-    devices_stay,
-    standard_output_by_name,
-    a_pipe_without_reader,
-]

@@ -8,9 +8,7 @@ from pathlib import Path
 from typing import Dict, Iterator, List, NamedTuple, Sequence, Tuple
 
 from needs import Skipped, needs
-from tests.case import ONE_CALL, SECONDS, TOP, Run, Test, Word
-
-RUNS: List[Run] = []
+from tests.case import ONE_CALL, SECONDS, TOP, Word
 
 ARCHIVE = TOP / "crates" / "port1_c" / "out" / "libport1_c.a"
 
@@ -240,14 +238,3 @@ def taken_away(folder: Path) -> List[str]:
     prefix = moved(folder)
     make("uninstall", [f"PREFIX={prefix}", f"PYTHONDIR={prefix / 'lib' / 'python'}"])
     return [f"left: {path.relative_to(prefix)}" for path in prefix.rglob("*")]
-
-
-TESTS: List[Test] = [
-    made_without_a_toolchain,
-    shared_library,
-    by_pkg_config,
-    by_cmake,
-    versions_by_cmake,
-    without_shared_library,
-    taken_away,
-]

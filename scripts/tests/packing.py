@@ -75,6 +75,3 @@ def pack_and_unpack(_: Path) -> List[str]:
         if ran(["unpack-bits"], both).stdout != lines(bits):
             problems.append(f"{count} bits")
     return problems
-
-
-TESTS = [pack_and_unpack]

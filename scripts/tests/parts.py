@@ -21,7 +21,6 @@ from tests.case import (
     SECONDS,
     TOP,
     WINDOWS,
-    Run,
     listed,
     packed,
     plain,
@@ -29,8 +28,6 @@ from tests.case import (
     random_bits,
     written_by,
 )
-
-RUNS: List[Run] = []
 
 
 def dirty_line(generator: random.Random, count: int) -> str:
@@ -346,18 +343,3 @@ def parts_that_are_ended(folder: Path) -> List[str]:
         if (process.returncode, len(processes), left) != (-row.signals[-1], 2, []):
             problems.append(f"{row}: status {process.returncode}, {len(processes)} processes, left {left}")
     return problems
-
-
-TESTS = [
-    parts_of_dirty_lines,
-    parts_up_to_the_end,
-    parts_by_jobs,
-    parts_of_traffic,
-    parts_with_faults,
-    parts_of_two_lines,
-    parts_of_odd_words,
-    parts_to_sinks,
-    parts_step_by_step,
-    parts_that_fail,
-    parts_that_are_ended,
-]

@@ -6,7 +6,7 @@ import zipfile
 from pathlib import Path
 from typing import List, Sequence, Tuple
 
-from needs import needs, needs_module
+from needs import needs
 from tests.case import CALL, SCRIPTS, Run, lines, plain, ran, written_by
 
 SCRIPT = "recording-to-bits"
@@ -314,7 +314,6 @@ RUNS = [
 
 def session_of_sigrok(folder: Path) -> List[str]:
     """The real sigrok-cli makes a session of samples, and writes it as samples and as tables of its own."""
-    needs_module("numpy")
     needs("sigrok-cli")
     samples, session = folder / "tap.bin", folder / "tap.sr"
     samples.write_bytes(bytes(clock | data << 1 for clock, data in [*samples_of(BITS), (0, 0)]))
@@ -360,6 +359,3 @@ def beyond_one_read(folder: Path) -> List[str]:
         got["session"] = subprocess.run([SCRIPTS / SCRIPT, *CHANNELS[:2]], stdin=source, capture_output=True)
     good = {form: run.stdout == lines(bits) and run.stderr.count(b"\n") == 1 for form, run in got.items()}
     return [f"{form}: {run.stderr!r}, {len(run.stdout)}" for form, run in got.items() if not good[form]]
-
-
-TESTS = [session_of_sigrok, beyond_one_read]

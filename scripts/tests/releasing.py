@@ -16,10 +16,8 @@ from typing import Callable, Dict, List, NamedTuple, Set, Tuple
 
 from needs import Skipped, needs
 from tests import installing
-from tests.case import SECONDS, TOP, Run, Test, Word
+from tests.case import SECONDS, TOP, Word
 from tests.packages import ARCHIVE, Installed, problems_of_installed, told, unlike
-
-RUNS: List[Run] = []
 
 MAINTAINER = "Tess Ter <tess@example.org>"
 
@@ -528,23 +526,3 @@ def tools_that_are_missing(folder: Path) -> List[str]:
         says = f"dist: there is no {name}, which Debian has in the package {package}\n"
         problems += unlike(name, (2, says), (ran.returncode, ran.stderr))
     return problems
-
-
-TESTS: List[Test] = [
-    one_version,
-    packages_by_name,
-    without_arm,
-    contents_of_tarball,
-    contents_for_boards,
-    used_without_a_toolchain,
-    contents_of_program,
-    contents_of_libraries,
-    modes_and_owners,
-    another_time,
-    fields,
-    control_files,
-    proved_by,
-    same_octets,
-    refusals,
-    tools_that_are_missing,
-]

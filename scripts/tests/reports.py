@@ -11,7 +11,7 @@ from datetime import datetime
 from pathlib import Path
 from typing import List, NamedTuple, Sequence
 
-from tests.case import DICTIONARY, SCRIPTS, Run, Test, Word, ran
+from tests.case import DICTIONARY, SCRIPTS, Run, Word, ran
 
 PAGE = SCRIPTS / "tests" / "page.html"
 
@@ -244,9 +244,3 @@ def refusals_of_reports(folder: Path) -> List[str]:
         problems += made_by(made, [word, wires, made], 2, told)
         problems += [f"{word}: a folder was made"] if made.exists() else []
     return problems
-
-
-TESTS: List[Test] = [
-    *[holds_the_listing, tells_what_it_is_given, tells_of_the_recording, refuses_another_time, refuses_other_lines],
-    *[report_of_a_recording, report_without_frames, report_that_fails, refusals_of_reports],
-]

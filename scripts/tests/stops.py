@@ -12,16 +12,9 @@ import subprocess
 from pathlib import Path
 from typing import Iterator, List, NamedTuple, Tuple
 
-from needs import needs_module
-from tests.case import SECONDS, Run, listed, sampler
-
-try:
-    import numpy as np
-    from tests.simulated.cabinet import DICTIONARY, FLAG, LENGTHS, RATE, body_of
-except ModuleNotFoundError:
-    pass  # Each test that needs numpy then says so.
-
-RUNS: List[Run] = []
+import numpy as np
+from tests.case import SECONDS, listed, sampler
+from tests.simulated.cabinet import DICTIONARY, FLAG, LENGTHS, RATE, body_of
 
 # Samples a second, in how many more of them a level has to stand, and after how many bits a clock has stopped.
 SAMPLES = 4_000_000
@@ -170,14 +163,9 @@ def cabinets(commands: int, seeds: int) -> Iterator[Cabinet]:
 
 
 def clocks_that_stop(_: Path) -> List[str]:
-    needs_module("numpy")
     return [problem for cabinet in cabinets(20, 1) for problem in problems_of(cabinet)]
 
 
 def many_clocks_that_stop(_: Path) -> List[str]:
     """10,000 commands and more."""
-    needs_module("numpy")
     return [problem for cabinet in cabinets(210, 4) for problem in problems_of(cabinet)]
-
-
-TESTS = [clocks_that_stop, many_clocks_that_stop]

@@ -375,22 +375,3 @@ def damage_in_time(_: Path) -> List[str]:
         ]
         problems += differing(texts, lines, "stretches")
     return problems
-
-
-TESTS = [
-    gap_with_damage,
-    gaps_in_order,
-    gap_of_a_line_at_rest,
-    uneven_polls,
-    gap_among_few,
-    silent_and_missing,
-    late_and_spoilt,
-    one_cause_one_sentence,
-    windows_of_a_dictionary,
-    exchanged_lines,
-    many_of_one_sort,
-    answer_without_its_command,
-    times_of_day,
-    reply_times,
-    damage_in_time,
-]

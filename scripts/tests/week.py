@@ -45,8 +45,6 @@ from tests.watched import (
     schedule,
 )
 
-RUNS: List[object] = []
-
 DAY = 86400
 
 # A run of the watch takes so many seconds at least.
@@ -462,9 +460,6 @@ def problems_of_days(
 def an_hour_of_all(folder: Path) -> List[str]:
     """A simulated hour with each of it, five hundred times as fast as the bus, and a part in real time."""
     return problems_of_days(folder, 1 / 24, [End(2, False), End(1, True)], (2475 * RATE, 0.5), DAY, "arrivals", 500)
-
-
-TESTS = [an_hour_of_all]
 
 
 def main(days: float, seconds: float) -> None:

@@ -260,16 +260,3 @@ def wrong_calls(folder: Path) -> List[str]:
         if got.returncode != 2 or got.stdout or b"usage: " not in got.stderr or reason.encode() not in got.stderr:
             problems.append(f"{words}: {got}")
     return problems + compared(list(folder.iterdir()), [])
-
-
-TESTS = [
-    files_octet_by_octet,
-    times_of_day,
-    pcap_in_tshark,
-    pcapng_of_two_lines,
-    pcapng_of_the_same_places,
-    pcapng_of_one_line,
-    pcapng_of_many_packets,
-    pcapng_of_nothing,
-    wrong_calls,
-]
