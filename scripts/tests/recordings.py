@@ -322,6 +322,7 @@ def session_of_sigrok(folder: Path) -> List[str]:
     written = {
         "binary": written_by(["sigrok-cli", "-i", session, "-O", "binary"]),
         "csv": written_by(["sigrok-cli", "-i", session, "-O", "csv"]),
+        "csv of times": written_by(["sigrok-cli", "-i", session, "-O", "csv:time=true"]),
         "csv of changes": written_by(["sigrok-cli", "-i", session, "-O", "csv:time=true:dedup=true"]),
         "vcd": written_by(["sigrok-cli", "-i", session, "-O", "vcd"]),
     }
