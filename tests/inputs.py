@@ -17,7 +17,8 @@ from paged import TOP, address_of, opened, read_file
 
 sys.path.insert(0, str(TOP / "scripts" / "tests" / "simulated"))
 
-from failing_bus import CONTROL, FLAG, RATE, frame_bits
+from failing_bus import CONTROL, FLAG, RATE
+from table.captures import sent
 
 
 class Line:
@@ -28,7 +29,7 @@ class Line:
 
     def send(self, at: float, *octets: int) -> float:
         """Sends a frame whose first bit comes after so many milliseconds; when its last bit has gone."""
-        bits = frame_bits(*octets)
+        bits = sent(bytes(octets))
         first = round(at * RATE / 1000)
         self.bits[first - len(FLAG) : first + len(bits) + len(FLAG)] = FLAG + bits + FLAG
         return (first + len(bits)) * 1000 / RATE
@@ -151,7 +152,7 @@ MUTE = text_of(*talk(60, lambda _, number: NO_ANSWER if number >= 30 else 1.0))
 SILENT = text_of(*talk(60, lambda station, _: NO_ANSWER if station == 2 else 1.0))
 NO_ANSWERS = text_of(*talk(60, lambda *_: NO_ANSWER))
 SWAPPED = text_of(*reversed(talk(60, well)))
-UNTYPED = (FLAG + frame_bits(1, CONTROL) + FLAG).encode()
+UNTYPED = (FLAG + sent(bytes([1, CONTROL])) + FLAG).encode()
 DEAD = text_of(*talk(60, well, rest=2000))
 
 SEVERAL = text_of(*talk(120, lambda station, number: NO_ANSWER if number == 50 and station == 2 else 6.0 if number == 7 else 1.0))

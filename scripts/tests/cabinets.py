@@ -8,6 +8,7 @@ from pathlib import Path
 from typing import Any, Iterator, List, NamedTuple, Optional, Sequence
 
 import numpy as np
+from table.captures import sent
 from tests.case import SCRIPTS, TOP, plain, ran
 from tests.recordings import CHANNELS, SCRIPT
 from tests.simulated import cabinet
@@ -235,7 +236,7 @@ def four_wires() -> bytes:
     """The example: a call to station 16 and its reply, as Logic exports a recording of 4 million samples a second."""
     made = Cabinet(1, ppm=80, gated=True, samples=4_000_000, jitter=0)
     bus = cabinet.Bus(made)
-    call, reply = (cabinet.body_of([16, 0x83, kind]) for kind in (0, 128))
+    call, reply = (sent(bytes([16, 0x83, kind])) for kind in (0, 128))
     bus.send(cabinet.FLAG + call + cabinet.FLAG)
     bus.answers.append(cabinet.Answer(bus.count + 20.4, cabinet.FLAG + reply + cabinet.FLAG))
     bus.send("1" * 100)

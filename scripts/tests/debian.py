@@ -10,8 +10,8 @@ from typing import Dict, Iterator, List, NamedTuple, Sequence, Tuple
 
 from needs import LOADER_OF_ARM, Skipped, needs, needs_file
 from tests import installing
-from tests.case import ONE_CALL, SECONDS, TOP, Word, packed
-from tests.packages import ARCHIVE, ONE_FRAME, told, unlike
+from tests.case import ARCHIVE, ONE_CALL, SECONDS, TOP, Word, needs_archive, packed, unlike
+from tests.packages import ONE_FRAME, told
 from tests.python_module import captures, orders
 from tests.releasing import LIBRARY_FOR_ARM, packages, tarball, version
 
@@ -238,8 +238,8 @@ def library_for_arm(folder: Path) -> List[str]:
     needs_file(LOADER_OF_ARM)
     if ARCHIVE.is_file() and not ARCHIVE_FOR_ARM.is_file():
         raise Skipped(f"no {LIBRARY_FOR_ARM}; c/targets/build builds it")
-    if ARCHIVE_FOR_ARM.is_file() and not ARCHIVE.is_file():
-        raise Skipped(f"no {ARCHIVE.relative_to(TOP)}; `make` builds it")
+    if ARCHIVE_FOR_ARM.is_file():
+        needs_archive()
     here = built_with(packages()["libport1-dev_amd64.deb"], "cc", folder / "amd64")
     there = built_with(packages()["libport1-dev_arm64.deb"], COMPILER_FOR_ARM, folder / "arm64")
     problems = unlike("examples", sorted(here), sorted(there))

@@ -15,9 +15,9 @@ from definitions import values
 from definitions.by_definition import Answer, Definitions, read_words
 from definitions.manners import Fault
 from definitions.python import Translation, with_room
-from tests.case import CALL, DICTIONARY, SECONDS, TOP, WINDOWS, Run, packed, ran, random_bits, sampler
-from tests.listings import differing
-from tests.parts import OPTIONS, dirty_line, packed_marks, packed_two, polling
+from table.captures import packed_marks
+from tests.case import CALL, DICTIONARY, SECONDS, TOP, WINDOWS, Run, packed, ran, random_bits, sampler, unlike
+from tests.parts import OPTIONS, dirty_line, packed_two, polling
 
 HEAD = "usage: by-definition [-h] COMMAND ...\nby-definition: error: "
 
@@ -107,7 +107,7 @@ def in_words_of_port1(answer: Answer) -> Answer:
 def compared(definitions: Definitions, words: Sequence[str], capture: bytes, what: str) -> List[str]:
     """Whether the definitions say of a capture what the program writes, octet for octet."""
     got = in_words_of_port1(definitions.answer(read_words(words), capture))
-    return differing(answered(words, capture), got, f"{what}: {' '.join(words)[:60]}")
+    return unlike(f"{what}: {' '.join(words)[:60]}", answered(words, capture), got)
 
 
 def definitions_of(top: Path) -> Definitions:
@@ -254,7 +254,7 @@ def problems_of_recordings(seed: int, count: int) -> List[str]:
         samples, words = random_recording(generator)
         got = subprocess.run([sampler(), *words], input=samples, capture_output=True, timeout=SECONDS).stdout
         defined = definitions.answer(read_words(["sample", *words]), samples).text
-        problems += differing(got, defined, f"recording {number}: {' '.join(words)}")
+        problems += unlike(f"recording {number}: {' '.join(words)}", got, defined)
     return problems
 
 
@@ -301,7 +301,7 @@ def on_dictionaries_with_faults(folder: Path) -> List[str]:
     texts = dictionaries_of_the_table()
     problems = [] if len(texts) > 500 else [f"there are {len(texts)} dictionaries"]
     for text, said in texts.items():
-        problems += differing(said, fault_of(definitions, text), text)
+        problems += unlike(text, said, fault_of(definitions, text))
     return problems
 
 
@@ -319,7 +319,7 @@ def on_too_long_a_capture(folder: Path) -> List[str]:
     """More bits than Python has room for calls within calls."""
     got = ran(["by-definition", "list", "--bits"], b"0" * 600_000)
     wanted = "by-definition: the capture is too long for this way to list it\n"
-    return differing((b"", wanted, 2), (got.stdout, got.stderr.decode(), got.returncode), "600000 bits")
+    return unlike("600000 bits", (b"", wanted, 2), (got.stdout, got.stderr.decode(), got.returncode))
 
 
 class Edit(NamedTuple):
@@ -349,7 +349,7 @@ def as_it_is_written(folder: Path) -> List[str]:
     others = shutil.ignore_patterns("src", "proofs", "out", "must-fail", "wrong-bodies")
     shutil.copytree(TOP / "crates", folder / "crates", ignore=others)
     plain = definitions_of(folder).answer(options, capture)
-    problems = differing(answered(["list", "--bits", "--dict", DICTIONARY], capture), plain, "the copy")
+    problems = unlike("the copy", answered(["list", "--bits", "--dict", DICTIONARY], capture), plain)
     for edit in EDITS:
         path = folder / "crates" / edit.file
         text = path.read_text(encoding="utf-8")
@@ -410,7 +410,7 @@ def unknown_forms(folder: Path) -> List[str]:
             got = ""
         except Fault as fault:
             got = str(fault).replace(f"{path}:", "")
-        problems += differing(said, got, text)
+        problems += unlike(text, said, got)
     return problems
 
 
@@ -450,7 +450,7 @@ def known_forms(folder: Path) -> List[str]:
         path.write_text(first + text, encoding="utf-8")
         arguments = [values.Case("Some", each) if "Option" in text else as_value(each) for each in given]
         got = Translation(folder).functions([("some.specs.Text", "it")])[0](*arguments)
-        problems += differing(wanted, got, text)
+        problems += unlike(text, wanted, got)
     return problems
 
 

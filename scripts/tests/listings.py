@@ -140,10 +140,6 @@ RUNS = [
 ]
 
 
-def differing(wanted: object, got: object, what: str) -> List[str]:
-    return [] if wanted == got else [f"{what}: wanted {wanted!r}, got {got!r}"]
-
-
 def objects_of(listing: bytes, *words: str) -> List[Dict[str, Any]]:
     return [json.loads(line) for line in ran(["list-to-jsonl", *words], listing).stdout.splitlines()]
 

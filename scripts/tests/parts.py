@@ -3,7 +3,6 @@
 import os
 import random
 import signal
-import struct
 import subprocess
 import tempfile
 import time
@@ -12,6 +11,7 @@ from pathlib import Path
 from typing import Dict, List, NamedTuple, Sequence, Tuple
 
 from needs import needs
+from table.captures import packed_marks
 from tests.case import (
     CALL,
     SCRIPTS,
@@ -145,14 +145,6 @@ def parts_with_faults(folder: Path) -> List[str]:
     for options in [["--bits"], ["--help"], ["--kind", "frames"], ["--dict", "version = 3"], far, ["--no"]]:
         problems += parted(folder, ONE_CALL, options, 2, 1)
     return problems
-
-
-def packed_marks(magic: bytes, marks: Sequence[int]) -> bytes:
-    """A packed capture of pairs of bits, or of bits as they arrived."""
-    body = bytearray((len(marks) + 3) // 4)
-    for place, mark in enumerate(marks):
-        body[place // 4] |= mark << 2 * (place % 4)
-    return magic + struct.pack("<Q", len(marks)) + bytes(body)
 
 
 def packed_two(first: str, second: str) -> bytes:

@@ -13,9 +13,9 @@ from needs import needs
 from table.captures import FLAG, IDLE, sent
 from table.samples import ROWS
 from table.vectors import VECTORS
-from tests.case import CALL, ONE_CALL, REPLY, SECONDS, TOP
+from tests.case import CALL, ONE_CALL, REPLY, SECONDS, TOP, unlike
 from tests.case import Word, listed, packed, plain, random_bits, written_by
-from tests.packages import moved, told, unlike
+from tests.packages import moved, told
 from tests.python_texts import (
     PAIRED, PAIRED_REFUSED, PAIRED_REFUSES, PRINTED, REFUSED, REFUSED_PRINTS, SAMPLED, SENT, TAPPED, TAPPED_REFUSES
 )

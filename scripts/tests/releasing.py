@@ -14,10 +14,10 @@ from multiprocessing.util import Finalize
 from pathlib import Path
 from typing import Callable, Dict, List, NamedTuple, Set, Tuple
 
-from needs import Skipped, needs
+from needs import needs
 from tests import installing
-from tests.case import SECONDS, TOP, Word
-from tests.packages import ARCHIVE, Installed, problems_of_installed, told, unlike
+from tests.case import SECONDS, TOP, Word, needs_archive, unlike
+from tests.packages import Installed, problems_of_installed, told
 
 MAINTAINER = "Tess Ter <tess@example.org>"
 
@@ -262,8 +262,7 @@ def contents_for_boards(_: Path) -> List[str]:
 
 def used_without_a_toolchain(folder: Path) -> List[str]:
     """With the packages for Debian unpacked in a folder."""
-    if not ARCHIVE.exists():
-        raise Skipped(f"no {ARCHIVE.relative_to(TOP)}; `make` builds it")
+    needs_archive()
     made = packages()
     for name in ("port1_amd64.deb", "libport1-dev_amd64.deb"):
         told(["dpkg-deb", "-x", made[name], folder / "root"])

@@ -2,7 +2,7 @@
 
 from typing import List, Tuple
 
-from .captures import CALL, CALL_AND_REPLY, FLAG, LAST_ORIGIN, REPLY, packed_pairs
+from .captures import CALL, CALL_AND_REPLY, FLAG, LAST_ORIGIN, REPLY, packed_marks
 from .case import Case, fault
 from .checks import report
 from .pairs import PACKED_CALL
@@ -19,10 +19,7 @@ PACKED_BY_CALLS = ["list", "--arrivals", "--dict", DICTIONARY]
 
 def packed(marks: bytes) -> bytes:
     """As pairs are packed: the bit is the lower, and whether it is of the second line the higher."""
-    symbols = [b"01oi".index(mark) for mark in marks]
-    bits, seconds = ("".join(str(symbol >> place & 1) for symbol in symbols) for place in (0, 1))
-    pairs = packed_pairs(bits, seconds)
-    return pairs.replace(b"TS2BITS2", b"TS2BITS3", 1)
+    return packed_marks(b"TS2BITS3", [b"01oi".index(mark) for mark in marks])
 
 
 assert packed(b"01oi")[16:] == bytes([0b11100100])

@@ -4,6 +4,7 @@ The frames and their bits are worked examples of the format; their names and typ
 """
 
 import re
+from typing import Sequence
 
 FLAG = "01111110"
 
@@ -131,11 +132,15 @@ def packed(bits: str) -> bytes:
     return b"TS2BITS1" + len(bits).to_bytes(8, "little") + body
 
 
+def packed_marks(magic: bytes, symbols: Sequence[int]) -> bytes:
+    """A packed capture of two lines, or of bits as they arrived: four marks in an octet, the first lowest."""
+    fours = (symbols[at : at + 4] for at in range(0, len(symbols), 4))
+    body = bytes(sum(symbol << 2 * at for at, symbol in enumerate(four)) for four in fours)
+    return magic + len(symbols).to_bytes(8, "little") + body
+
+
 def packed_pairs(first: str, second: str) -> bytes:
-    """A packed capture of two lines: the bits of a pair stand side by side, the first line's lower."""
-    octets = marks(first, second).decode()
-    pairs = "".join(f"{int(mark):02b}"[::-1] for mark in octets)
-    return b"TS2BITS2" + len(octets).to_bytes(8, "little") + packed(pairs)[16:]
+    return packed_marks(b"TS2BITS2", [int(mark) for mark in marks(first, second).decode()])
 
 
 assert fcs(b"123456789") == bytes.fromhex("6e90")
