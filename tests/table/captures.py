@@ -15,16 +15,10 @@ CALL = "00001000 11000001 00000000 101111101 10100111"
 REPLY = "00001000 11000001 00000001 10101111 100000110"
 # ff 83 09 5a 3b: to all stations, of type 9.
 NOTICE = "111110111 110000001 10010000 01011010 11011100"
-# ff 83 00 9b a6: to all stations, of type 0.
-CALL_TO_ALL = "111110111 110000001 00000000 11011001 01100101"
 # 10 83 fe 0c fb: of type 254; the second inserted 0 is the last bit.
 TYPE_254 = "00001000 11000001 011111011 00110000 110111110"
-# 10 13 cc b8: another control octet.
-CONTROL_19 = "00001000 11001000 00110011 00011101"
 # 10 83 45 2c: no information.
 UNTYPED = "00001000 11000001 10100010 00110100"
-# 10 83 01 74 f4: of type 1, with nothing after the type.
-TYPE_1 = "00001000 11000001 10000000 00101110 00101111"
 
 IDLE = "1" * 15
 
@@ -74,20 +68,6 @@ type = 129
 name = "state"
 length = 2
 bits = [ { at = 9, name = "flash" }, { at = 0, name = "call1" }, { at = 7, name = "ped" } ]
-"""
-
-# The last type that is a command, and its answer, of ten octets each.
-LAST_TYPES = """version = 2
-[[frame]]
-type = 127
-name = "ask"
-length = 10
-answered = true
-window = 16
-[[frame]]
-type = 255
-name = "tell"
-length = 10
 """
 
 # A flag, the call and a flag, 57 bits.
