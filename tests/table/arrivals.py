@@ -3,7 +3,7 @@
 from typing import List, Tuple
 
 from .captures import CALL, CALL_AND_REPLY, FLAG, LAST_ORIGIN, REPLY, packed_marks
-from .case import Case, fault
+from .case import Case, faulty
 from .checks import report
 from .pairs import PACKED_CALL
 from .vectors import VECTORS, capture, cases
@@ -84,7 +84,7 @@ DRIFTS = [
 ]
 
 FAULTS = [
-    Case(f"fault: {name}", ["list", *words], stdin, stderr=fault(f"capture: {why}"), status=2)
+    faulty(f"fault: {name}", ["list", *words], f"capture: {why}", stdin)
     for name, words, stdin, why in [
         ("a mark of pairs", ["--bits", "--arrivals"], b"0o 2", "octet 3 is no bit"),
         ("a mark of arrivals in pairs", ["--bits", "--two"], b"01o", "octet 2 is no bit"),

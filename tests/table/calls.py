@@ -4,7 +4,7 @@ from dataclasses import replace
 from typing import Iterator, List, Optional, Tuple
 
 from .captures import CALL, CALLS, FLAG, IDLE, PACKED, REPLY, STATES, marks, packed_pairs, text
-from .case import Case, Counted, fault
+from .case import Case, Counted, fault, faulty
 from .checks import MISSING_AND_SPOILT_REPORT, report
 from .lists import MISSING_AND_SPOILT, MISSING_AND_SPOILT_LINES, ONE_CALL_LINES
 from .pairs import (
@@ -151,14 +151,7 @@ def lines_in_time() -> Iterator[Counted]:
 
 def bad_octet(name: str, command: str, place: int, stdout: str = "") -> Case:
     """As many ones as `place` says, and an octet that is no bit."""
-    return Case(
-        name,
-        [command, "--bits"],
-        b"1" * place + b"2",
-        stdout,
-        stderr=fault(f"capture: octet {place} is no bit"),
-        status=2,
-    )
+    return faulty(name, [command, "--bits"], f"capture: octet {place} is no bit", b"1" * place + b"2", stdout)
 
 
 IDLE_LINE = "0 15 idle\n"
@@ -223,7 +216,7 @@ IN_ORDER = [
     ),
     Counted(Case("nothing to encode", ["encode"]), calls=["read 0"]),
     Counted(Case("an empty line to encode", ["encode"], b"\n"), calls=["read 1", "read 0"]),
-    Counted(Case("a bad line", ["encode"], b"x\n", stderr=fault("line 1: bad line"), status=2), calls=["read 2"]),
+    Counted(faulty("a bad line", ["encode"], "line 1: bad line", b"x\n"), calls=["read 2"]),
     Counted(
         Case("two lines to encode", ["encode"], b"flag\nidle\n", "01111110\n111111111111111\n"),
         calls=["read 10", "write 9", "write 16", "read 0"],
@@ -238,14 +231,7 @@ IN_ORDER = [
         calls=["read 4", "read 0", "write 9"],
     ),
     Counted(
-        Case(
-            "a bad line after a good one",
-            ["encode"],
-            b"flag\nx\n",
-            "01111110\n",
-            stderr=fault("line 2: bad line"),
-            status=2,
-        ),
+        faulty("a bad line after a good one", ["encode"], "line 2: bad line", b"flag\nx\n", "01111110\n"),
         piece=5,
         calls=["read 5", "write 9", "read 2"],
     ),
@@ -323,12 +309,9 @@ def cut_short() -> Iterator[Counted]:
         for command in ["list", "check"]:
             for count in range(len(capture)):
                 why = "short head" if count < 16 else "short body"
-                case = Case(
-                    f"{command} of {count} octets of {form}",
-                    [command, *options, "--dict", CALLS],
-                    capture[:count],
-                    stderr=fault(f"capture: {why}"),
-                    status=2,
+                case = faulty(
+                    f"{command} of {count} octets of {form}", [command, *options, "--dict", CALLS], f"capture: {why}",
+                    capture[:count]
                 )
                 yield Counted(case)
 
@@ -349,13 +332,7 @@ def bad_marks() -> Iterator[Counted]:
     """The place of a bad octet counts the octets of all reads."""
     for options, stdin in [(["--bits"], b"01111110 2"), (["--bits", "--two"], b"01232310 4")]:
         for command in ["list", "check"]:
-            case = Case(
-                f"a bad octet to {command}",
-                [command, *options],
-                stdin,
-                stderr=fault("capture: octet 9 is no bit"),
-                status=2,
-            )
+            case = faulty(f"a bad octet to {command}", [command, *options], "capture: octet 9 is no bit", stdin)
             for piece in [1, 4, 9, 10]:
                 yield Counted(named(case, f"by reads of {piece} {options[-1]}"), piece=piece)
 
@@ -364,13 +341,9 @@ def long_lines() -> Iterator[Counted]:
     """Lines of no good form after a good one: such a line is refused at the latest by its end."""
     for count in [600, 601, 602]:
         for end in [b"", b"\n", b"\r", b"\r\n"]:
-            case = Case(
-                f"a line of {count} octets that is none, ended by {end!r}",
-                ["encode"],
-                b"flag\n" + b"x" * count + end,
-                "01111110\n",
-                stderr=fault("line 2: bad line"),
-                status=2,
+            case = faulty(
+                f"a line of {count} octets that is none, ended by {end!r}", ["encode"], "line 2: bad line",
+                b"flag\n" + b"x" * count + end, "01111110\n"
             )
             for piece in [1, None]:
                 yield Counted(case, piece=piece)
@@ -388,12 +361,9 @@ def judged_early() -> Iterator[Counted]:
         (601, b"\r", True),
     ]:
         stdin = b"x" * count + end
-        case = Case(
-            f"a line of {count} octets and {end!r}, and a read that fails",
-            ["encode"],
-            stdin,
-            stderr=fault("line 1: bad line" if is_judged else "read failed"),
-            status=2,
+        case = faulty(
+            f"a line of {count} octets and {end!r}, and a read that fails", ["encode"],
+            "line 1: bad line" if is_judged else "read failed", stdin
         )
         yield Counted(case, piece=1, failing_read=len(stdin) + 1)
 

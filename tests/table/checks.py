@@ -5,7 +5,7 @@ from typing import List
 from .captures import (
     CALL, CALLS, FLAG, IDLE, LAST_ORIGIN, LONG, NOTICE, PACKED, REPLY, SHORT, WITHIN, WITHIN_1, sent, text
 )
-from .case import Case, fault
+from .case import Case, faulty
 from .lists import ALL_KINDS, IN_TIME, LATE, MISSING_AND_SPOILT
 
 BITS = ["check", "--bits"]
@@ -207,48 +207,23 @@ DEPTHS = [
 
 # A fault leaves nothing of the report.
 FAULTS = [
-    Case(
-        "an octet that is no bit after a frame",
-        BY_CALLS,
-        text(FLAG, CALL.replace(" ", ""), FLAG, "x"),
-        stderr=fault("capture: octet 57 is no bit"),
-        status=2,
+    faulty(
+        "an octet that is no bit after a frame", BY_CALLS, "capture: octet 57 is no bit",
+        text(FLAG, CALL.replace(" ", ""), FLAG, "x")
     ),
-    Case(
-        "one bit past the last place",
-        [*BITS, f"--origin={LAST_ORIGIN - 57}"],
-        text(FLAG, CALL, FLAG, "0"),
-        stderr=fault("capture: place limit"),
-        status=2,
+    faulty(
+        "one bit past the last place", [*BITS, f"--origin={LAST_ORIGIN - 57}"], "capture: place limit",
+        text(FLAG, CALL, FLAG, "0")
     ),
-    Case("a packed capture of nothing", ["check"], stderr=fault("capture: short head"), status=2),
-    Case(
-        "a packed capture without its last octet", ["check"], PACKED[:-1], stderr=fault("capture: short body"), status=2
+    faulty("a packed capture of nothing", ["check"], "capture: short head"),
+    faulty("a packed capture without its last octet", ["check"], "capture: short body", PACKED[:-1]),
+    faulty("a packed capture with an octet after its end", ["check"], "capture: octets after the end", PACKED + b"\0"),
+    faulty(
+        "a packed capture with a spare bit that is 1", ["check"], "capture: spare bits are not 0",
+        PACKED[:-1] + b"\x80"
     ),
-    Case(
-        "a packed capture with an octet after its end",
-        ["check"],
-        PACKED + b"\0",
-        stderr=fault("capture: octets after the end"),
-        status=2,
-    ),
-    Case(
-        "a packed capture with a spare bit that is 1",
-        ["check"],
-        PACKED[:-1] + b"\x80",
-        stderr=fault("capture: spare bits are not 0"),
-        status=2,
-    ),
-    Case(
-        "text taken for a packed capture", ["check"], MISSING_AND_SPOILT, stderr=fault("capture: wrong magic"), status=2
-    ),
-    Case(
-        "a packed capture with too great a count",
-        ["check"],
-        PACKED[:8] + b"\xff" * 8,
-        stderr=fault("capture: too many bits"),
-        status=2,
-    ),
+    faulty("text taken for a packed capture", ["check"], "capture: wrong magic", MISSING_AND_SPOILT),
+    faulty("a packed capture with too great a count", ["check"], "capture: too many bits", PACKED[:8] + b"\xff" * 8),
 ]
 
 CHECKS = [*REPORTS, *STATUSES, *DEPTHS, *FAULTS]

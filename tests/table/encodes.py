@@ -1,7 +1,7 @@
 """Rows of `encode`."""
 
 from .captures import CALL, FLAG, IDLE, TYPE_254, sent
-from .case import Case, fault
+from .case import Case, fault, faulty
 
 ENCODE = ["encode"]
 
@@ -46,7 +46,7 @@ ENCODES = [
         for octets in [b"flag", b"flag\r", b"flag\r\n", b"\n\nflag\n\n"]
     ],
     *[
-        Case(f"a bad line: {octets!r}", ENCODE, octets, before, stderr=fault(f"line {number}: bad line"), status=2)
+        faulty(f"a bad line: {octets!r}", ENCODE, f"line {number}: bad line", octets, before)
         for octets, before, number in [
             (b"flag\r\r\n", "", 1),
             (b"flag\n\nFLAG\n", line(FLAG), 3),
@@ -58,28 +58,17 @@ ENCODES = [
     ],
     Case("the shortest frame", ENCODE, b"frame 1083\n", line(FLAG, sent(b"\x10\x83"), FLAG)),
     Case("the longest frame", ENCODE, f"frame {LONGEST.hex()}\n".encode(), line(FLAG, sent(LONGEST), FLAG)),
-    Case("a frame of one octet", ENCODE, b"frame 10", stderr=fault("line 1: frame is not 2 to 256 octets"), status=2),
-    Case(
-        "a frame of 257 octets",
-        ENCODE,
-        b"idle\n\nframe " + b"00" * 257,
-        line(IDLE),
-        stderr=fault("line 3: frame is not 2 to 256 octets"),
-        status=2,
+    faulty("a frame of one octet", ENCODE, "line 1: frame is not 2 to 256 octets", b"frame 10"),
+    faulty(
+        "a frame of 257 octets", ENCODE, "line 3: frame is not 2 to 256 octets", b"idle\n\nframe " + b"00" * 257,
+        line(IDLE)
     ),
-    Case(
-        "a word that is none",
-        ENCODE,
-        b"flag\nframes 1083\nidle\n",
-        line(FLAG),
-        stderr=fault("line 2: bad line"),
-        status=2,
-    ),
-    Case("a word of upper case", ENCODE, b"FLAG\n", stderr=fault("line 1: bad line"), status=2),
-    Case("a space after a word", ENCODE, b"flag \n", stderr=fault("line 1: bad line"), status=2),
-    Case("a frame of no digits", ENCODE, b"\nframe \n", stderr=fault("line 2: bad line"), status=2),
-    Case("a frame of an odd number of digits", ENCODE, b"frame 10830", stderr=fault("line 1: bad line"), status=2),
-    Case("two spaces before the digits", ENCODE, b"frame  1083", stderr=fault("line 1: bad line"), status=2),
+    faulty("a word that is none", ENCODE, "line 2: bad line", b"flag\nframes 1083\nidle\n", line(FLAG)),
+    faulty("a word of upper case", ENCODE, "line 1: bad line", b"FLAG\n"),
+    faulty("a space after a word", ENCODE, "line 1: bad line", b"flag \n"),
+    faulty("a frame of no digits", ENCODE, "line 2: bad line", b"\nframe \n"),
+    faulty("a frame of an odd number of digits", ENCODE, "line 1: bad line", b"frame 10830"),
+    faulty("two spaces before the digits", ENCODE, "line 1: bad line", b"frame  1083"),
     # Two digits for each octet: 297 octets give a line of 600, which any line may have.
     *[
         Case(
@@ -99,19 +88,9 @@ ENCODES = [
         ]
         for end in [b"", b"\n", b"\r\n"]
     ],
-    Case(
-        "a line of 600 octets",
-        ENCODE,
-        b"frame " + b"00" * 297 + b"\n",
-        stderr=fault("line 1: frame is not 2 to 256 octets"),
-        status=2,
+    faulty("a line of 600 octets", ENCODE, "line 1: frame is not 2 to 256 octets", b"frame " + b"00" * 297 + b"\n"),
+    faulty(
+        "a line of 600 octets, one of which is no digit", ENCODE, "line 1: bad line", b"frame " + b"0" * 593 + b"x\n"
     ),
-    Case(
-        "a line of 600 octets, one of which is no digit",
-        ENCODE,
-        b"frame " + b"0" * 593 + b"x\n",
-        stderr=fault("line 1: bad line"),
-        status=2,
-    ),
-    Case("a line of 602 octets", ENCODE, b"frame " + b"00" * 298 + b"\n", stderr=fault("line 1: bad line"), status=2),
+    faulty("a line of 602 octets", ENCODE, "line 1: bad line", b"frame " + b"00" * 298 + b"\n"),
 ]

@@ -4,7 +4,7 @@ from dataclasses import dataclass
 from typing import Iterator, List, Optional
 
 from .captures import CALLS, LAST_ORIGIN, PACKED, packed_pairs
-from .case import Case, fault
+from .case import Case, faulty
 from .pairs import CALLED, REPLIED
 
 
@@ -72,13 +72,10 @@ def flips(form: Form) -> Iterator[Case]:
         # A body that proves too short was taken whole; any other fault stands before the last flag.
         stdout = form.lines if why == "short body" else ""
         for command in ["list", "check"]:
-            yield Case(
+            yield faulty(
                 f"{command}: bit {place % 8} of octet {place // 8} of {form.name} flipped",
-                [command, *form.words, "--dict", CALLS],
-                bytes(octets),
-                stdout if command == "list" else "",
-                stderr=fault(f"capture: {why}"),
-                status=2,
+                [command, *form.words, "--dict", CALLS], f"capture: {why}", bytes(octets),
+                stdout if command == "list" else ""
             )
 
 

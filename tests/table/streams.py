@@ -1,18 +1,12 @@
 """Rows of standard streams that fail."""
 
 from .captures import CALL, FLAG, IDLE, text
-from .case import Case, Sink, Source, fault
+from .case import Case, Sink, Source, fault, faulty
 
 READERS = [[], ["list", "--bits"], ["list"], ["check", "--bits"], ["check"], ["encode"]]
 
 UNREADABLE = [
-    Case(
-        f"standard input is {source.value}: {' '.join(words) or 'no words'}",
-        words,
-        source,
-        stderr=fault("read failed"),
-        status=2,
-    )
+    faulty(f"standard input is {source.value}: {' '.join(words) or 'no words'}", words, "read failed", source)
     for source in Source
     for words in READERS
 ]
