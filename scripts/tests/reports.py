@@ -21,28 +21,16 @@ LISTING = b"8 49 frame 108300fde5 station 16 type 0 </script>\n57 72 idle\n" * 2
 
 RUNS = [
     Run(
-        "a page that is none",
-        [SCRIPT, "--page=/dev/null", "title"],
-        b"8 49 idle\n",
-        b"",
-        f"{SCRIPT}: this is no page that `make page` built\n",
-        2,
+        "a page that is none", [SCRIPT, "--page=/dev/null", "title"], b"8 49 idle\n", b"",
+        f"{SCRIPT}: this is no page that `make page` built\n", 2,
     ),
     Run(
-        "no page",
-        [SCRIPT, "--page=/no/page", "title"],
-        b"",
-        b"",
-        f"{SCRIPT}: there is no page /no/page: `make page` builds it; --page says where it is\n",
-        2,
+        "no page", [SCRIPT, "--page=/no/page", "title"], b"", b"",
+        f"{SCRIPT}: there is no page /no/page: `make page` builds it; --page says where it is\n", 2,
     ),
     Run(
-        "no recording",
-        [SCRIPT, f"--page={PAGE}", "--recording=/no/tap.sr", "title"],
-        b"",
-        b"",
-        f"{SCRIPT}: ENOENT: no such file or directory, open '/no/tap.sr'\n",
-        2,
+        "no recording", [SCRIPT, f"--page={PAGE}", "--recording=/no/tap.sr", "title"], b"", b"",
+        f"{SCRIPT}: ENOENT: no such file or directory, open '/no/tap.sr'\n", 2,
     ),
 ]
 

@@ -22,11 +22,8 @@ RUNS: List[Run] = [
         for name, words in [("no word", []), ("no target", ["out"]), ("options alone", ["out", "--", "-O2"])]
     ],
     Run(
-        "a target that is none",
-        [str(BUILD), "out", "thumbv7m-none-eabi", "sparc"],
-        b"",
-        stderr=f"{USAGE}build: no such target: sparc\n",
-        status=2,
+        "a target that is none", [str(BUILD), "out", "thumbv7m-none-eabi", "sparc"], b"",
+        stderr=f"{USAGE}build: no such target: sparc\n", status=2,
     ),
 ]
 

@@ -15,26 +15,20 @@ RATE = "153600"
 
 RUNS = [
     Run(
-        "frames alone",
-        ["list-to-pcap", RATE, "--text"],
+        "frames alone", ["list-to-pcap", RATE, "--text"],
         b"0 7 damaged short\n8 49 frame 108300fde5 station 16 type 0 call\n57 72 idle\n80 90 abort\n"
         b"99 140 damaged fcs\n150 700 overlong\n153608 153649 frame 108380f561\n8 49 missing station 16 type 0\n",
         b"0.000052\n000000 10 83 00\n1.000052\n000000 10 83 80\n",
     ),
     Run(
-        "frames of two lines",
-        ["list-to-pcap", RATE, "--text"],
+        "frames of two lines", ["list-to-pcap", RATE, "--text"],
         b"1 8 49 frame 108300fde5 station 16 type 0 call\n1 57 72 idle\n"
         b"2 153608 153649 frame 108380f561\n1 8 49 missing station 16 type 0\n2 153657 153658 open\n",
         b"0.000052\n000000 10 83 00\n1.000052\n000000 10 83 80\n",
     ),
     Run(
-        "no listing",
-        ["list-to-pcap", "1", "--text"],
-        b"frames 2\n",
-        b"",
-        "list-to-pcap: line 1 is no line of `port1 list`: \"frames 2\"\n",
-        2,
+        "no listing", ["list-to-pcap", "1", "--text"], b"frames 2\n", b"",
+        "list-to-pcap: line 1 is no line of `port1 list`: \"frames 2\"\n", 2,
     ),
 ]
 

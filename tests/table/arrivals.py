@@ -41,9 +41,7 @@ RESTED = [
 # Of a broken reply; without a dictionary.
 RESTS = [
     Case(
-        f"a second line that rests {name}",
-        ["list", "--bits", "--arrivals", "--rest", rest],
-        BROKEN_OFF,
+        f"a second line that rests {name}", ["list", "--bits", "--arrivals", "--rest", rest], BROKEN_OFF,
         f"1 8 49 frame 108300fde5\n1 57 72 idle\n{lines}",
     )
     for name, rest, lines in RESTED

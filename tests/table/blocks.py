@@ -62,9 +62,7 @@ BAD = [
 
 ENDS = [
     Case(
-        f"a text of {length} bits",
-        BITS,
-        MANY[:length].encode(),
+        f"a text of {length} bits", BITS, MANY[:length].encode(),
         lines_of(length) + (f"{49 * (length // 49) + 8} {length} open\n" if length % 49 > 8 else ""),
     )
     for length in [49 * number + 40 for number in range(1, 40)]

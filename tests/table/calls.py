@@ -30,9 +30,7 @@ LIST = Case("a call and its reply", BY_CALLS, ANSWERED, ANSWERED_LINES)
 LIST_PACKED = Case("a packed call", ["list", "--dict", CALLS], PACKED, ONE_CALL_LINES)
 
 LIST_TWO = Case(
-    "a call and its reply on two lines",
-    ["list", "--bits", "--two", "--dict", CALLS],
-    marks(*CALL_AND_REPLY),
+    "a call and its reply on two lines", ["list", "--bits", "--two", "--dict", CALLS], marks(*CALL_AND_REPLY),
     CALL_AND_REPLY_LINES,
 )
 
@@ -40,9 +38,7 @@ LIST_TWO = Case(
 DECIDED_TWO = [15, 57, 72, 114, 114]
 
 PACKED_TWO = Case(
-    "packed frames that end at one place",
-    ["list", "--two", "--dict", CALLS],
-    packed_pairs(*AT_ONE_PLACE),
+    "packed frames that end at one place", ["list", "--two", "--dict", CALLS], packed_pairs(*AT_ONE_PLACE),
     AT_ONE_PLACE_LINES,
 )
 
@@ -51,19 +47,14 @@ CHECK_TWO = Case(
 )
 
 CHECK = Case(
-    "a check",
-    ["check", "--bits", "--dict", CALLS],
-    MISSING_AND_SPOILT.replace(b" ", b""),
-    MISSING_AND_SPOILT_REPORT,
+    "a check", ["check", "--bits", "--dict", CALLS], MISSING_AND_SPOILT.replace(b" ", b""), MISSING_AND_SPOILT_REPORT,
     status=1,
 )
 
 THREE = b"frame 108300\nidle\r\nframe 1083fe"
 
 ENCODE = Case(
-    "three lines",
-    ["encode"],
-    THREE,
+    "three lines", ["encode"], THREE,
     "011111100000100011000001000000001011111011010011101111110\n"
     "111111111111111\n"
     "0111111000001000110000010111110110011000011011111001111110\n",
@@ -167,25 +158,21 @@ IN_ORDER = [
     Counted(Case("an open piece", BY_CALLS, text(FLAG) + b"0", "8 9 open\n"), calls=["read 9", "read 0", "write 9"]),
     Counted(
         Case(
-            "two lines of the end",
-            BY_CALLS,
-            ANSWERED[:57] + b"0",
+            "two lines of the end", BY_CALLS, ANSWERED[:57] + b"0",
             f"{CALL_LINE}57 58 open\n8 49 pending station 16 type 0\n",
         ),
         calls=["read 58", f"write {len(CALL_LINE)}", "read 0", "write 42"],
     ),
     Counted(LIST, calls=["read 106", f"write {len(ANSWERED_LINES)}", "read 0"]),
     Counted(
-        named(LIST, "by two reads"),
-        piece=57,
+        named(LIST, "by two reads"), piece=57,
         calls=[
             "read 57", f"write {len(CALL_LINE)}", "read 49", f"write {len(ANSWERED_LINES) - len(CALL_LINE)}", "read 0"
         ],
     ),
     Counted(bad_octet("a fault after a line", "list", 15, IDLE_LINE), calls=["read 16", "write 10"]),
     Counted(
-        bad_octet("a fault after a line, by the next read", "list", 15, IDLE_LINE),
-        piece=15,
+        bad_octet("a fault after a line, by the next read", "list", 15, IDLE_LINE), piece=15,
         calls=["read 15", "write 10", "read 1"],
     ),
     Counted(bad_octet("a fault alone to list", "list", 0), calls=["read 1"]),
@@ -194,14 +181,12 @@ IN_ORDER = [
     Counted(Case("nothing to check", ["check", "--bits"], stdout=report()), calls=["read 0", f"write {len(report())}"]),
     Counted(LIST_TWO, calls=["read 114", f"write {len(CALL_AND_REPLY_LINES)}", "read 0"]),
     Counted(
-        named(LIST_TWO, "by two reads"),
-        piece=60,
+        named(LIST_TWO, "by two reads"), piece=60,
         calls=["read 60", "write 59", "read 54", f"write {len(CALL_AND_REPLY_LINES) - 59}", "read 0"],
     ),
     Counted(
         Case(
-            "three lines of the end of two",
-            ["list", "--bits", "--two", "--dict", CALLS],
+            "three lines of the end of two", ["list", "--bits", "--two", "--dict", CALLS],
             marks(CALLED + "0", FLAG + "0" * 50),
             "1 8 49 frame 108300fde5 station 16 type 0 call\n"
             "1 57 58 open\n2 8 58 open\n1 8 49 pending station 16 type 0\n",
@@ -210,8 +195,7 @@ IN_ORDER = [
     ),
     Counted(CHECK, calls=["read 138", "read 0", f"write {len(MISSING_AND_SPOILT_REPORT)}"]),
     Counted(
-        named(CHECK, "by two reads"),
-        piece=100,
+        named(CHECK, "by two reads"), piece=100,
         calls=["read 100", "read 38", "read 0", f"write {len(MISSING_AND_SPOILT_REPORT)}"],
     ),
     Counted(Case("nothing to encode", ["encode"]), calls=["read 0"]),
@@ -222,8 +206,7 @@ IN_ORDER = [
         calls=["read 10", "write 9", "write 16", "read 0"],
     ),
     Counted(
-        Case("two lines to encode, by two reads", ["encode"], b"flag\nidle\n", "01111110\n111111111111111\n"),
-        piece=7,
+        Case("two lines to encode, by two reads", ["encode"], b"flag\nidle\n", "01111110\n111111111111111\n"), piece=7,
         calls=["read 7", "write 9", "read 3", "write 16", "read 0"],
     ),
     Counted(
@@ -231,8 +214,7 @@ IN_ORDER = [
         calls=["read 4", "read 0", "write 9"],
     ),
     Counted(
-        faulty("a bad line after a good one", ["encode"], "line 2: bad line", b"flag\nx\n", "01111110\n"),
-        piece=5,
+        faulty("a bad line after a good one", ["encode"], "line 2: bad line", b"flag\nx\n", "01111110\n"), piece=5,
         calls=["read 5", "write 9", "read 2"],
     ),
 ]
@@ -260,9 +242,7 @@ def listing_of_calls(count: int) -> str:
 LONG_LISTING = Case("a thousand calls", BY_CALLS, capture_of_calls(1000), listing_of_calls(1000))
 
 LONG_REPORT = Case(
-    "a check of 1100 calls",
-    ["check", "--bits", "--dict", CALLS, "--depth", "1024"],
-    capture_of_calls(1100),
+    "a check of 1100 calls", ["check", "--bits", "--dict", CALLS, "--depth", "1024"], capture_of_calls(1100),
     report(
         "station 16 answered 0 missing 1099 spoilt 0 late 0",
         *[f"last {first} {past} 108300fde5" for first, past in call_places(1100)[-1024:]],

@@ -83,9 +83,7 @@ REPORTS = [
     Case("of nothing", BY_CALLS, stdout=report()),
     Case("of missing and spoilt", BY_CALLS, MISSING_AND_SPOILT, MISSING_AND_SPOILT_REPORT, status=1),
     Case(
-        "of all kinds",
-        BY_CALLS,
-        ALL_KINDS,
+        "of all kinds", BY_CALLS, ALL_KINDS,
         report(
             "station 16 answered 1 missing 1 spoilt 1 late 0",
             "last 8 49 108300fde5",
@@ -107,9 +105,7 @@ REPORTS = [
         status=1,
     ),
     Case(
-        "of two stations, by rising number",
-        [*BY_CALLS, "--depth", "1"],
-        TWO_STATIONS,
+        "of two stations, by rising number", [*BY_CALLS, "--depth", "1"], TWO_STATIONS,
         report(
             "station 3 answered 1 missing 0 spoilt 0 late 0",
             "station 200 answered 0 missing 1 spoilt 0 late 0",
@@ -121,16 +117,11 @@ REPORTS = [
         status=1,
     ),
     Case(
-        "without a dictionary",
-        BITS,
-        MISSING_AND_SPOILT,
-        report("last 8 49 108300fde5", "last 57 98 108300fde5", frames=2, damaged=1),
-        status=1,
+        "without a dictionary", BITS, MISSING_AND_SPOILT,
+        report("last 8 49 108300fde5", "last 57 98 108300fde5", frames=2, damaged=1), status=1,
     ),
     Case(
-        "of strays without a dictionary",
-        BITS,
-        text(FLAG, REPLY, FLAG),
+        "of strays without a dictionary", BITS, text(FLAG, REPLY, FLAG),
         report("last 8 49 108380f561", frames=1, strays=1),
     ),
     Case("of a packed capture", ["check", "--dict", CALLS], PACKED, ONE_CALL_REPORT),
@@ -144,9 +135,7 @@ def answer_in_window(name: str, dictionary: str, capture: bytes, first: int, is_
     late = int(is_late)
     answered = 1 - late
     return Case(
-        name,
-        ["check", "--bits", "--dict", dictionary],
-        capture,
+        name, ["check", "--bits", "--dict", dictionary], capture,
         report(
             f"station 16 answered {answered} missing 0 spoilt 0 late {late}",
             "last 8 49 108300fde5",
@@ -166,16 +155,12 @@ STATUSES = [
     answer_in_window("an answer at the end of its window is in time", WITHIN, IN_TIME, first=65),
     answer_in_window("an answer that only version 2 calls late", WITHIN_1, LATE, first=73),
     Case(
-        "a missing answer alone is amiss",
-        [*BY_CALLS, "--depth=1"],
-        text(FLAG, CALL, FLAG, NOTICE, FLAG),
+        "a missing answer alone is amiss", [*BY_CALLS, "--depth=1"], text(FLAG, CALL, FLAG, NOTICE, FLAG),
         report("station 16 answered 0 missing 1 spoilt 0 late 0", "last 57 99 ff83095a3b", frames=2, missing=1),
         status=1,
     ),
     Case(
-        "a call that an abort spoils is amiss",
-        BY_CALLS,
-        text(FLAG, CALL, FLAG, "00001000", "1111111"),
+        "a call that an abort spoils is amiss", BY_CALLS, text(FLAG, CALL, FLAG, "00001000", "1111111"),
         report("station 16 answered 0 missing 0 spoilt 1 late 0", "last 8 49 108300fde5", frames=1, aborts=1, spoilt=1),
         status=1,
     ),
@@ -186,15 +171,11 @@ STATUSES = [
 
 DEPTHS = [
     Case(
-        "the last two frames",
-        [*BY_CALLS, "--depth", "2"],
-        THREE_FRAMES,
+        "the last two frames", [*BY_CALLS, "--depth", "2"], THREE_FRAMES,
         report(STATION_16_ANSWERED, "last 57 98 108380f561", "last 106 148 ff83095a3b", frames=3, answered=1),
     ),
     Case(
-        "the last frame",
-        [*BY_CALLS, "--depth=1"],
-        THREE_FRAMES,
+        "the last frame", [*BY_CALLS, "--depth=1"], THREE_FRAMES,
         report(STATION_16_ANSWERED, "last 106 148 ff83095a3b", frames=3, answered=1),
     ),
     Case("sixteen of sixteen frames", BITS, notices(16), report(*last_notices(0, 16), frames=16)),

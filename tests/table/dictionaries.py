@@ -185,12 +185,8 @@ SHOW = ["show", "10838101026e1f"]
 
 def refused(number: int, command: List[str], text: str, why: str) -> Case:
     return Case(
-        f"{number}: {why}, told by {command[0]}",
-        [*command, "--dict", text],
-        b"2",
-        stderr=fault(f"dictionary: {why}"),
-        status=2,
-        leaves_input=True,
+        f"{number}: {why}, told by {command[0]}", [*command, "--dict", text], b"2", stderr=fault(f"dictionary: {why}"),
+        status=2, leaves_input=True,
     )
 
 

@@ -17,16 +17,12 @@ ENCODES = [
     Case("no lines", ENCODE),
     Case("empty lines", ENCODE, b"\n\r\n\n\r"),
     Case(
-        "two frames and an idle line",
-        ENCODE,
-        b"frame 108300\nidle\nframe 1083fe\n",
+        "two frames and an idle line", ENCODE, b"frame 108300\nidle\nframe 1083fe\n",
         line(FLAG, CALL, FLAG) + line(IDLE) + line(FLAG, TYPE_254, FLAG),
     ),
     *[
         Case(
-            f"digits of either case: {digits}",
-            ENCODE,
-            f"frame {digits}".encode(),
+            f"digits of either case: {digits}", ENCODE, f"frame {digits}".encode(),
             line(FLAG, sent(bytes.fromhex("10abcdef")), FLAG),
         )
         for digits in ["10abcdef", "10aBCdEF", "10ABCDEF"]
@@ -34,9 +30,7 @@ ENCODES = [
     # Where a flag or a frame stands before it, its closing flag opens the next.
     Case("a frame after a flag", ENCODE, b"flag\nframe 108300", line(FLAG) + line(CALL, FLAG)),
     Case(
-        "a frame after a frame",
-        ENCODE,
-        b"frame 108300\n\nframe 1083FE\n",
+        "a frame after a frame", ENCODE, b"frame 108300\n\nframe 1083FE\n",
         line(FLAG, CALL, FLAG) + line(TYPE_254, FLAG),
     ),
     Case("two flags", ENCODE, b"flag\nflag\n", line(FLAG) + line(FLAG)),
@@ -72,11 +66,8 @@ ENCODES = [
     # Two digits for each octet: 297 octets give a line of 600, which any line may have.
     *[
         Case(
-            f"a frame of {octets} octets, its line ended by {end!r}",
-            ENCODE,
-            b"frame " + b"ff" * octets + end,
-            "" if why else line(FLAG, sent(b"\xff" * octets), FLAG),
-            stderr=fault(f"line 1: {why}") if why else "",
+            f"a frame of {octets} octets, its line ended by {end!r}", ENCODE, b"frame " + b"ff" * octets + end,
+            "" if why else line(FLAG, sent(b"\xff" * octets), FLAG), stderr=fault(f"line 1: {why}") if why else "",
             status=2 if why else 0,
         )
         for octets, why in [

@@ -46,8 +46,7 @@ def of_kind(lines: str, kind: str) -> str:
 
 PLAIN = [
     Case(
-        "no words",
-        stdin=b"01111110 00001000110000010000000010111110110100111 01111110\n",
+        "no words", stdin=b"01111110 00001000110000010000000010111110110100111 01111110\n",
         stdout="8 49 frame 108300fde5\n",
     ),
     Case("no words and no input"),
@@ -58,9 +57,7 @@ PLAIN = [
 ORIGINS = [
     Case("from place 0", [*BY_CALLS, "--origin", "0"], ONE_CALL, ONE_CALL_LINES),
     Case(
-        "from place 100",
-        [*BY_CALLS, "--origin", "100"],
-        ONE_CALL,
+        "from place 100", [*BY_CALLS, "--origin", "100"], ONE_CALL,
         """\
 108 149 frame 108300fde5 station 16 type 0 call
 108 149 pending station 16 type 0
@@ -68,9 +65,7 @@ ORIGINS = [
     ),
     Case("a packed capture from place 100", ["list", "--origin=100"], PACKED, "108 149 frame 108300fde5\n"),
     Case(
-        "to the last place",
-        [*BITS, f"--origin={LAST_ORIGIN - 57}"],
-        ONE_CALL,
+        "to the last place", [*BITS, f"--origin={LAST_ORIGIN - 57}"], ONE_CALL,
         "1152921504606846927 1152921504606846968 frame 108300fde5\n",
     ),
     faulty(
@@ -102,27 +97,19 @@ FILTERS = [
     # With another control octet there is no type.
     Case("of type 204", [*BY_CALLS, "--type", "204"], ALL_HEADS),
     Case(
-        "of station 16 and type 0",
-        [*BY_CALLS, "--station", "16", "--type", "0"],
-        ALL_HEADS,
+        "of station 16 and type 0", [*BY_CALLS, "--station", "16", "--type", "0"], ALL_HEADS,
         chosen(ALL_HEADS_LINES, 1, 3),
     ),
     Case(
-        "of station 255 and type 0",
-        [*BY_CALLS, "--type", "0", "--station", "255"],
-        ALL_HEADS,
+        "of station 255 and type 0", [*BY_CALLS, "--type", "0", "--station", "255"], ALL_HEADS,
         chosen(ALL_HEADS_LINES, 4),
     ),
     Case(
-        "of station 16, type 254 and kind stray",
-        [*BY_CALLS, "--kind", "stray", "--station", "16", "--type", "254"],
-        ALL_HEADS,
-        chosen(ALL_HEADS_LINES, 8),
+        "of station 16, type 254 and kind stray", [*BY_CALLS, "--kind", "stray", "--station", "16", "--type", "254"],
+        ALL_HEADS, chosen(ALL_HEADS_LINES, 8),
     ),
     Case(
-        "of station 16 and kind frame",
-        [*BY_CALLS, "--station", "16", "--kind", "frame"],
-        MISSING_AND_SPOILT,
+        "of station 16 and kind frame", [*BY_CALLS, "--station", "16", "--kind", "frame"], MISSING_AND_SPOILT,
         chosen(MISSING_AND_SPOILT_LINES, 1, 2),
     ),
     Case("of kind late", ["list", "--bits", "--dict", WITHIN, "--kind", "late"], LATE, "8 49 late station 16 type 0\n"),
@@ -130,9 +117,7 @@ FILTERS = [
     Case("of kind missing", [*BY_CALLS, "--kind", "missing"], MISSING_AND_SPOILT, "8 49 missing station 16 type 0\n"),
     Case("of type 128, where there is none", [*BY_CALLS, "--type", "128"], MISSING_AND_SPOILT),
     Case(
-        "lines without a station",
-        [*BY_CALLS, "--station", "16"],
-        ALL_KINDS,
+        "lines without a station", [*BY_CALLS, "--station", "16"], ALL_KINDS,
         chosen(ALL_KINDS_LINES, 1, 2, 3, 4, 5, 6, 8, 12, 13, 14, 16),
     ),
     Case("lines without a type", [*BY_CALLS, "--type", "128"], ALL_KINDS, chosen(ALL_KINDS_LINES, 2, 12, 13)),

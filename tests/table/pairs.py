@@ -87,15 +87,11 @@ AT_THE_LAST_PLACE = """\
 
 ORIGINS = [
     Case(
-        "from place 100",
-        [*BY_CALLS, "--origin", "100"],
-        marks(*AT_ONE_PLACE),
+        "from place 100", [*BY_CALLS, "--origin", "100"], marks(*AT_ONE_PLACE),
         AT_ONE_PLACE_LINES.replace(" 8 49 ", " 108 149 "),
     ),
     Case(
-        "pieces not closed, from place 100",
-        [*BY_CALLS, "--origin=100"],
-        marks(CALLED + "0", "1" * 50 + FLAG),
+        "pieces not closed, from place 100", [*BY_CALLS, "--origin=100"], marks(CALLED + "0", "1" * 50 + FLAG),
         """\
 2 100 115 idle
 1 108 149 frame 108300fde5 station 16 type 0 call
@@ -139,14 +135,11 @@ FILTERS = [
     filtered("of type 128 and kind stray", ["--type", "128", "--kind", "stray"], 12),
     filtered("of station 16, type 0 and kind frame", ["--kind=frame", "--station=16", "--type=0"], 2, 7, 14, 20),
     Case(
-        "of kind late",
-        [*TWO, "--dict", WITHIN.replace("16", "15"), "--kind", "late"],
-        marks(*CALL_AND_REPLY),
+        "of kind late", [*TWO, "--dict", WITHIN.replace("16", "15"), "--kind", "late"], marks(*CALL_AND_REPLY),
         "1 8 49 late station 16 type 0\n",
     ),
     Case(
-        "of kind stray, where an answer is late",
-        [*TWO, "--dict", WITHIN.replace("16", "15"), "--kind", "stray"],
+        "of kind stray, where an answer is late", [*TWO, "--dict", WITHIN.replace("16", "15"), "--kind", "stray"],
         marks(*CALL_AND_REPLY),
     ),
     faulty(
@@ -222,15 +215,11 @@ CHECKED = [
     Case("check: nothing", CHECK_BY_CALLS, stdout=report()),
     Case("check: a call and its reply", CHECK_BY_CALLS, marks(*CALL_AND_REPLY), CALL_AND_REPLY_REPORT),
     Case(
-        "check: packed, a call and its reply",
-        ["check", "--two", "--dict", CALLS],
-        packed_pairs(*CALL_AND_REPLY),
+        "check: packed, a call and its reply", ["check", "--two", "--dict", CALLS], packed_pairs(*CALL_AND_REPLY),
         CALL_AND_REPLY_REPORT,
     ),
     Case(
-        "check: a reply on the first line",
-        CHECK_BY_CALLS,
-        marks(*ANSWER_ON_FIRST),
+        "check: a reply on the first line", CHECK_BY_CALLS, marks(*ANSWER_ON_FIRST),
         report(
             "station 16 answered 0 missing 1 spoilt 0 late 0",
             "last 1 8 49 108300fde5",
@@ -243,15 +232,12 @@ CHECKED = [
         status=1,
     ),
     Case(
-        "check: frames that end at one place, of which the last is kept",
-        [*CHECK_BY_CALLS, "--depth", "1"],
+        "check: frames that end at one place, of which the last is kept", [*CHECK_BY_CALLS, "--depth", "1"],
         marks(*AT_ONE_PLACE),
         report("station 16 answered 1 missing 0 spoilt 0 late 0", "last 2 8 49 108380f561", frames=2, answered=1),
     ),
     Case(
-        "check: all kinds",
-        CHECK_BY_CALLS,
-        marks(*ALL_KINDS),
+        "check: all kinds", CHECK_BY_CALLS, marks(*ALL_KINDS),
         report(
             "station 16 answered 1 missing 1 spoilt 1 late 0",
             "last 1 8 49 108300fde5",
@@ -274,8 +260,7 @@ CHECKED = [
         status=1,
     ),
     Case(
-        "check: the last three frames of both lines",
-        [*CHECK_BY_CALLS, "--depth=3", "--origin=1000"],
+        "check: the last three frames of both lines", [*CHECK_BY_CALLS, "--depth=3", "--origin=1000"],
         marks(*(line[:343] for line in ALL_KINDS)),
         report(
             "station 16 answered 1 missing 1 spoilt 0 late 0",
@@ -292,8 +277,7 @@ CHECKED = [
         status=1,
     ),
     Case(
-        "check: a late answer alone is amiss",
-        ["check", "--bits", "--two", "--dict", WITHIN.replace("16", "15")],
+        "check: a late answer alone is amiss", ["check", "--bits", "--two", "--dict", WITHIN.replace("16", "15")],
         marks(*CALL_AND_REPLY),
         report(
             "station 16 answered 0 missing 0 spoilt 0 late 1",
@@ -306,16 +290,11 @@ CHECKED = [
         status=1,
     ),
     Case(
-        "check: damage on the second line alone is amiss",
-        CHECK_BY_CALLS,
-        marks("1" * 14 + "0" * 26, FLAG + SHORT + FLAG),
-        report(damaged=1),
-        status=1,
+        "check: damage on the second line alone is amiss", CHECK_BY_CALLS,
+        marks("1" * 14 + "0" * 26, FLAG + SHORT + FLAG), report(damaged=1), status=1,
     ),
     Case(
-        "check: a call on the second line is not",
-        CHECK_BY_CALLS,
-        marks(REST, CALLED),
+        "check: a call on the second line is not", CHECK_BY_CALLS, marks(REST, CALLED),
         report("last 2 8 49 108300fde5", frames=1, idles=1),
     ),
     faulty(
