@@ -96,8 +96,7 @@ def uses() -> List[Use]:
         Use("man port1 | grep -o 'analyse the Port 1 bus'", "analyse the Port 1 bus\n", "man"),
         Use(
             "bash -c '. /usr/share/bash-completion/bash_completion; _completion_loader port1; complete -p port1'",
-            "complete -o bashdefault -o default -F _port1 port1\n",
-            "/usr/share/bash-completion/bash_completion",
+            "complete -o bashdefault -o default -F _port1 port1\n", "/usr/share/bash-completion/bash_completion",
         ),
         Use("zsh -fc 'autoload -U compinit; compinit -u -D; echo $_comps[port1]'", "_port1\n", "zsh"),
         Use("fish -c 'complete -C \"port1 enc\"' | cut -f 1", "encode\n", "fish"),
