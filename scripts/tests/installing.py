@@ -8,6 +8,7 @@ from typing import Dict, Iterator, List, Sequence, Set, Tuple
 
 from needs import needs
 from tests.case import CALL, ONE_CALL, SCRIPTS, SECONDS, TOP, lines, plain, written_by
+from tests.manners import scripts
 
 ONE_FRAME = b"8 49 frame 108300fde5\n"
 
@@ -37,12 +38,6 @@ SAME_FOLDERS = {
 
 # What belongs to the work on the scripts and not to their use.
 TESTS_OF_SCRIPTS = {"tests", "self-test", "__pycache__"}
-
-
-def scripts() -> List[str]:
-    """The scripts: whatever can be run in their folder, but for what tests them."""
-    runnable = (path for path in SCRIPTS.iterdir() if path.is_file() and os.access(path, os.X_OK))
-    return sorted(path.name for path in runnable if path.name not in TESTS_OF_SCRIPTS)
 
 
 def made(target: str, words: Sequence[str], folder: Path) -> None:
