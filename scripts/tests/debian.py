@@ -142,7 +142,7 @@ def tarball_at_work(folder: Path) -> List[str]:
     problems = unlike("tar", "", told(["tar", "-xzf", tarball(), "-C", folder]))
     prefix = folder / f"port1-{version()}"
     problems += installing.problems_of_scripts(prefix / "bin", elsewhere)
-    return problems + installing.problems_of_use(prefix, elsewhere) + installing.problems_of_files(prefix)
+    return problems + installing.problems_of_use(prefix, elsewhere)
 
 
 def in_a_copy(script: str, folder: Path, given: Path) -> "subprocess.CompletedProcess[str]":

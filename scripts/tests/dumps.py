@@ -1,11 +1,7 @@
 """Bits from a value change dump."""
 
-import random
-from pathlib import Path
-from typing import List
 
-from needs import needs
-from tests.case import CALL, Run, lines, plain, ran, random_bits, written_by
+from tests.case import CALL, Run, lines, plain
 
 # Definitions as IEEE 1364 has them, other kinds of signals among them, the data before the clock.
 DEFINITIONS = """$date today $end
@@ -144,24 +140,3 @@ RUNS = [
         "recording-to-bits: the input is no value change dump: it has no $enddefinitions\n", 2,
     ),
 ]
-
-
-def plain_dump(bits: str) -> bytes:
-    """A dump of clock and data alone."""
-    names = "$timescale 1 us $end\n$scope module tap $end\n$var wire 1 ! clk $end\n$var wire 1 \" dat $end\n"
-    texts = [names, "$upscope $end\n$enddefinitions $end\n"]
-    for place, bit in enumerate(bits):
-        texts.append(f'#{10 * place}\n0!\n{bit}"\n#{10 * place + 5}\n1!\n')
-    return "".join(texts).encode() + f"#{10 * len(bits)}\n0!\n".encode()
-
-
-def vcd_through_sigrok(folder: Path) -> List[str]:
-    """The real sigrok-cli makes a session of a dump, and writes it as a dump of its own."""
-    needs("sigrok-cli")
-    bits = random_bits(random.Random(2), 20_000)
-    dumped, session = folder / "tap.vcd", folder / "tap.sr"
-    dumped.write_bytes(plain_dump(bits))
-    written_by(["sigrok-cli", "-i", dumped, "-I", "vcd", "-o", session])
-    written = written_by(["sigrok-cli", "-i", session, "-O", "vcd"])
-    got = ran(["recording-to-bits", "clk", "dat"], written)
-    return [] if got.stdout == lines(bits) else [f"got {got.stdout[:99]!r}.. {got.stderr!r}"]

@@ -7,17 +7,15 @@ to change, this writes the file anew, and the change stands in CHANGELOG.md:
 """
 
 import hashlib
-import io
 import json
 import subprocess
-import zipfile
 from functools import lru_cache
 from pathlib import Path
 from typing import Any, Callable, Iterator, List, NamedTuple, Sequence
 
 from needs import needs
 from tests import listings, summaries
-from tests.case import SCRIPTS, TOP, plain, ran
+from tests.case import SCRIPTS, TOP, ran
 
 KEPT = SCRIPTS / "tests" / "golden.json"
 
@@ -50,19 +48,6 @@ def samples() -> bytes:
     rows = (EXAMPLES / "four-wires.csv").read_text(encoding="ascii").splitlines()
     cells = [row.split(",")[-4:] for row in rows if row[:1].isdigit()]
     return bytes(sum(int(cell) << at for at, cell in enumerate(row)) for row in cells)
-
-
-def session() -> bytes:
-    """The same as PulseView saves it."""
-    metadata = "[device 1]\ncapturefile=logic-1\ntotal probes=4\nsamplerate=1 MHz\nunitsize=1\n"
-    metadata += "".join(f"probe{at}={name}\n" for at, name in enumerate(["TXC", "TXD", "RXC", "RXD"], 1))
-    packed = io.BytesIO()
-    with zipfile.ZipFile(packed, "w", zipfile.ZIP_DEFLATED) as archive:
-        archive.writestr("version", "2")
-        archive.writestr("metadata", metadata)
-        archive.writestr("logic-1-1", samples()[:100])
-        archive.writestr("logic-1-2", samples()[100:])
-    return packed.getvalue()
 
 
 @lru_cache(maxsize=None)
@@ -140,19 +125,6 @@ def outputs_of_small_inputs(_: Path) -> List[str]:
 
 def outputs_of_big_listings(_: Path) -> List[str]:
     return problems_of(lambda case: case.name.endswith(": big"))
-
-
-def session_of_samples(folder: Path) -> List[str]:
-    """A session is a file and no pipe; it gives the bits of its samples."""
-    file = folder / "tap.sr"
-    file.write_bytes(session())
-    with file.open("rb") as stdin:
-        words = [SCRIPTS / "recording-to-bits", "TXC", "TXD", "RXC", "RXD"]
-        got = subprocess.run(words, stdin=stdin, capture_output=True)
-    wanted = ran(["recording-to-bits", "--samplerate=1M", "0", "1", "2", "3"], samples())
-    named = wanted.stderr.replace(b"0 has", b"TXC has").replace(b"2 has", b"RXC has")
-    same = (got.stdout, got.stderr, got.returncode) == (wanted.stdout, named, 0)
-    return [] if same and plain(got.stdout.decode()) else [f"{got.returncode}, {got.stderr!r}, {got.stdout[:80]!r}"]
 
 
 if __name__ == "__main__":

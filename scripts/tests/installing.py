@@ -106,12 +106,6 @@ def problems_of_use(prefix: Path, folder: Path) -> List[str]:
     return problems
 
 
-def problems_of_files(prefix: Path) -> List[str]:
-    """Whether each file is the one that its place is for."""
-    rows = [(place, source, (TOP / source).read_bytes()) for place, source in SAME_FILES.items()]
-    return [f"{place}: not {source}" for place, source, octets in rows if (prefix / place).read_bytes() != octets]
-
-
 # What is written when it is installed, and what is built.
 MADE = {
     *["lib/pkgconfig/port1.pc", "lib/cmake/port1/port1Config.cmake", "lib/cmake/port1/port1ConfigVersion.cmake"],

@@ -13,19 +13,7 @@ from typing import Dict, List, NamedTuple, Sequence, Tuple
 from needs import needs
 from table.captures import packed_marks
 from tests.case import (
-    CALL,
-    SCRIPTS,
-    DICTIONARY,
-    ONE_CALL,
-    REPLY,
-    SECONDS,
-    TOP,
-    WINDOWS,
-    listed,
-    packed,
-    plain,
-    ran,
-    random_bits,
+    CALL, SCRIPTS, DICTIONARY, ONE_CALL, REPLY, SECONDS, TOP, WINDOWS, listed, packed, plain, ran, random_bits,
     written_by,
 )
 

@@ -15,23 +15,8 @@ from needs import needs
 from tests.case import SCRIPTS, SECONDS, TOP
 from tests.killed import problems_of_kills
 from tests.watched import (
-    DICTIONARY,
-    RATE,
-    ROUNDED,
-    SIMULATOR,
-    Cabinet,
-    Fault,
-    Record,
-    Watched,
-    child_of,
-    clock_of,
-    disk_of,
-    judged,
-    lateness,
-    read_until,
-    schedule,
-    wait_until_idle,
-    watched_with_kills,
+    DICTIONARY, RATE, ROUNDED, SIMULATOR, Cabinet, Fault, Record, Watched, child_of, clock_of, disk_of, judged,
+    lateness, read_until, schedule, wait_until_idle, watched_with_kills,
 )
 
 # How far the two clocks of the computer may go apart within a test, in seconds, and lengths are rounded.

@@ -25,24 +25,8 @@ from typing import Callable, Dict, Iterator, List, NamedTuple, Optional, Sequenc
 from needs import needs
 from tests.case import SCRIPTS, SECONDS
 from tests.watched import (
-    BEGIN,
-    DICTIONARY,
-    IN_PIPES,
-    RATE,
-    ROUNDED,
-    SIMULATOR,
-    SUPPORT,
-    Cabinet,
-    Fault,
-    Record,
-    Watched,
-    clock_of,
-    disk_of,
-    judged,
-    lateness,
-    modules_of,
-    problems_of_frames,
-    schedule,
+    BEGIN, DICTIONARY, IN_PIPES, RATE, ROUNDED, SIMULATOR, SUPPORT, Cabinet, Fault, Record, Watched, clock_of, disk_of,
+    judged, lateness, modules_of, problems_of_frames, schedule,
 )
 
 DAY = 86400

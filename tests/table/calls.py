@@ -7,9 +7,7 @@ from .captures import CALL, CALLS, FLAG, IDLE, PACKED, REPLY, STATES, marks, pac
 from .case import Case, Counted, fault, faulty
 from .checks import MISSING_AND_SPOILT_REPORT, report
 from .lists import MISSING_AND_SPOILT, MISSING_AND_SPOILT_LINES, ONE_CALL_LINES
-from .pairs import (
-    AT_ONE_PLACE, AT_ONE_PLACE_LINES, CALL_AND_REPLY, CALL_AND_REPLY_LINES, CALL_AND_REPLY_REPORT, CALLED
-)
+from .pairs import AT_ONE_PLACE, AT_ONE_PLACE_LINES, CALL_AND_REPLY, CALL_AND_REPLY_LINES, CALL_AND_REPLY_REPORT, CALLED
 from .shows import STATE, STATE_TEXT
 from .words import HELP
 
