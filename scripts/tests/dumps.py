@@ -1,6 +1,5 @@
 """Bits from a value change dump."""
 
-
 from tests.case import CALL, Run, lines, plain
 
 # Definitions as IEEE 1364 has them, other kinds of signals among them, the data before the clock.

@@ -11,7 +11,8 @@ from needs import needs
 from table.vectors import VECTORS
 from tests.annotated import ANSWERS, BESIDE_FRAMES, CONTROLLER, REPLY_TIMES, Shown, annotations, built
 from tests.annotated import differences, expected, input_words, shown_of, side_of, sigrok
-from tests.case import CALL, DICTIONARY, REPLY, SCRIPTS, SECONDS, TOP, WINDOWS, Word, listed, plain
+from tests.case import CALL, DICTIONARY, REPLY, SCRIPTS, SECONDS, TOP, WINDOWS, Word, listed, plain, unlike
+from tests.packages import DECODED
 from tests.simulated.waves import CHANNELS, RATE, REST, SECOND, Wave, encoded, recording, traffic, wave
 
 DECODER = TOP / "bindings" / "sigrok"
@@ -362,14 +363,7 @@ def dump_of_the_examples(folder: Path) -> List[str]:
     options = f"txc=clk:txd=tx:rxd=rx{dictionary_in(folder, DICTIONARY)}"
     words = ["-i", path, "-I", "vcd", "-P", f"nema_port1:{options}", "-A", "nema_port1"]
     got = sigrok(decoders, [*words, "--protocol-decoder-samplenum"])
-    wanted = (
-        "4-116 nema_port1-1: idle\n"
-        "68-396 nema_port1-1: frame 108300fde5 station 16 type 0 call\n"
-        "460-572 nema_port1-1: idle\n"
-        "524-852 nema_port1-1: frame 108380f561 station 16 type 128 reply\n"
-        "396-524 nema_port1-1: 0.128 ms, 16 bits\n"
-    )
-    return [] if (got.stdout, got.stderr) == (wanted, "") else [f"{got.stdout}{got.stderr}"]
+    return unlike("it shows", (DECODED, ""), (got.stdout, got.stderr))
 
 
 # Options that are refused, and what is said.
