@@ -79,6 +79,8 @@ declare module "node:fs" {
 declare module "node:child_process" {
   import { Readable } from "node:stream";
   interface Child {
+    exitCode: number | null;
+    signalCode: string | null;
     pid: number;
     stdin: any;
     stdout: Readable;
