@@ -100,12 +100,8 @@ FAULTS = [
 ]
 
 CHECKED = report(
-    "station 16 answered 1 missing 0 spoilt 0 late 0",
-    "last 1 8 49 108300fde5",
-    "last 2 68 109 108380f561",
-    frames=2,
-    idles=2,
-    answered=1,
+    "station 16 answered 1 missing 0 spoilt 0 late 0", "last 1 8 49 108300fde5", "last 2 68 109 108380f561", frames=2,
+    idles=2, answered=1,
 )
 
 ARRIVALS = [

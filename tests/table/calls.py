@@ -243,9 +243,7 @@ LONG_REPORT = Case(
     "a check of 1100 calls", ["check", "--bits", "--dict", CALLS, "--depth", "1024"], capture_of_calls(1100),
     report(
         "station 16 answered 0 missing 1099 spoilt 0 late 0",
-        *[f"last {first} {past} 108300fde5" for first, past in call_places(1100)[-1024:]],
-        frames=1100,
-        missing=1099,
+        *[f"last {first} {past} 108300fde5" for first, past in call_places(1100)[-1024:]], frames=1100, missing=1099,
     ),
     status=1,
 )

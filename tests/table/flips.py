@@ -23,17 +23,11 @@ class Form:
 
 FORMS = [
     Form(
-        name="a packed capture",
-        capture=PACKED,
-        words=[],
-        places=8,
+        name="a packed capture", capture=PACKED, words=[], places=8,
         lines="8 49 frame 108300fde5 station 16 type 0 call\n",
     ),
     Form(
-        name="a packed capture of two lines",
-        capture=packed_pairs(CALLED, REPLIED),
-        words=["--two"],
-        places=4,
+        name="a packed capture of two lines", capture=packed_pairs(CALLED, REPLIED), words=["--two"], places=4,
         lines="""\
 1 8 49 frame 108300fde5 station 16 type 0 call
 2 8 49 frame 108380f561 station 16 type 128 reply
