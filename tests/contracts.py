@@ -131,7 +131,7 @@ def tests_beside(top: Path) -> Dict[str, Set[str]]:
     found: Dict[str, Set[str]] = {}
     for pattern, form in [
         ("c/tests/*.c", r"^static void (\w+)\(void\) \{"),
-        ("tests/table/*.py", r"(?:\bCase\(|\bname=)\s*\"([^\"]+)\""),
+        ("tests/table/*.py", r"(?:\b(?:Case|faulty)\(|\bname=)\s*\"([^\"]+)\""),
         ("examples/vectors/*.json", r"\"name\": \"([^\"]+)\""),
         ("scripts/tests/*.py", r"^def (\w+)\(folder: Path\) -> List\[str\]:"),
     ]:

@@ -159,7 +159,7 @@ FACTS = [
             Place("crates/bus_formats/src/text_arrivals.rt", r"match octet \{(.*?)_ =>", r"b'(.)' =>"),
             Place(CAPTURES, r'^  arrivals: \{ .*?marks: "(.*?)"', r"(.)"),
             Place("bench/generate.c", r'arrive \? "(.*?)"\[', r"(.)"),
-            Place("tests/jobs.py", r'str\("(.*?)"\.index', r"(.)"),
+            Place("tests/jobs.py", r'\["(.*?)"\.index', r"(.)"),
         ],
     ),
     Fact(
@@ -168,6 +168,8 @@ FACTS = [
             Place("scripts/modules/recording/forms.js", r"^export const FORMS = .*?\(\[(.*?)\]\)", NAME),
             Place("scripts/modules/commands/recording-to-bits.txt", r"\[--format \{(.*?)\}\]", r"(\w+)"),
             Place("scripts/modules/commands/recording-to-bits.txt", r"--format FORM +(.*?), where", r"(\w+)", True, ["or"]),
+            Place("page/src/view/job.js", r"^  packed3.*?\n(.*?)^  listing", r"^  (\w+):", False, ["binary"]),
+            Place("page/index.html", r'"packed3".*?\n(.*?)<option value="listing"', r'value="(\w+)"', False, ["binary"]),
         ],
     ),
     Fact(

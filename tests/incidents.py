@@ -14,6 +14,7 @@ import browser
 from engine import Test
 from inputs import NO_ANSWER, RATE, dictionary, talk, text_at
 from paged import address_of, opened, read_file
+from table.captures import packed_marks
 from viewed import EXAMPLE
 
 # The rounds in which station 2 does not answer: its first command then begins after 20 * 20 + 11 ms.
@@ -28,12 +29,10 @@ Files = Dict[str, bytes]
 
 
 def packed() -> bytes:
-    """The capture of both lines, four pairs in an octet."""
+    """The capture of both lines."""
     commands, answers = talk(40, lambda station, number: NO_ANSWER if station == 2 and number in SILENT else 1.0)
     pairs = [int(one) + 2 * int(other) for one, other in zip(commands.bits, answers.bits)]
-    pairs = pairs[: len(pairs) // 4 * 4]
-    octets = bytes(sum(pair << 2 * at for at, pair in enumerate(four)) for four in zip(*[iter(pairs)] * 4))
-    return b"TS2BITS2" + len(pairs).to_bytes(8, "little") + octets
+    return packed_marks(b"TS2BITS2", pairs)
 
 
 def folder_of(name: str, wall: str, causes: Sequence[str]) -> Files:

@@ -17,7 +17,8 @@ from paged import TOP, address_of, opened, read_file
 
 sys.path.insert(0, str(TOP / "scripts" / "tests" / "simulated"))
 
-from failing_bus import CONTROL, FLAG, RATE, frame_bits
+from failing_bus import CONTROL, FLAG, RATE
+from table.captures import sent
 
 
 class Line:
@@ -28,7 +29,7 @@ class Line:
 
     def send(self, at: float, *octets: int) -> float:
         """Sends a frame whose first bit comes after so many milliseconds; when its last bit has gone."""
-        bits = frame_bits(*octets)
+        bits = sent(bytes(octets))
         first = round(at * RATE / 1000)
         self.bits[first - len(FLAG) : first + len(bits) + len(FLAG)] = FLAG + bits + FLAG
         return (first + len(bits)) * 1000 / RATE
@@ -151,7 +152,7 @@ MUTE = text_of(*talk(60, lambda _, number: NO_ANSWER if number >= 30 else 1.0))
 SILENT = text_of(*talk(60, lambda station, _: NO_ANSWER if station == 2 else 1.0))
 NO_ANSWERS = text_of(*talk(60, lambda *_: NO_ANSWER))
 SWAPPED = text_of(*reversed(talk(60, well)))
-UNTYPED = (FLAG + frame_bits(1, CONTROL) + FLAG).encode()
+UNTYPED = (FLAG + sent(bytes([1, CONTROL])) + FLAG).encode()
 DEAD = text_of(*talk(60, well, rest=2000))
 
 SEVERAL = text_of(*talk(120, lambda station, number: NO_ANSWER if number == 50 and station == 2 else 6.0 if number == 7 else 1.0))
@@ -169,29 +170,21 @@ FIRST, SHORTLY, LACKS, STATUS = "#sentences .jump", "#verdict-short", "#lacks", 
 
 INPUTS = [
     Input(
-        "all is well",
-        {**DICT, "a.bits": WELL},
-        "No fault found",
+        "all is well", {**DICT, "a.bits": WELL}, "No fault found",
         {SHORTLY: "^Every answer came in time", "#counts": "^0gaps0missing0late0spoilt0damaged$", "#replies p": "0 late"},
     ),
     Input(
-        "no dictionary",
-        {"a.bits": WELL},
-        "Not all judged",
+        "no dictionary", {"a.bits": WELL}, "Not all judged",
         {LACKS: "^Nothing is damaged, missing or spoilt.*Judged by a draft of a dictionary.*See it", **NOT_LATE},
     ),
     Input("a silent station, and no dictionary", {"a.bits": SILENT}, "Fault", {FIRST: "^Station 2 is silent"}),
     Input("frames without a type", {"a.bits": UNTYPED}, "Not judged", {LACKS: "There is no dictionary"}),
     Input(
-        "no window",
-        {**OPEN, "a.bits": WELL},
-        "Not all judged",
+        "no window", {**OPEN, "a.bits": WELL}, "Not all judged",
         {SHORTLY: "^No reply was judged late", LACKS: "^Nothing is damaged, missing or spoilt, and no gap", **NOT_LATE},
     ),
     Input(
-        "slow replies, and no window",
-        {**OPEN, "a.bits": SLOW},
-        "Look closer",
+        "slow replies, and no window", {**OPEN, "a.bits": SLOW}, "Look closer",
         {FIRST: "^Station 2 took 4 ms for 2 of 60 answers.*usual", LACKS: "^No reply was judged late"},
     ),
     Input("late replies", {**DICT, "a.bits": LATE}, "Look closer", {FIRST: "^Station 2 answered 2 of 60"}),
@@ -204,51 +197,36 @@ INPUTS = [
     Input("lines exchanged", {**DICT, "a.bits": SWAPPED}, "Fault", {FIRST: "^120 commands came on line 2"}),
     Input("a dead end", {**DICT, "a.bits": DEAD}, "Fault", {FIRST: "^Nothing came on either line from 1.19"}),
     Input(
-        "a session of PulseView",
-        {**DICT, "tap.sr": session_of(SHORT)},
-        "No fault found",
+        "a session of PulseView", {**DICT, "tap.sr": session_of(SHORT)}, "No fault found",
         {"#head": "^40 frames", "#command": r"recording-to-bits TXC TXD RXC RXD < tap.sr \| port1 list --bits --arrivals"},
     ),
     Input(
-        "channels without names",
-        {**DICT, "d.sr": session_of(SHORT, ["D0", "D1", "D2", "D3"])},
-        "No fault found",
+        "channels without names", {**DICT, "d.sr": session_of(SHORT, ["D0", "D1", "D2", "D3"])}, "No fault found",
         {"#guess": "^The channels D0, D1, D2, D3 were taken for TXC, TXD, RXC, RXD, in this order"},
     ),
     Input(
         "channels out of order, and without names",
-        {**DICT, "d.csv": rows_of(talk(10, well), ["D2", "D3", "D0", "D1"])},
-        "Fault",
+        {**DICT, "d.csv": rows_of(talk(10, well), ["D2", "D3", "D0", "D1"])}, "Fault",
         {FIRST: "came on line 2", "#channels": "D0"},
     ),
     Input(
-        "clocks inverted",
-        {**DICT, "tap.csv": rows_of(SHORT, flipped=0b0101)},
-        "",
+        "clocks inverted", {**DICT, "tap.csv": rows_of(SHORT, flipped=0b0101)}, "",
         {"#warnings": "^The recording is doubtful.*just where a bit is taken.*Take the bits at the other edge"},
     ),
     Input(
-        "answers inverted",
-        {**DICT, "tap.csv": rows_of(SHORT, flipped=0b1000)},
-        "",
+        "answers inverted", {**DICT, "tap.csv": rows_of(SHORT, flipped=0b1000)}, "",
         {"#warnings": "RXD rests at 0.*two wires may be exchanged.*Read it inverted"},
     ),
     Input(
-        "a wire that never changes",
-        {**DICT, "tap.csv": rows_of((SHORT[0], Line(220)))},
-        "",
+        "a wire that never changes", {**DICT, "tap.csv": rows_of((SHORT[0], Line(220)))}, "",
         {"#warnings": "RXD never changes.*Is it the right channel"},
     ),
     Input(
-        "several findings",
-        {**DICT, "a.bits": SEVERAL},
-        "Look closer",
+        "several findings", {**DICT, "a.bits": SEVERAL}, "Look closer",
         {SHORTLY: "^Station 2: 1 answer missing . Station 1: 1 answer late . 1 more finding$"},
     ),
     Input(
-        "a clock that stops twice",
-        {**DICT, "tap.csv": rows_of(SHORT, stops=STOPS)},
-        "",
+        "a clock that stops twice", {**DICT, "tap.csv": rows_of(SHORT, stops=STOPS)}, "",
         {
             "#warnings": r"TXC stops, and times with it: in the end they are 0\.150 s too early\. 2 times, for longest at 0\.140 s",
             "#facts": r"0\.370 s, 0\.220 s of them with a clock",
@@ -256,40 +234,28 @@ INPUTS = [
         },
     ),
     Input(
-        "a clock that is dead",
-        {**DICT, "tap.csv": rows_of(SHORT, dead=0b0001)},
-        "",
+        "a clock that is dead", {**DICT, "tap.csv": rows_of(SHORT, dead=0b0001)}, "",
         {"#warnings": "TXC never changes", "#facts": r"0\.220 s, 0\.000 s of them with a clock"},
     ),
     Input(
-        "samples that are lost within a frame",
-        {**DICT, "tap.sr": session_of(SHORT, lost=LOST)},
-        "",
+        "samples that are lost within a frame", {**DICT, "tap.sr": session_of(SHORT, lost=LOST)}, "",
         {"#warnings": "The analyser lost samples", "#head": "damaged pieces?, beside [1-9] where the recording lacks samples,"},
     ),
     Input(
-        "channels of other numbers",
-        {**DICT, "saleae.csv": rows_of(SHORT, [f"Channel {at}" for at in range(4)])},
-        "",
+        "channels of other numbers", {**DICT, "saleae.csv": rows_of(SHORT, [f"Channel {at}" for at in range(4)])}, "",
         {"#ask": "^saleae.csv has 4 channels", STATUS: "^Say which channels the recording has"},
     ),
     Input(
-        "a table that is cut off",
-        {**DICT, "tap.csv": rows_of(SHORT)[:-4]},
-        "Look closer",
+        "a table that is cut off", {**DICT, "tap.csv": rows_of(SHORT)[:-4]}, "Look closer",
         {"#warnings": "ends in the middle of a line.*save it whole", "#head": "^40 frames"},
     ),
     Input(
-        "a dump that is cut off",
-        {**DICT, "tap.vcd": cut_in_time(dump_of(SHORT))},
-        "Look closer",
+        "a dump that is cut off", {**DICT, "tap.vcd": cut_in_time(dump_of(SHORT))}, "Look closer",
         {"#warnings": "ends in the middle of a line", "#head": "^40 frames"},
     ),
     Input("a session that is cut off", {"tap.sr": session_of(SHORT)[:-400]}, "", {STATUS: "^tap.sr: The session is cut off"}),
     Input(
-        "a capture that is cut off",
-        {"a.ts2": b"TS2BITS1" + (90).to_bytes(8, "little") + b"\x7e\x7e"},
-        "Look closer",
+        "a capture that is cut off", {"a.ts2": b"TS2BITS1" + (90).to_bytes(8, "little") + b"\x7e\x7e"}, "Look closer",
         {"#fault": "^The file is cut off.*port1: capture: short body$"},
     ),
     Input("an empty file", {"empty.csv": b""}, "", {STATUS: "^empty.csv is empty"}),
@@ -297,10 +263,8 @@ INPUTS = [
     Input("words", {"notes.txt": b"station 16 flashes\n"}, "", {STATUS: "^notes.txt is text, but no capture"}),
     Input("a dictionary alone", DICT, "", {STATUS: "^The dictionary is kept. Now drop a recording.$"}),
     Input(
-        "what cannot be read beside what can",
-        {**DICT, "a.bits": WELL, "notes.txt": b"station 16 flashes\n"},
-        "No fault found",
-        {STATUS: "^notes.txt is text, but no capture"},
+        "what cannot be read beside what can", {**DICT, "a.bits": WELL, "notes.txt": b"station 16 flashes\n"},
+        "No fault found", {STATUS: "^notes.txt is text, but no capture"},
     ),
 ]
 

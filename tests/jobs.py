@@ -12,7 +12,8 @@ TOP = Path(__file__).resolve().parent.parent
 sys.path.append(str(TOP / "c" / "tests"))
 
 from needs import Skipped
-from workbench import Bench, captures, octets_of, talk, traffic
+from table.captures import packed, packed_marks
+from workbench import Bench, captures, talk, traffic
 
 # How long anything may take, in seconds.
 SECONDS = 1800
@@ -84,8 +85,7 @@ def text_job(name: str, bits: str, kind: Union[int, str], dictionary: str) -> Jo
 
 def packed_arrivals(marks: str) -> bytes:
     """Bits in the order of arrival as a packed capture."""
-    body = packed_pairs("".join(str("01oi".index(mark)) for mark in marks))
-    return b"TS2BITS3" + body[8:]
+    return packed_marks(b"TS2BITS3", ["01oi".index(mark) for mark in marks])
 
 
 def arrived(generator: random.Random, first: str, second: str) -> str:
@@ -102,9 +102,7 @@ def arrived(generator: random.Random, first: str, second: str) -> str:
 
 
 def packed_pairs(marks: str) -> bytes:
-    """Marks of two lines as a packed capture."""
-    body = bytes(sum(int(mark) << 2 * at for at, mark in enumerate(marks[k : k + 4])) for k in range(0, len(marks), 4))
-    return b"TS2BITS2" + len(marks).to_bytes(8, "little") + body
+    return packed_marks(b"TS2BITS2", [int(mark) for mark in marks])
 
 
 def example_jobs() -> Iterator[Job]:
@@ -132,8 +130,7 @@ def generated_jobs(count: int) -> Iterator[Job]:
         pairs = "".join(str(int(one) + 2 * int(other)) for one, other in zip(first, second))
         yield text_job(f"one line, seed {seed}", first, 1, dictionary)
         yield text_job(f"two lines, seed {seed}", pairs, 2, dictionary)
-        packed = b"TS2BITS1" + len(first).to_bytes(8, "little") + octets_of(first)
-        yield Job(f"one line, packed, seed {seed}", packed, (), "packed", 1, dictionary)
+        yield Job(f"one line, packed, seed {seed}", packed(first), (), "packed", 1, dictionary)
         yield Job(f"two lines, packed, seed {seed}", packed_pairs(pairs), ("--two",), "packed", 2, dictionary)
         marks = arrived(generator, first, second)
         yield text_job(f"two clocks, seed {seed}", marks, "arrivals", dictionary)
@@ -159,18 +156,18 @@ def traffic_jobs() -> Iterator[Job]:
 def broken_jobs() -> Iterator[Job]:
     """Captures with each fault that there can be."""
     bits = "0111111000001000110000010000000010111110110100111011111101111111111111110"
-    packed = b"TS2BITS1" + len(bits).to_bytes(8, "little") + octets_of(bits)
+    whole = packed(bits)
     pairs = packed_pairs(bits)
     for cut in [0, 5, 8, 15, 16, 17, 20]:
-        yield Job(f"packed, cut after {cut} octets", packed[:cut], (), "packed", 1)
+        yield Job(f"packed, cut after {cut} octets", whole[:cut], (), "packed", 1)
         yield Job(f"packed pairs, cut after {cut} octets", pairs[:cut], ("--two",), "packed", 2)
-    yield Job("wrong magic", b"TS2BITS3" + packed[8:], (), "packed", 1)
-    yield Job("one line for two", packed, ("--two",), "packed", 2)
+    yield Job("wrong magic", b"TS2BITS3" + whole[8:], (), "packed", 1)
+    yield Job("one line for two", whole, ("--two",), "packed", 2)
     yield Job("two lines for one", pairs, (), "packed", 1)
     yield Job("too many bits", b"TS2BITS1" + (2**60 + 1).to_bytes(8, "little"), (), "packed", 1)
-    yield Job("spare bits", packed[:-1] + bytes([packed[-1] | 0x80]), (), "packed", 1)
+    yield Job("spare bits", whole[:-1] + bytes([whole[-1] | 0x80]), (), "packed", 1)
     yield Job("spare pairs", pairs[:-1] + bytes([pairs[-1] | 0x80]), ("--two",), "packed", 2)
-    yield Job("octets after the end", packed + b"\0", (), "packed", 1)
+    yield Job("octets after the end", whole + b"\0", (), "packed", 1)
     for wrong in "x2~":
         yield text_job(f"{wrong} in the text", bits[:60] + wrong + bits[60:], 1, "")
     yield text_job("4 in a text of two lines", bits[:60] + "4" + bits[60:], 2, "")

@@ -111,8 +111,10 @@ def problems_of_report() -> List[str]:
 def asked_for() -> Set[str]:
     """The programs and modules that the tests say they need."""
     files = [file for folder in ("tests", "scripts/tests", "c/tests") for file in (TOP / folder).glob("*.py")]
-    calls = [call for file in files for call in re.findall(r"\bneeds\w*\(([^)]*)\)", file.read_text(encoding="utf-8"))]
-    return {word for call in calls for word in re.findall(r'"([^"{}]+)"', call)}
+    text = "".join(file.read_text(encoding="utf-8") for file in files)
+    calls = re.findall(r"\bneeds\w*\(([^)]*)\)", text)
+    imported = re.findall(r"^import (\w+) as ", text, re.MULTILINE)
+    return {*imported, *(word for call in calls for word in re.findall(r'"([^"{}]+)"', call))}
 
 
 def problems_of_list() -> List[str]:

@@ -63,10 +63,6 @@ def summary_of(listing: str, *words: str) -> str:
     return subprocess.run(words, input=listing.encode(), capture_output=True, check=True).stdout.decode()
 
 
-def numbers_of(text: str) -> List[str]:
-    return re.findall(r"\d+(?:\.\d+)?", text)
-
-
 def problems_of_page(page: Path, name: str) -> List[str]:
     """Reads files as a user does, and looks at all that is shown."""
     bench()

@@ -2,7 +2,7 @@
 
 import contextlib
 import copy
-from typing import Any, Callable, Dict, Iterator, List, NamedTuple
+from typing import Any, Callable, Iterator, NamedTuple
 
 from edits import Change, Edit, edits_in, misfits
 from promise_problems import MAP, NO_PROMISE, TOP, Papers, Tree, problems_of

@@ -9,8 +9,9 @@ from itertools import zip_longest
 from pathlib import Path
 from typing import Dict, Iterator, List, Sequence, Tuple
 
+from table.captures import packed
 from table.vectors import VECTORS, WORDS, Vector
-from workbench import MAKERS, SECONDS, TAPPED, Bench, Result, Word, captures, damaged, octets_of, orders, packed
+from workbench import MAKERS, SECONDS, TAPPED, Bench, Result, Word, captures, damaged, octets_of, orders
 from workbench import problems_of_compilers, simulated, talk
 
 # What a program shows while it is given no more takes so long at most, in seconds.

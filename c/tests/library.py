@@ -20,7 +20,7 @@ from version import version_of
 from workbench import SECONDS, TOP, Bench, Compiler, Result, Word, installed, output_of, side_by_side
 
 # The tests in C.
-CALLS = ["library.c", "samples.c", "worked.c"]
+CALLS = ["samples.c", "worked.c"]
 
 # What the code in documents stands on.
 BEFORE_SHOWN = """#include "port1.h"

@@ -10,6 +10,8 @@ from functools import lru_cache
 from pathlib import Path
 from typing import Callable, Dict, Iterator, List, NamedTuple, Sequence, Tuple, TypeVar, Union
 
+from table.captures import packed
+
 TOP = Path(__file__).resolve().parent.parent.parent
 
 STRICT = ["-Wall", "-Wextra", "-Wpedantic", "-Wconversion", "-Werror", "-O2"]
@@ -113,10 +115,6 @@ def problems_of_compilers(bench: Bench, source: Path) -> List[str]:
 
 
 # ---- captures and lines
-
-
-def packed(bits: str) -> bytes:
-    return b"TS2BITS1" + len(bits).to_bytes(8, "little") + octets_of(bits)
 
 
 def octets_of(bits: str) -> bytes:

@@ -1,8 +1,10 @@
 /* Calls of the C library on worked bits, and what each is to do by the rules of the line and c/include/port1.h: a line
- * with a report of each kind in cuts of any size, memory with one number that no decoder has, bits that are sent, and
- * what becomes of a command. Each that does otherwise is a line on standard output. It is compiled as C99, C11 and C++;
- * an argument is the name of the one test to run. */
+ * with a report of each kind in cuts of any size, memory with one number that no decoder has, null pointers, bits that
+ * are sent, and what becomes of a command. Each that does otherwise is a line on standard output. It is compiled as C99,
+ * C11 and C++; an argument is the name of the one test to run. */
 #include "want.h"
+
+#define TWO_32 ((uint64_t)1 << 32)
 
 static struct port1_line line;
 
@@ -106,6 +108,20 @@ static void pushed_bits(void) {
         note(&report);
     }
     WANT(reports == TOLD);
+}
+
+/* A frame, pushed bit by bit, and the piece that is open before it ends. */
+static void open_pieces(void) {
+    uint8_t octets[8] = {0}, has_begun = 0;
+    uint64_t first = 0, bits = put_bits(octets, 0, FLAG CALL FLAG);
+    struct port1_report report = untold;
+    WANT(port1_line_init(&line, 256, 1000) == PORT1_OK);
+    for (uint64_t k = 0; k < bits; k++) {
+        WANT(port1_line_push(&line, (uint8_t)bit_at(octets, k), &report) == PORT1_OK);
+        WANT((report.kind == PORT1_FRAME) == (k + 1 == bits));
+        WANT(port1_line_open(&line, &has_begun, &first) == PORT1_OK);
+        WANT(has_begun == (k > 7 && k + 1 < bits ? 1 : 0) && (!has_begun || first == 1008));
+    }
 }
 
 /* The traffic begins at each bit of an octet, and a call gets at most so many bits. */
@@ -286,7 +302,10 @@ static void bits_of_octets(void) {
                 {0, 0, 0, PORT1_OK},           {0, 0, 1, PORT1_BAD_ARGUMENT},  {1, 0, 8, PORT1_OK},
                 {1, 0, 9, PORT1_BAD_ARGUMENT}, {1, 9, 8, PORT1_BAD_ARGUMENT},  {4, 1, 0, PORT1_BAD_ARGUMENT},
                 {4, 33, 32, PORT1_BAD_ARGUMENT}, {4, 0, 33, PORT1_BAD_ARGUMENT}, {4, 33, 33, PORT1_BAD_ARGUMENT},
-                {4, 0, UINT64_MAX, PORT1_BAD_ARGUMENT}, {4, UINT64_MAX, 32, PORT1_BAD_ARGUMENT}};
+                {4, 0, UINT64_MAX, PORT1_BAD_ARGUMENT}, {4, UINT64_MAX, 32, PORT1_BAD_ARGUMENT},
+                {4, 0, 39, PORT1_BAD_ARGUMENT}, {4, 0, 40, PORT1_BAD_ARGUMENT}, {4, 0, TWO_32, PORT1_BAD_ARGUMENT},
+                {4, TWO_32, 32, PORT1_BAD_ARGUMENT}, {4, 0, TWO_32 + 32, PORT1_BAD_ARGUMENT},
+                {4, TWO_32, TWO_32, PORT1_BAD_ARGUMENT}};
     for (size_t k = 0; k < sizeof rows / sizeof *rows; k++) {
         struct port1_line made = decoder(0);
         struct port1_report report = untold;
@@ -336,13 +355,17 @@ static void last_places(void) {
         WANT(port1_line_push(&line, 1, &report) == PORT1_PLACE_LIMIT && is_untold(&report));
         WANT(port1_line_feed(&line, ones, 1, &at, 8, &report) == PORT1_PLACE_LIMIT && report.kind == PORT1_NONE);
         WANT(at == 0 && line.place == LIMIT);
+        at = 6;
+        line = decoder(LIMIT - 1);
+        WANT(port1_line_feed_high_first(&line, 0xff, &at, &report) == PORT1_PLACE_LIMIT && at == 7);
+        WANT(line.place == LIMIT);
     }
 }
 
 /* ---- bits that are sent, and what the calls that send refuse */
 
 /* What is asked for. */
-enum ask { ASK_FLAG, ASK_IDLE, ASK_ALIGN, ASK_FRAME, ASK_SHORT_FRAME, ASK_LONG_FRAME };
+enum ask { ASK_FLAG, ASK_IDLE, ASK_ALIGN, ASK_FRAME, ASK_SHORT_FRAME, ASK_LONG_FRAME, ASK_HUGE_FRAME };
 
 static uint32_t send(struct port1_sender *sender, enum ask what, uint8_t *octets, uint64_t count, uint64_t *at,
                      uint64_t *bits) {
@@ -359,7 +382,7 @@ static uint32_t send(struct port1_sender *sender, enum ask what, uint8_t *octets
     case ASK_SHORT_FRAME:
         return port1_send_frame(sender, frame, 1, octets, count, at, bits);
     default:
-        return port1_send_frame(sender, zeros, 257, octets, count, at, bits);
+        return port1_send_frame(sender, zeros, what == ASK_LONG_FRAME ? 257 : TWO_32 + 3, octets, count, at, bits);
     }
 }
 
@@ -426,7 +449,13 @@ static void refused_sends(void) {
                 {ASK_FRAME, 2, 8, 65, PORT1_BAD_ARGUMENT, 999},
                 {ASK_FRAME, 0xffffffff, 8, 0, PORT1_BAD_STATE, 999},
                 {ASK_SHORT_FRAME, 0, 8, 0, PORT1_BAD_LENGTH, 999},
-                {ASK_LONG_FRAME, 0, 8, 0, PORT1_BAD_LENGTH, 999}};
+                {ASK_LONG_FRAME, 0, 8, 0, PORT1_BAD_LENGTH, 999},
+                {ASK_HUGE_FRAME, 0, 8, 0, PORT1_BAD_LENGTH, 999},
+                {ASK_SHORT_FRAME, 2, 8, 0, PORT1_BAD_STATE, 999},
+                {ASK_FRAME, 0, 7, 0, PORT1_NO_ROOM, 57},
+                {ASK_FRAME, 0, 7, 57, PORT1_BAD_ARGUMENT, 999},
+                {ASK_FRAME, 0, 8, UINT64_MAX, PORT1_BAD_ARGUMENT, 999},
+                {ASK_FRAME, 0, 8, TWO_32, PORT1_BAD_ARGUMENT, 999}};
     for (size_t k = 0; k < sizeof rows / sizeof *rows; k++) {
         uint8_t octets[8], before[8];
         struct port1_sender sender = {rows[k].behind_flag};
@@ -441,6 +470,65 @@ static void refused_sends(void) {
             WANT(at == rows[k].from && sender.behind_flag == rows[k].behind_flag
                  && memcmp(octets, before, sizeof octets) == 0);
     }
+}
+
+/* The longest frame has room in so many bits. */
+static void longest_sent(void) {
+    uint8_t frame[256], octets[(PORT1_FRAME_BITS + 7) / 8];
+    struct port1_sender sender = {9};
+    uint64_t at = 0, bits = 0;
+    memset(frame, 0xff, sizeof frame);
+    WANT(port1_sender_init(&sender) == PORT1_OK);
+    WANT(port1_send_frame(&sender, frame, 256, octets, sizeof octets, &at, &bits) == PORT1_OK);
+    WANT(at == bits && bits <= PORT1_FRAME_BITS && bits > PORT1_FRAME_BITS - 8);
+}
+
+/* A transmission ends with a whole octet, and no other bit changes. */
+static void send_align(void) {
+    uint8_t octets[32];
+    struct port1_sender sender;
+    for (uint64_t from = 0; from < 24; from++) {
+        uint64_t at = from, bits = 999;
+        memset(octets, 0, sizeof octets);
+        sender.behind_flag = 1;
+        WANT(port1_send_align(&sender, octets, 16, &at, &bits) == PORT1_OK);
+        WANT(bits == 15 * (from % 8) && at == from + bits && at % 8 == 0);
+        WANT(sender.behind_flag == (from % 8 ? 0 : 1));
+        for (uint64_t k = 0; k < 8 * sizeof octets; k++)
+            WANT((octets[k / 8] >> k % 8 & 1) == (k >= from && k < at));
+        sender.behind_flag = 1;
+        at = from;
+        WANT(port1_send_align(&sender, octets, (from + bits) / 8 - (bits ? 1 : 0), &at, &bits)
+             == (from % 8 ? PORT1_NO_ROOM : PORT1_OK));
+        WANT(bits == 15 * (from % 8) && at == from && sender.behind_flag == 1);
+    }
+    sender.behind_flag = 2;
+    {
+        uint64_t at = 1, bits = 999;
+        WANT(port1_send_align(&sender, octets, 16, &at, &bits) == PORT1_BAD_STATE && at == 1 && bits == 999);
+        at = 129;
+        WANT(port1_send_align(&sender, octets, 16, &at, &bits) == PORT1_BAD_ARGUMENT && at == 129 && bits == 999);
+    }
+}
+
+/* Where there are no octets, the pointer may be null. */
+static void null_octets(void) {
+    static const uint8_t frame[] = {0x10, 0x83};
+    uint64_t at = 0, bits = 77;
+    uint8_t *const none = NULL, octets[8];
+    struct port1_sender sender = {9};
+    struct port1_report report = untold;
+    WANT(port1_line_init(&line, 256, 0) == PORT1_OK);
+    WANT(port1_line_feed(&line, none, 0, &at, 0, &report) == PORT1_OK);
+    WANT(at == 0 && report.kind == PORT1_NONE && report.cause == 0 && line.place == 0);
+    WANT(port1_line_feed(&line, none, 0, &at, 1, &report) == PORT1_BAD_ARGUMENT);
+    WANT(port1_sender_init(&sender) == PORT1_OK);
+    WANT(port1_send_flag(&sender, none, 0, &at, &bits) == PORT1_NO_ROOM && bits == 8);
+    WANT(port1_send_idle(&sender, none, 0, &at, &bits) == PORT1_NO_ROOM && bits == 15);
+    WANT(port1_send_frame(&sender, frame, 2, none, 0, &at, &bits) == PORT1_NO_ROOM && bits >= 48);
+    WANT(port1_send_frame(&sender, none, 0, octets, sizeof octets, &at, &bits) == PORT1_BAD_LENGTH);
+    WANT(port1_send_frame(&sender, none, 0, none, 0, &at, &bits) == PORT1_BAD_LENGTH);
+    WANT(at == 0 && sender.behind_flag == 0);
 }
 
 /* ---- a command and what becomes of it */
@@ -541,6 +629,22 @@ static void refused_reports(void) {
     }
 }
 
+/* The cause is read of a damaged piece alone. */
+static void causes_of_others(void) {
+    static const struct port1_report others[] = {{PORT1_IDLE, 77, 65, 80}, {PORT1_FRAME, 9, 65, 106}};
+    for (size_t k = 0; k < sizeof others / sizeof *others; k++) {
+        waiting();
+        WANT(port1_pair_take(&pair, entries, 129, 0, &others[k], reply, sizeof reply, &seen) == PORT1_OK);
+    }
+    WANT(seen.verdict == PORT1_ANSWERED);
+}
+
+static void version(void) {
+    char text[32];
+    snprintf(text, sizeof text, "%d.%d.%d", PORT1_VERSION_MAJOR, PORT1_VERSION_MINOR, PORT1_VERSION_PATCH);
+    WANT(strcmp(text, PORT1_VERSION) == 0);
+}
+
 #define TEST(name) {#name, name}
 
 int main(int count, char **words) {
@@ -550,7 +654,8 @@ int main(int count, char **words) {
     } tests[] = {TEST(pushed_bits),       TEST(fed_in_cuts), TEST(fed_by_octets),    TEST(decoders_are_made),
                  TEST(no_decoder),        TEST(one_number_wrong), TEST(bits_asked_for), TEST(last_places),
                  TEST(sent_bits),         TEST(refused_sends), TEST(verdicts),       TEST(two_lines),
-                 TEST(refused_reports)};
+                 TEST(refused_reports),   TEST(open_pieces), TEST(longest_sent),     TEST(send_align),
+                 TEST(null_octets),       TEST(causes_of_others), TEST(version)};
     int ran = 0;
     for (size_t k = 0; k < sizeof tests / sizeof *tests; k++) {
         if (count > 1 && strcmp(words[1], tests[k].name) != 0)

@@ -164,14 +164,9 @@ class Definitions:
             if kind.name == "None":
                 raise Fault("unknown kind")
         return Record(
-            dictionary=option(None if text is None else Record(now=items_of(text))),
-            text=words.bits,
-            rest=SILENCE if given.get("rest") is None else given["rest"],
-            origin=words.origin,
-            depth=given.get("depth"),
-            station=option(given.get("station")),
-            ftype=option(given.get("type")),
-            kind=kind,
+            dictionary=option(None if text is None else Record(now=items_of(text))), text=words.bits,
+            rest=SILENCE if given.get("rest") is None else given["rest"], origin=words.origin, depth=given.get("depth"),
+            station=option(given.get("station")), ftype=option(given.get("type")), kind=kind,
         )
 
     def dictionary(self, options: Record) -> Items:
@@ -198,9 +193,7 @@ class Definitions:
         found = [*wires, None, None]
         return Record(
             form=Case(f"{RECORDS}.Runs") if words.runs else Case(f"{RECORDS}.Samples", words.octets),
-            wires=Record(**{name: option(wire) for name, wire in zip(names, found)}),
-            hold=words.hold,
-            rest=words.rest,
+            wires=Record(**{name: option(wire) for name, wire in zip(names, found)}), hold=words.hold, rest=words.rest,
         )
 
     def text_of_samples(self, words: argparse.Namespace, octets: bytes) -> bytes:

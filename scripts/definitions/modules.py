@@ -8,11 +8,6 @@ from definitions.syntax import Clause, Name, clause_of
 from definitions.table import CASES, FUNCTIONS, VALUES
 from definitions.tokens import Token, tokens_of
 
-KINDS = (["abbrev", "pub"], ["unfoldable", "pub"], ["abbrev"], ["unfoldable"], ["pub"])
-
-# What begins an item that no name of a definition follows.
-OTHERS = ("use", "pub use", "pub mod", "infixl", "infixr", "infix", "pub data", "pub record", "module")
-
 
 class Definition(NamedTuple):
     """A definition in a file: its name, the arguments of the block that it stands in, and its clauses' tokens."""

@@ -20,9 +20,7 @@ declare const process: {
 interface Buffer extends Uint8Array {
   toString(encoding?: string, from?: number, past?: number): string;
   write(text: string, at: number, encoding: string): number;
-  writeBigUInt64LE(number: bigint, at: number): number;
   writeUInt16LE(number: number, at: number): number;
-  writeUIntLE(number: number, at: number, octets: number): number;
   indexOf(octets: string | number, from?: number): number;
   lastIndexOf(octets: string | number, from?: number): number;
   subarray(from?: number, past?: number): Buffer;
@@ -54,14 +52,11 @@ declare module "node:fs" {
   const constants: { O_NONBLOCK: number; O_WRONLY: number };
   function chmodSync(path: string, mode: number): void;
   function appendFileSync(path: string, text: string): void;
-  function createReadStream(path: string): Readable;
-  function createWriteStream(path: string): Readable;
   function mkdirSync(path: string, options?: { recursive: boolean }): void;
   function readdirSync(path: string): string[];
   function statfsSync(path: string): { bavail: number; bsize: number };
   function truncateSync(path: string, size: number): void;
   function closeSync(file: number): void;
-  function copyFileSync(from: string, to: string): void;
   function existsSync(path: string): boolean;
   function fsync(file: number, done: (fault: Error | null) => void): void;
   function fstatSync(file: number): Stats;
@@ -84,6 +79,8 @@ declare module "node:fs" {
 declare module "node:child_process" {
   import { Readable } from "node:stream";
   interface Child {
+    exitCode: number | null;
+    signalCode: string | null;
     pid: number;
     stdin: any;
     stdout: Readable;
@@ -98,10 +95,6 @@ declare module "node:child_process" {
     stdout: Buffer;
     stderr: Buffer;
   };
-}
-
-declare module "node:stream/promises" {
-  function pipeline(...streams: object[]): Promise<void>;
 }
 
 declare module "node:crypto" {

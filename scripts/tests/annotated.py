@@ -6,11 +6,9 @@ import subprocess
 from pathlib import Path
 from typing import List, NamedTuple, Sequence
 
-from needs import Skipped, needs
-from tests.case import SECONDS, TOP, Word, listed
+from needs import needs
+from tests.case import SECONDS, TOP, Word, listed, needs_archive
 from tests.simulated.waves import RATE, Wave
-
-ARCHIVE = TOP / "crates" / "port1_c" / "out" / "libport1_c.a"
 
 PIECES = ("frame", "damaged", "overlong", "abort", "idle")
 
@@ -18,8 +16,7 @@ PIECES = ("frame", "damaged", "overlong", "abort", "idle")
 def built(folder: Path) -> Path:
     """The folder of decoders with this one in it, made by the Makefile."""
     needs("sigrok-cli", "cc", "make")
-    if not ARCHIVE.exists():
-        raise Skipped(f"no {ARCHIVE.relative_to(TOP)}; `make` builds it")
+    needs_archive()
     made = folder / "decoders"
     words: List[Word] = ["make", "-s", "-C", TOP / "bindings/sigrok", f"OUT={made / 'nema_port1'}"]
     subprocess.run(words, check=True, capture_output=True, timeout=SECONDS)

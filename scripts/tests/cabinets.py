@@ -7,18 +7,12 @@ from itertools import product
 from pathlib import Path
 from typing import Any, Iterator, List, NamedTuple, Optional, Sequence
 
-from needs import needs_module
-from tests.case import SCRIPTS, TOP, Run, plain, ran
+import numpy as np
+from table.captures import sent
+from tests.case import SCRIPTS, TOP, plain, ran
 from tests.recordings import CHANNELS, SCRIPT
-
-try:
-    import numpy as np
-    from tests.simulated import cabinet
-    from tests.simulated.cabinet import Cabinet, Recorded, arrivals_of, recorded_of
-except ModuleNotFoundError:
-    pass  # Each test that needs numpy then says so.
-
-RUNS: List[Run] = []
+from tests.simulated import cabinet
+from tests.simulated.cabinet import Cabinet, Recorded, arrivals_of, recorded_of
 
 # What the clocks of the stations may be off, in parts per million, and samples a second, in millions.
 PPM = [0, 20, -20, 80, -80, 150, -150, 1000, -1000]
@@ -36,21 +30,21 @@ class Outcome(NamedTuple):
     others: List[str]
 
 
-def outcome_of(samples: "np.ndarray", rate: int, *options: str) -> Outcome:
+def outcome_of(samples: np.ndarray, rate: int, *options: str) -> Outcome:
     got = ran([SCRIPT, *CHANNELS, f"--samplerate={rate}", "--rest=0", *options], samples.tobytes())
     told = [line.partition(WARNING) for line in got.stderr.decode().splitlines()]
     warnings = [text for _, warning, text in told if warning]
     return Outcome(plain(got.stdout.decode()), warnings, [text for text, warning, _ in told if not warning])
 
 
-def edges_told(recorded: "Recorded") -> str:
+def edges_told(recorded: Recorded) -> str:
     """How many edges there are: as many as bits were sent."""
     counts = [len(recorded.first[1]), sum(len(bits) for _, bits in recorded.second)]
     texts = [f"{2 * at} has {count} {'edge' if count == 1 else 'edges'}" for at, count in enumerate(counts)]
     return f"{SCRIPT}: {', '.join(texts)}"
 
 
-def problems_of(recorded: "Recorded", what: str, rate: int) -> List[str]:
+def problems_of(recorded: Recorded, what: str, rate: int) -> List[str]:
     """What is wrong with a recording that can be told right: other bits, and other warnings than are due."""
     bits, warnings, others = outcome_of(recorded.samples, rate)
     due = [] if recorded.second else ["2 has no edges"]
@@ -62,13 +56,12 @@ def problems_of(recorded: "Recorded", what: str, rate: int) -> List[str]:
     return problems + ([] if sorted(warnings) == sorted(due) else [f"{what}: wanted {due}, got {warnings}"])
 
 
-def is_flat(recorded: "Recorded", channel: int) -> bool:
+def is_flat(recorded: Recorded, channel: int) -> bool:
     return len(np.unique(recorded.samples >> channel & 1)) == 1
 
 
 def cabinets(_: Path) -> List[str]:
     """Clocks that are off by so much, gated and free, seen at so many samples a second: the bits as they were sent."""
-    needs_module("numpy")
     problems: List[str] = []
     for seed, (ppm, gated, megahertz) in enumerate(product(PPM, [True, False], MEGAHERTZ)):
         samples = megahertz * 1_000_000
@@ -79,7 +72,6 @@ def cabinets(_: Path) -> List[str]:
 
 def many_cabinets(_: Path) -> List[str]:
     """Phases and cuts, many of them: recordings that begin and end anywhere."""
-    needs_module("numpy")
     problems = []
     for seed in range(200):
         made = Cabinet(1000 + seed, PPM[seed % 7], seed % 2 == 0, 2_000_000, polls=12, whole=False)
@@ -89,7 +81,6 @@ def many_cabinets(_: Path) -> List[str]:
 
 def glitches(_: Path) -> List[str]:
     """Glitches of one sample on all wires are left out: the bits as they were sent, and no warning."""
-    needs_module("numpy")
     problems = []
     for seed, samples in enumerate([4_000_000, 12_000_000, 24_000_000] * 3):
         recorded = recorded_of(Cabinet(2000 + seed, 80, seed % 2 == 0, samples, polls=8))
@@ -101,7 +92,7 @@ def glitches(_: Path) -> List[str]:
     return problems
 
 
-def lonely_places(levels: "np.ndarray", generator: Any, count: int) -> "np.ndarray":
+def lonely_places(levels: np.ndarray, generator: Any, count: int) -> np.ndarray:
     """Samples near which a channel does not change."""
     changes = np.flatnonzero(np.diff(levels))
     middles = (changes[:-1] + 1 + changes[1:]) // 2
@@ -126,12 +117,12 @@ class Doubtful(NamedTuple):
 
     name: str
     warnings: Sequence[Told]
-    samples: "np.ndarray"
+    samples: np.ndarray
     mends: Optional[Sequence[str]] = None
     options: Sequence[str] = ()
 
 
-def held(samples: "np.ndarray", channels: Sequence[int], begin: int, end: int) -> "np.ndarray":
+def held(samples: np.ndarray, channels: Sequence[int], begin: int, end: int) -> np.ndarray:
     """Samples in which channels keep their levels."""
     mask = np.uint8(sum(1 << channel for channel in channels))
     kept = samples.copy()
@@ -139,23 +130,23 @@ def held(samples: "np.ndarray", channels: Sequence[int], begin: int, end: int) -
     return kept
 
 
-def inverted(samples: "np.ndarray", *channels: int) -> "np.ndarray":
+def inverted(samples: np.ndarray, *channels: int) -> np.ndarray:
     return samples ^ np.uint8(sum(1 << channel for channel in channels))
 
 
-def rises_of(samples: "np.ndarray", channel: int) -> "np.ndarray":
+def rises_of(samples: np.ndarray, channel: int) -> np.ndarray:
     """The samples in which a channel has gone high."""
     return np.flatnonzero(np.diff((samples >> channel & 1).astype(np.int8)) == 1) + 1
 
 
-def stop_of(samples: "np.ndarray", rate: int) -> Told:
+def stop_of(samples: np.ndarray, rate: int) -> Told:
     """Where the first clock rises no more for longest."""
     rises = rises_of(samples, 0)
     at = int(np.argmax(np.diff(rises)))
     return Told("0 stops (for {} s from {} s on)", [(rises[at + 1] - rises[at]) / rate, rises[at] / rate])
 
 
-def loss_of(samples: "np.ndarray", rate: int) -> Told:
+def loss_of(samples: np.ndarray, rate: int) -> Told:
     """The bit of the first clock whose distance from the one before is that of no clock."""
     rises, bit = rises_of(samples, 0), rate / cabinet.RATE
     place = int(np.flatnonzero(np.abs(np.diff(rises) - bit) > bit / 3)[0]) + 1
@@ -163,7 +154,7 @@ def loss_of(samples: "np.ndarray", rate: int) -> Told:
     return Told(text, [rises[place] / rate])
 
 
-def at_rest_in_the_end(rate: int) -> "Recorded":
+def at_rest_in_the_end(rate: int) -> Recorded:
     made = Cabinet(3, 80, True, rate)
     bus = cabinet.Bus(made)
     for _ in range(8):
@@ -202,7 +193,6 @@ def doubtful(rate: int) -> Iterator[Doubtful]:
 def doubts(_: Path) -> List[str]:
     """Where the result can't be right for certain, the script says so, once, with count and time, and nothing else; and
     with the right option it is."""
-    needs_module("numpy")
     problems = []
     rate = 4_000_000
     truth = arrivals_of(at_rest_in_the_end(rate))
@@ -217,7 +207,6 @@ def doubts(_: Path) -> List[str]:
 
 def one_clock_for_two(_: Path) -> List[str]:
     """The stations' data taken with the controller's clock: it has a clock of its own, and that is told."""
-    needs_module("numpy")
     recorded = recorded_of(Cabinet(3, 80, False, 4_000_000, polls=8))
     got = ran([SCRIPT, "0", "1", "3", "--samplerate=4M"], recorded.samples.tobytes()).stderr.decode()
     told = "3 does not change with the clock: it has a clock of its own, whose channel is to be named"
@@ -227,7 +216,6 @@ def one_clock_for_two(_: Path) -> List[str]:
 
 def long_recordings(_: Path) -> List[str]:
     """A long recording takes no more memory than a short one, and no more time a sample."""
-    needs_module("numpy")
     block = recorded_of(Cabinet(9, 80, True, 4_000_000, polls=40)).samples.tobytes()
     usage = []
     for count in (5, 100):
@@ -248,7 +236,7 @@ def four_wires() -> bytes:
     """The example: a call to station 16 and its reply, as Logic exports a recording of 4 million samples a second."""
     made = Cabinet(1, ppm=80, gated=True, samples=4_000_000, jitter=0)
     bus = cabinet.Bus(made)
-    call, reply = (cabinet.body_of([16, 0x83, kind]) for kind in (0, 128))
+    call, reply = (sent(bytes([16, 0x83, kind])) for kind in (0, 128))
     bus.send(cabinet.FLAG + call + cabinet.FLAG)
     bus.answers.append(cabinet.Answer(bus.count + 20.4, cabinet.FLAG + reply + cabinet.FLAG))
     bus.send("1" * 100)
@@ -263,8 +251,4 @@ def four_wires() -> bytes:
 
 def example_of_four_wires(_: Path) -> List[str]:
     """The example is the recording that it says it is."""
-    needs_module("numpy")
     return [] if (TOP / "examples" / "four-wires.csv").read_bytes() == four_wires() else ["the file is another"]
-
-
-TESTS = [example_of_four_wires, cabinets, many_cabinets, glitches, doubts, one_clock_for_two, long_recordings]

@@ -2,17 +2,19 @@
 
 import os
 import random
-import struct
 import subprocess
 from dataclasses import dataclass
 from pathlib import Path
 from typing import Callable, List, Sequence, Union
 
-from needs import needs
+from needs import Skipped, needs
+from table.captures import packed
 
 SCRIPTS = Path(__file__).resolve().parent.parent
 
 TOP = SCRIPTS.parent
+
+ARCHIVE = TOP / "crates" / "port1_c" / "out" / "libport1_c.a"
 
 # How long a run may take, in seconds.
 SECONDS = 300
@@ -48,6 +50,15 @@ def is_of_node(command: Word) -> bool:
     return (SCRIPTS / "modules" / "commands" / f"{command}.js").exists()
 
 
+def needs_archive() -> None:
+    if not ARCHIVE.exists():
+        raise Skipped(f"no {ARCHIVE.relative_to(TOP)}; `make` builds it")
+
+
+def unlike(what: str, wanted: object, got: object) -> List[str]:
+    return [] if wanted == got else [f"{what}: wanted {wanted!r}, got {got!r}"]
+
+
 def plain(bits: str) -> str:
     return "".join(bits.split())
 
@@ -55,14 +66,6 @@ def plain(bits: str) -> str:
 def lines(bits: str) -> bytes:
     """Bits as the scripts write them, 64 in each line."""
     return "".join(bits[at : at + 64] + "\n" for at in range(0, len(bits), 64)).encode()
-
-
-def packed(bits: str) -> bytes:
-    """A packed capture, octet by octet."""
-    body = bytearray((len(bits) + 7) // 8)
-    for place, bit in enumerate(bits):
-        body[place // 8] |= int(bit) << place % 8
-    return b"TS2BITS1" + struct.pack("<Q", len(bits)) + bytes(body)
 
 
 ONE_CALL = packed(plain(CALL))

@@ -8,11 +8,9 @@ from pathlib import Path
 from typing import Dict, List, NamedTuple, Optional, Sequence
 
 from needs import needs_module
-from tests.case import CALL, DICTIONARY, REPLY, SECONDS, TOP, WINDOWS, Run, Test, packed, plain
+from tests.case import CALL, DICTIONARY, REPLY, SECONDS, TOP, WINDOWS, packed, plain
 from tests.engines import Step, furnished, run_sections, run_step, section, steps_of
 from tests.parts import packed_two
-
-RUNS: List[Run] = []
 
 CI = TOP / "examples" / "ci"
 
@@ -217,6 +215,3 @@ def runs_that_tell_nothing(folder: Path) -> List[str]:
         if ran.returncode != status or text not in ran.stdout + ran.stderr:
             problems.append(f"{words}: status {ran.returncode}: {ran.stdout}{ran.stderr}")
     return problems
-
-
-TESTS: List[Test] = [verdict_of_each, page_of_many_captures, properties_of_one, runs_that_tell_nothing]

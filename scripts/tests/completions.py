@@ -15,9 +15,7 @@ from typing import Iterator, List, NamedTuple, Sequence
 
 from needs import BASH_COMPLETION, needs, needs_file
 from tests.asleep import is_asleep
-from tests.case import CALL, DICTIONARY, SECONDS, TOP, Run, Test, plain
-
-RUNS: List[Run] = []
+from tests.case import CALL, DICTIONARY, SECONDS, TOP, plain
 
 COMPLETIONS = TOP / "cli" / "completions"
 
@@ -220,6 +218,3 @@ def fish_by_itself(folder: Path) -> List[str]:
     (folder / ".local" / "share" / "fish" / "generated_completions").mkdir()
     words = f"set fish_greeting; function fish_prompt; echo -n '{PROMPT}'; end"
     return problems_of_shell("fish", ["fish", "--private", "--init-command", words], folder)
-
-
-TESTS: List[Test] = [bash_by_itself, bash_with_package, zsh_with_compinit, fish_by_itself]

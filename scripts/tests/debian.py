@@ -10,12 +10,10 @@ from typing import Dict, Iterator, List, NamedTuple, Sequence, Tuple
 
 from needs import LOADER_OF_ARM, Skipped, needs, needs_file
 from tests import installing
-from tests.case import ONE_CALL, SECONDS, TOP, Run, Test, Word, packed
-from tests.packages import ARCHIVE, ONE_FRAME, told, unlike
+from tests.case import ARCHIVE, ONE_CALL, SECONDS, TOP, Word, needs_archive, packed, unlike
+from tests.packages import ONE_FRAME, told
 from tests.python_module import captures, orders
 from tests.releasing import LIBRARY_FOR_ARM, packages, tarball, version
-
-RUNS: List[Run] = []
 
 # The errors of lintian that stand: nobody has chosen a licence yet, so no package has a file of one.
 ERRORS_THAT_STAND = ["no-copyright-file"]
@@ -98,8 +96,7 @@ def uses() -> List[Use]:
         Use("man port1 | grep -o 'analyse the Port 1 bus'", "analyse the Port 1 bus\n", "man"),
         Use(
             "bash -c '. /usr/share/bash-completion/bash_completion; _completion_loader port1; complete -p port1'",
-            "complete -o bashdefault -o default -F _port1 port1\n",
-            "/usr/share/bash-completion/bash_completion",
+            "complete -o bashdefault -o default -F _port1 port1\n", "/usr/share/bash-completion/bash_completion",
         ),
         Use("zsh -fc 'autoload -U compinit; compinit -u -D; echo $_comps[port1]'", "_port1\n", "zsh"),
         Use("fish -c 'complete -C \"port1 enc\"' | cut -f 1", "encode\n", "fish"),
@@ -145,7 +142,7 @@ def tarball_at_work(folder: Path) -> List[str]:
     problems = unlike("tar", "", told(["tar", "-xzf", tarball(), "-C", folder]))
     prefix = folder / f"port1-{version()}"
     problems += installing.problems_of_scripts(prefix / "bin", elsewhere)
-    return problems + installing.problems_of_use(prefix, elsewhere) + installing.problems_of_files(prefix)
+    return problems + installing.problems_of_use(prefix, elsewhere)
 
 
 def in_a_copy(script: str, folder: Path, given: Path) -> "subprocess.CompletedProcess[str]":
@@ -240,8 +237,8 @@ def library_for_arm(folder: Path) -> List[str]:
     needs_file(LOADER_OF_ARM)
     if ARCHIVE.is_file() and not ARCHIVE_FOR_ARM.is_file():
         raise Skipped(f"no {LIBRARY_FOR_ARM}; c/targets/build builds it")
-    if ARCHIVE_FOR_ARM.is_file() and not ARCHIVE.is_file():
-        raise Skipped(f"no {ARCHIVE.relative_to(TOP)}; `make` builds it")
+    if ARCHIVE_FOR_ARM.is_file():
+        needs_archive()
     here = built_with(packages()["libport1-dev_amd64.deb"], "cc", folder / "amd64")
     there = built_with(packages()["libport1-dev_arm64.deb"], COMPILER_FOR_ARM, folder / "arm64")
     problems = unlike("examples", sorted(here), sorted(there))
@@ -252,6 +249,3 @@ def library_for_arm(folder: Path) -> List[str]:
             problems.append(f"{name} {words}: wanted {wanted}, got {got}"[:2000])
     shown = told([*EMULATED, there["list"]], ONE_CALL)
     return problems + unlike("list", ONE_FRAME if ARCHIVE_FOR_ARM.is_file() else "", shown)
-
-
-TESTS: List[Test] = [lintian, tarball_at_work, installed_and_taken_away, installed_for_both, library_for_arm]

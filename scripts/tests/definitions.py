@@ -15,9 +15,9 @@ from definitions import values
 from definitions.by_definition import Answer, Definitions, read_words
 from definitions.manners import Fault
 from definitions.python import Translation, with_room
-from tests.case import CALL, DICTIONARY, SECONDS, TOP, WINDOWS, Run, packed, ran, random_bits, sampler
-from tests.listings import differing
-from tests.parts import OPTIONS, dirty_line, packed_marks, packed_two, polling
+from table.captures import packed_marks
+from tests.case import CALL, DICTIONARY, SECONDS, TOP, WINDOWS, Run, packed, ran, random_bits, sampler, unlike
+from tests.parts import OPTIONS, dirty_line, packed_two, polling
 
 HEAD = "usage: by-definition [-h] COMMAND ...\nby-definition: error: "
 
@@ -40,21 +40,16 @@ TWO_LEDGERS = IDLE_LEDGER + b"".join(b"2 " + line + b"\n" for line in LEDGER.spl
 RUNS = [
     Run("no command", ["by-definition"], b"", b"", HEAD + "the following arguments are required: COMMAND\n", 2),
     Run(
-        "an origin past the last place",
-        ["by-definition", "list", "--origin", str(2**60 + 1)],
-        b"",
-        stderr=f"{LIST_HEAD}argument --origin: {2**60 + 1} is not 0 to {2**60}\n",
-        status=2,
+        "an origin past the last place", ["by-definition", "list", "--origin", str(2**60 + 1)], b"",
+        stderr=f"{LIST_HEAD}argument --origin: {2**60 + 1} is not 0 to {2**60}\n", status=2,
     ),
     Run("no kind", ["by-definition", "list", "--kind", "x"], b"", b"", "by-definition: unknown kind\n", 2),
     Run("a bad mark", ["by-definition", "list", "--bits"], b"0 1 2", b"", "by-definition: capture: bad_mark 4\n", 2),
     Run("a short head", ["by-definition", "check"], b"TS2BITS1", b"", "by-definition: capture: short_head\n", 2),
     Run(
         "a dictionary's fault",
-        ["by-definition", "list", "--dict", 'version = 1\nframe = [{ type = 0, name = "a b" }]'],
-        b"",
-        stderr="by-definition: dictionary: BadName 1\n",
-        status=2,
+        ["by-definition", "list", "--dict", 'version = 1\nframe = [{ type = 0, name = "a b" }]'], b"",
+        stderr="by-definition: dictionary: BadName 1\n", status=2,
     ),
     Run("a ledger", ["by-definition", "ledger", "--bits"], CALL.encode(), LEDGER),
     Run("three wires", ["by-definition", "sample", "0", "1", "2"], b"", b"", HEAD + "the wires are TXC and TXD, or also RXC and RXD\n", 2),
@@ -107,7 +102,7 @@ def in_words_of_port1(answer: Answer) -> Answer:
 def compared(definitions: Definitions, words: Sequence[str], capture: bytes, what: str) -> List[str]:
     """Whether the definitions say of a capture what the program writes, octet for octet."""
     got = in_words_of_port1(definitions.answer(read_words(words), capture))
-    return differing(answered(words, capture), got, f"{what}: {' '.join(words)[:60]}")
+    return unlike(f"{what}: {' '.join(words)[:60]}", answered(words, capture), got)
 
 
 def definitions_of(top: Path) -> Definitions:
@@ -254,7 +249,7 @@ def problems_of_recordings(seed: int, count: int) -> List[str]:
         samples, words = random_recording(generator)
         got = subprocess.run([sampler(), *words], input=samples, capture_output=True, timeout=SECONDS).stdout
         defined = definitions.answer(read_words(["sample", *words]), samples).text
-        problems += differing(got, defined, f"recording {number}: {' '.join(words)}")
+        problems += unlike(f"recording {number}: {' '.join(words)}", got, defined)
     return problems
 
 
@@ -301,7 +296,7 @@ def on_dictionaries_with_faults(folder: Path) -> List[str]:
     texts = dictionaries_of_the_table()
     problems = [] if len(texts) > 500 else [f"there are {len(texts)} dictionaries"]
     for text, said in texts.items():
-        problems += differing(said, fault_of(definitions, text), text)
+        problems += unlike(text, said, fault_of(definitions, text))
     return problems
 
 
@@ -319,7 +314,7 @@ def on_too_long_a_capture(folder: Path) -> List[str]:
     """More bits than Python has room for calls within calls."""
     got = ran(["by-definition", "list", "--bits"], b"0" * 600_000)
     wanted = "by-definition: the capture is too long for this way to list it\n"
-    return differing((b"", wanted, 2), (got.stdout, got.stderr.decode(), got.returncode), "600000 bits")
+    return unlike("600000 bits", (b"", wanted, 2), (got.stdout, got.stderr.decode(), got.returncode))
 
 
 class Edit(NamedTuple):
@@ -349,7 +344,7 @@ def as_it_is_written(folder: Path) -> List[str]:
     others = shutil.ignore_patterns("src", "proofs", "out", "must-fail", "wrong-bodies")
     shutil.copytree(TOP / "crates", folder / "crates", ignore=others)
     plain = definitions_of(folder).answer(options, capture)
-    problems = differing(answered(["list", "--bits", "--dict", DICTIONARY], capture), plain, "the copy")
+    problems = unlike("the copy", answered(["list", "--bits", "--dict", DICTIONARY], capture), plain)
     for edit in EDITS:
         path = folder / "crates" / edit.file
         text = path.read_text(encoding="utf-8")
@@ -410,7 +405,7 @@ def unknown_forms(folder: Path) -> List[str]:
             got = ""
         except Fault as fault:
             got = str(fault).replace(f"{path}:", "")
-        problems += differing(said, got, text)
+        problems += unlike(text, said, got)
     return problems
 
 
@@ -450,7 +445,7 @@ def known_forms(folder: Path) -> List[str]:
         path.write_text(first + text, encoding="utf-8")
         arguments = [values.Case("Some", each) if "Option" in text else as_value(each) for each in given]
         got = Translation(folder).functions([("some.specs.Text", "it")])[0](*arguments)
-        problems += differing(wanted, got, text)
+        problems += unlike(text, wanted, got)
     return problems
 
 
@@ -485,18 +480,3 @@ def what_is_run(folder: Path) -> List[str]:
     due_at = f"# bus_line.specs.Due, line {number}\ndef bus_line__Due__due_at(a0, a1, a2):"
     wanted = [due_at, "# std.specs.Prelude.drop: "]
     return [f"{each!r} is not written" for each in wanted if each not in text]
-
-
-TESTS = [
-    known_forms,
-    unknown_forms,
-    lists_of_cells,
-    what_is_run,
-    as_it_is_written,
-    as_the_program,
-    on_random_captures,
-    on_random_recordings,
-    on_dictionaries_with_faults,
-    on_long_captures,
-    on_too_long_a_capture,
-]

@@ -8,8 +8,7 @@ from pathlib import Path
 from typing import Any, Dict, List, Tuple
 
 from needs import needs
-from tests.case import SCRIPTS, SECONDS, TOP, WINDOWS, Run, ran
-from tests.listings import differing
+from tests.case import SCRIPTS, SECONDS, TOP, WINDOWS, Run, ran, unlike
 
 USAGE = "usage: check-dictionary [-h] FILE\ncheck-dictionary: error: there is no FILE\n"
 
@@ -48,7 +47,7 @@ def vectors(folder: Path) -> List[str]:
     problems = []
     for row in VECTORS:
         wanted, got = expected(row["findings"]), checked(folder, text_of(row))
-        problems += differing(wanted, got, row.get("replace", row.get("text")))
+        problems += unlike(row.get("replace", row.get("text")), wanted, got)
     return problems
 
 
@@ -70,7 +69,7 @@ def spoilt_files(folder: Path) -> List[str]:
         ("an option", "--help = 1", ["1: there is no `version` and no `frame`", "1: unknown key `--help`",
                                      "1: port1 says: version is not 1 or 2"]),
     ]:
-        problems += differing(expected(said), checked(folder, text), what)
+        problems += unlike(what, expected(said), checked(folder, text))
     return problems
 
 
@@ -78,19 +77,19 @@ def things_missing(folder: Path) -> List[str]:
     """Without the program, and without Node, one line says so, with status 2."""
     without_program = {**os.environ, "PORT1": str(folder / "port1")}
     said = f"spawnSync {folder}/port1 ENOENT"
-    problems = differing((2, [f"check-dictionary: {said}"]), checked(folder, WINDOWS, env=without_program), said)
+    problems = unlike(said, (2, [f"check-dictionary: {said}"]), checked(folder, WINDOWS, env=without_program))
     tools = folder / "tools"
     tools.mkdir()
     for tool in ("sh", "readlink", "dirname"):
         (tools / tool).symlink_to(str(shutil.which(tool)))
     said = "needs Node 18 or later (Debian: nodejs)"
     without_node = {**os.environ, "PATH": str(tools)}
-    problems += differing((2, [f"check-dictionary: {said}"]), checked(folder, WINDOWS, env=without_node), said)
+    problems += unlike(said, (2, [f"check-dictionary: {said}"]), checked(folder, WINDOWS, env=without_node))
     dead = folder / "dead"
     dead.write_text("#!/bin/sh\nkill -9 $$\n", encoding="ascii")
     dead.chmod(0o755)
     said = f"check-dictionary: {dead} ended with SIGKILL: "
-    return problems + differing((2, [said]), checked(folder, WINDOWS, env={**os.environ, "PORT1": str(dead)}), "killed")
+    return problems + unlike("killed", (2, [said]), checked(folder, WINDOWS, env={**os.environ, "PORT1": str(dead)}))
 
 
 def repository(folder: Path) -> Path:
@@ -118,10 +117,10 @@ def where_the_program_is(folder: Path) -> List[str]:
         got = subprocess.run(words, env=env, stdout=subprocess.PIPE, timeout=SECONDS)
         return got.stdout.decode().partition("port1 says: by ")[2].partition("\n")[0]
 
-    problems = differing("variable", said_by({**plain, "PORT1": str(folder / "variable" / "port1")}), "PORT1")
-    problems += differing("built", said_by(plain), "built")
+    problems = unlike("PORT1", "variable", said_by({**plain, "PORT1": str(folder / "variable" / "port1")}))
+    problems += unlike("built", "built", said_by(plain))
     (top / "crates" / "port1" / "out" / "port1").unlink()
-    return problems + differing("path", said_by(plain), "path")
+    return problems + unlike("path", "path", said_by(plain))
 
 
 def nobody_reads_findings(folder: Path) -> List[str]:
@@ -131,7 +130,4 @@ def nobody_reads_findings(folder: Path) -> List[str]:
     words = [SCRIPTS / "check-dictionary", TOP / "examples" / "call-and-reply.toml"]
     got = subprocess.run(words, stdout=writer, stderr=subprocess.PIPE, timeout=SECONDS)
     os.close(writer)
-    return differing((2, ""), (got.returncode, got.stderr.decode()), "broken pipe")
-
-
-TESTS = [vectors, spoilt_files, things_missing, where_the_program_is, nobody_reads_findings]
+    return unlike("broken pipe", (2, ""), (got.returncode, got.stderr.decode()))

@@ -6,8 +6,8 @@ from pathlib import Path
 from typing import Any, Dict, List, Sequence, Tuple
 
 from needs import Skipped, needs
-from tests.case import TOP, WINDOWS, Run, Word, listed, ran
-from tests.wireshark import RATE, SDLC, columns, compared, tshark
+from tests.case import TOP, WINDOWS, Run, Word, listed, ran, unlike
+from tests.wireshark import RATE, SDLC, columns, tshark
 
 RUNS = [Run("no dictionary", ["dictionary-to-lua"], b"version = 1\n", b"", "dictionary-to-lua: dictionary: no frames\n", 2)]
 
@@ -115,7 +115,7 @@ def dissector_fields(folder: Path) -> List[str]:
         14: {},
     }
     wanted[7]["port1.bit.a_b"] = "1"
-    return [problem for number, layer in wanted.items() for problem in compared(got[number], layer)]
+    return [problem for number, layer in wanted.items() for problem in unlike("dissector fields", layer, got[number])]
 
 
 def dissector_names(folder: Path) -> List[str]:
@@ -159,7 +159,7 @@ def dissector_filters(folder: Path) -> List[str]:
     problems = []
     for text, wanted in FILTERS.items():
         got = tshark(folder, [*words, "-Y", text, "-T", "fields", "-e", "frame.number"]).split()
-        problems += [f"{text}: {problem}" for problem in compared(got, [str(number) for number in wanted])]
+        problems += unlike(text, [str(number) for number in wanted], got)
     return problems
 
 
@@ -186,7 +186,7 @@ def dissector_ways(folder: Path) -> List[str]:
         15: ["station 17", "Port 1", "controller"],
         16: ["controller", "Port 1", "station 17"],
     }
-    return [problem for number, row in wanted.items() for problem in compared(rows[number], row)]
+    return [problem for number, row in wanted.items() for problem in unlike("dissector ways", row, rows[number])]
 
 
 def dissector_of_malformed(folder: Path) -> List[str]:
@@ -197,7 +197,7 @@ def dissector_of_malformed(folder: Path) -> List[str]:
     text = tshark(folder, [*words, "-V"])
     found = [word for word in ("Lua Error", "Malformed", "(Error/") if word in text]
     count = sum(1 for line in text.splitlines() if line.startswith("Frame "))
-    return compared((found, count), ([], len(short)))
+    return unlike("dissector of malformed", ([], len(short)), (found, count))
 
 
 def dissector_of_other_name(folder: Path) -> List[str]:
@@ -205,7 +205,7 @@ def dissector_of_other_name(folder: Path) -> List[str]:
     words = dissected(folder, ODD, "--name", "bus_a")
     got = layers(folder, words, "bus_a")
     wanted = {"bus_a.station": "16", "bus_a.control": "0x83", "bus_a.type": "5", "bus_a.standing": "unknown"}
-    return compared(got[13], wanted)
+    return unlike("dissector of other name", wanted, got[13])
 
 
 def dissector_of_a_listing(folder: Path) -> List[str]:
@@ -227,15 +227,5 @@ def dissector_of_a_listing(folder: Path) -> List[str]:
     rows = columns(folder, path, ["port1.name", "frame.comment"], *words)
     senders = [row[0] for row in ways(folder, [*words, "-r", path])]
     late = columns(folder, path, ["frame.number"], *words, "-Y", 'port1.type == 0 && frame.comment contains "late"')
-    return compared([[*row, sender] for row, sender in zip(rows, senders)], wanted) + compared(late, [["3"]])
-
-
-TESTS = [
-    dissector_fields,
-    dissector_names,
-    dissector_filters,
-    dissector_ways,
-    dissector_of_malformed,
-    dissector_of_other_name,
-    dissector_of_a_listing,
-]
+    named = unlike("packets", wanted, [[*row, sender] for row, sender in zip(rows, senders)])
+    return named + unlike("those with late answers", [["3"]], late)

@@ -1,11 +1,6 @@
 """Bits from a value change dump."""
 
-import random
-from pathlib import Path
-from typing import List
-
-from needs import needs, needs_module
-from tests.case import CALL, Run, lines, plain, ran, random_bits, written_by
+from tests.case import CALL, Run, lines, plain
 
 # Definitions as IEEE 1364 has them, other kinds of signals among them, the data before the clock.
 DEFINITIONS = """$date today $end
@@ -69,154 +64,78 @@ RUNS = [
     Run("times alone", ["recording-to-bits", "clk", "dat"], dump(plain(CALL), True), lines(plain(CALL)), f"{CLK} 57 edges\n"),
     Run("times before changes", ["recording-to-bits", "clk", "dat"], dump(plain(CALL), False), lines(plain(CALL)), f"{CLK} 57 edges\n"),
     Run(
-        "falling edges",
-        ["recording-to-bits", "--falling", "clk", "dat"],
-        dump("0110", True) + b"#45 0!\n",
-        b"0110\n",
+        "falling edges", ["recording-to-bits", "--falling", "clk", "dat"], dump("0110", True) + b"#45 0!\n", b"0110\n",
         f"{CLK} 4 edges\n",
     ),
     Run(
-        "rising edges of a clock with other bits at the falling ones",
-        ["recording-to-bits", "clk", "dat"],
-        DEFINITIONS.encode() + BOTH_EDGES,
-        b"01\n",
-        f"{CLK} 2 edges\n",
+        "rising edges of a clock with other bits at the falling ones", ["recording-to-bits", "clk", "dat"],
+        DEFINITIONS.encode() + BOTH_EDGES, b"01\n", f"{CLK} 2 edges\n",
     ),
     Run(
-        "falling edges of a clock with other bits at the rising ones",
-        ["recording-to-bits", "--falling", "clk", "dat"],
-        DEFINITIONS.encode() + BOTH_EDGES,
-        b"10\n",
-        f"{CLK} 2 edges\n",
+        "falling edges of a clock with other bits at the rising ones", ["recording-to-bits", "--falling", "clk", "dat"],
+        DEFINITIONS.encode() + BOTH_EDGES, b"10\n", f"{CLK} 2 edges\n",
     ),
     *[
         Run(
-            f"a clock of the level {level}",
-            ["recording-to-bits", "clk", "dat"],
-            DEFINITIONS.encode() + NO_LEVEL.format(level=level).encode(),
-            b"",
-            f"{NO_EDGES}recording-to-bits: clk has no level at 0.000004 s\n",
-            2,
+            f"a clock of the level {level}", ["recording-to-bits", "clk", "dat"],
+            DEFINITIONS.encode() + NO_LEVEL.format(level=level).encode(), b"",
+            f"{NO_EDGES}recording-to-bits: clk has no level at 0.000004 s\n", 2,
         )
         for level in "xXzZ"
     ],
     Run(
-        "vectors of one bit",
-        ["recording-to-bits", "clk", "dat"],
-        DEFINITIONS.encode() + VECTORS,
-        b"01\n",
+        "vectors of one bit", ["recording-to-bits", "clk", "dat"], DEFINITIONS.encode() + VECTORS, b"01\n",
         f"{CLK} 2 edges\n",
     ),
     Run("codes that look like changes", ["recording-to-bits", "clk", "dat"], ODD_CODES, b"10\n", f"{CLK} 2 edges\n"),
     Run(
-        "data that changes with the edge",
-        ["recording-to-bits", "clk", "dat"],
-        DEFINITIONS.encode() + b'#0 0! 0"\n#5 1! 1"\n#6 0!\n#7 0" 1!\n',
-        b"01\n",
-        f"{CLK} 2 edges\n",
+        "data that changes with the edge", ["recording-to-bits", "clk", "dat"],
+        DEFINITIONS.encode() + b'#0 0! 0"\n#5 1! 1"\n#6 0!\n#7 0" 1!\n', b"01\n", f"{CLK} 2 edges\n",
     ),
     Run(
-        "a signal named in two scopes",
-        ["recording-to-bits", "clk", "dat"],
-        b"$scope module probe $end $var wire 1 ! clk $end $upscope $end " + dump("0110", True),
-        b"0110\n",
+        "a signal named in two scopes", ["recording-to-bits", "clk", "dat"],
+        b"$scope module probe $end $var wire 1 ! clk $end $upscope $end " + dump("0110", True), b"0110\n",
         f"{CLK} 4 edges\n",
     ),
     Run(
-        "no edges",
-        ["recording-to-bits", "clk", "dat"],
-        DEFINITIONS.encode() + b'#0 1! 0"\n#9 0!\n',
-        b"",
+        "no edges", ["recording-to-bits", "clk", "dat"], DEFINITIONS.encode() + b'#0 1! 0"\n#9 0!\n', b"",
         f"{CLK} 0 edges\nrecording-to-bits: warning: clk has no edges\n",
     ),
     Run(
-        "an edge of no known level before",
-        ["recording-to-bits", "clk", "dat"],
-        DEFINITIONS.encode() + b'#0 x! 0"\n#5 1!\n#6 0!\n#7 1!\n',
-        b"0\n",
-        f"{CLK} 1 edge\n",
+        "an edge of no known level before", ["recording-to-bits", "clk", "dat"],
+        DEFINITIONS.encode() + b'#0 x! 0"\n#5 1!\n#6 0!\n#7 1!\n', b"0\n", f"{CLK} 1 edge\n",
     ),
     Run(
-        "data without a value",
-        ["recording-to-bits", "clk", "dat"],
-        DEFINITIONS.encode() + b'#0 0! 1"\n#1 1!\n#2 0! z"\n#5 1!\n',
-        b"1\n",
-        f"{CLK} 1 edge\nrecording-to-bits: dat has no level at 0.000002 s\n",
-        2,
+        "data without a value", ["recording-to-bits", "clk", "dat"],
+        DEFINITIONS.encode() + b'#0 0! 1"\n#1 1!\n#2 0! z"\n#5 1!\n', b"1\n",
+        f"{CLK} 1 edge\nrecording-to-bits: dat has no level at 0.000002 s\n", 2,
     ),
     Run("two lines", ["recording-to-bits", "clk", "dat", "ans"], TWO_DATA, b"0i1o1i0o\n", f"{CLK} 4 edges\n"),
     Run("two lines, the other way", ["recording-to-bits", "clk", "ans", "dat"], TWO_DATA, b"1o0i1i0o\n", f"{CLK} 4 edges\n"),
     Run("one of two lines", ["recording-to-bits", "clk", "ans"], TWO_DATA, b"1010\n", f"{CLK} 4 edges\n"),
     Run(
-        "a second line without a value",
-        ["recording-to-bits", "clk", "dat", "ans"],
-        TWO_DATA.replace(b"#7 0(", b"#7 z("),
-        b"0i\n",
-        f"{CLK} 1 edge\nrecording-to-bits: ans has no level at sample 7\n",
-        2,
+        "a second line without a value", ["recording-to-bits", "clk", "dat", "ans"],
+        TWO_DATA.replace(b"#7 0(", b"#7 z("), b"0i\n",
+        f"{CLK} 1 edge\nrecording-to-bits: ans has no level at sample 7\n", 2,
     ),
     Run(
-        "times that go back",
-        ["recording-to-bits", "clk", "dat"],
-        DEFINITIONS.encode() + b'#0 0! 0"\n#5 1!\n#3 0!\n',
-        b"0\n",
-        f"{CLK} 1 edge\nrecording-to-bits: #3 stands after #5, which is a later time\n",
-        2,
+        "times that go back", ["recording-to-bits", "clk", "dat"], DEFINITIONS.encode() + b'#0 0! 0"\n#5 1!\n#3 0!\n',
+        b"0\n", f"{CLK} 1 edge\nrecording-to-bits: #3 stands after #5, which is a later time\n", 2,
     ),
     Run(
-        "one time twice",
-        ["recording-to-bits", "clk", "dat"],
-        DEFINITIONS.encode() + b'#0 0! 0"\n#5 1!\n#5\n#9 0!\n',
-        b"0\n",
-        f"{CLK} 1 edge\n",
+        "one time twice", ["recording-to-bits", "clk", "dat"], DEFINITIONS.encode() + b'#0 0! 0"\n#5 1!\n#5\n#9 0!\n',
+        b"0\n", f"{CLK} 1 edge\n",
     ),
     Run(
-        "no such signal",
-        ["recording-to-bits", "clk", "data"],
-        dump("0", True),
-        b"",
-        f"recording-to-bits: no channel has the name data; there are: {SIGNALS}\n",
-        2,
+        "no such signal", ["recording-to-bits", "clk", "data"], dump("0", True), b"",
+        f"recording-to-bits: no channel has the name data; there are: {SIGNALS}\n", 2,
     ),
     Run(
-        "two signals",
-        ["recording-to-bits", "both", "dat"],
-        dump("0", True),
-        b"",
-        f"recording-to-bits: 2 channels have the name both; there are: {SIGNALS}\n",
-        2,
+        "two signals", ["recording-to-bits", "both", "dat"], dump("0", True), b"",
+        f"recording-to-bits: 2 channels have the name both; there are: {SIGNALS}\n", 2,
     ),
     Run(
-        "no dump",
-        ["recording-to-bits", "--format=vcd", "clk", "dat"],
-        b"01111110",
-        b"",
-        "recording-to-bits: the input is no value change dump: it has no $enddefinitions\n",
-        2,
+        "no dump", ["recording-to-bits", "--format=vcd", "clk", "dat"], b"01111110", b"",
+        "recording-to-bits: the input is no value change dump: it has no $enddefinitions\n", 2,
     ),
 ]
-
-
-def plain_dump(bits: str) -> bytes:
-    """A dump of clock and data alone."""
-    names = "$timescale 1 us $end\n$scope module tap $end\n$var wire 1 ! clk $end\n$var wire 1 \" dat $end\n"
-    texts = [names, "$upscope $end\n$enddefinitions $end\n"]
-    for place, bit in enumerate(bits):
-        texts.append(f'#{10 * place}\n0!\n{bit}"\n#{10 * place + 5}\n1!\n')
-    return "".join(texts).encode() + f"#{10 * len(bits)}\n0!\n".encode()
-
-
-def vcd_through_sigrok(folder: Path) -> List[str]:
-    """The real sigrok-cli makes a session of a dump, and writes it as a dump of its own."""
-    needs_module("numpy")
-    needs("sigrok-cli")
-    bits = random_bits(random.Random(2), 20_000)
-    dumped, session = folder / "tap.vcd", folder / "tap.sr"
-    dumped.write_bytes(plain_dump(bits))
-    written_by(["sigrok-cli", "-i", dumped, "-I", "vcd", "-o", session])
-    written = written_by(["sigrok-cli", "-i", session, "-O", "vcd"])
-    got = ran(["recording-to-bits", "clk", "dat"], written)
-    return [] if got.stdout == lines(bits) else [f"got {got.stdout[:99]!r}.. {got.stderr!r}"]
-
-
-TESTS = [vcd_through_sigrok]

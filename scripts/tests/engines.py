@@ -18,10 +18,8 @@ from typing import Callable, Dict, Iterator, List, NamedTuple, Optional, Sequenc
 
 from needs import Skipped, needs, told_of
 from shells import run_in_shell
-from tests.case import SCRIPTS, SECONDS, TOP, Run, Test, Word, listed, packed
+from tests.case import SCRIPTS, SECONDS, TOP, Word, listed, packed
 from tests.parts import dirty_line
-
-RUNS: List[Run] = []
 
 PAGE = TOP / "docs" / "MANY-CAPTURES.md"
 
@@ -104,10 +102,10 @@ def add_captures(folder: Path) -> None:
         (folder / "captures" / f"more {number:02d}.ts2").write_bytes(capture[: 300 if number == CUT_OFF else None])
 
 
-def problems_of_listings(folder: Path) -> List[str]:
+def problems_of_listings(place: Path) -> List[str]:
     """Whether each capture without a fault has the listing of one run, and one with a fault none."""
-    options, problems = ["--dict", (folder / "bus.toml").read_text(encoding="ascii").strip()], []
-    for capture in sorted((folder / "captures").glob("*.ts2")):
+    options, problems = ["--dict", (place / "bus.toml").read_text(encoding="ascii").strip()], []
+    for capture in sorted((place / "captures").glob("*.ts2")):
         one, listing = listed(capture.read_bytes(), options), capture.with_suffix(".list")
         found = listing.read_bytes() if listing.exists() else None
         if found != (one.stdout if one.returncode == 0 else None):
@@ -115,13 +113,13 @@ def problems_of_listings(folder: Path) -> List[str]:
     return problems
 
 
-def problems_of_join(folder: Path) -> List[str]:
+def problems_of_join(place: Path) -> List[str]:
     """Whether the listing of the big capture is that of one run, and that it is of eight parts."""
-    options = ["--dict", (folder / "bus.toml").read_text(encoding="ascii").strip()]
-    one = listed((folder / "big.ts2").read_bytes(), options).stdout
-    count = len(list((folder / "big-parts").glob("part-*.list")))
+    options = ["--dict", (place / "bus.toml").read_text(encoding="ascii").strip()]
+    one = listed((place / "big.ts2").read_bytes(), options).stdout
+    count = len(list((place / "big-parts").glob("part-*.list")))
     problems = [] if count == 8 else [f"{count} parts were listed"]
-    return problems + ([] if one and (folder / "big.list").read_bytes() == one else ["big.list: not as one run"])
+    return problems + ([] if one and (place / "big.list").read_bytes() == one else ["big.list: not as one run"])
 
 
 def column(log: Path, number: int) -> List[str]:
@@ -408,6 +406,3 @@ def array_of_slurm(folder: Path) -> List[str]:
     logs = "".join(path.read_text(encoding="utf-8") for path in folder.glob("list-*.log"))
     problems += [] if logs == 2 * "port1: capture: short body\n" else [f"the logs of the tasks have {logs!r}"]
     return problems + ([] if found == wanted else [f"Slurm says {found}, not {wanted}"])
-
-
-TESTS: List[Test] = [parallel_here, parallel_by_ssh, array_of_slurm]

@@ -7,10 +7,8 @@ from pathlib import Path
 from typing import List, Sequence
 
 from needs import Skipped, needs
-from tests.case import SCRIPTS, SECONDS, TOP, Run, Word, ran
+from tests.case import SCRIPTS, SECONDS, TOP, Word, ran
 from tests.watched import DICTIONARY, RATE, SIMULATOR
-
-RUNS: List[Run] = []
 
 FIELDS = ["frame.packet_flags_direction", "port1.type", "port1.name", "frame.comment", "frame.time_epoch"]
 
@@ -109,6 +107,3 @@ def linked_when_installed(folder: Path) -> List[str]:
     subprocess.run([*make, "uninstall"], check=True, capture_output=True, timeout=SECONDS)
     left = [] if not link.is_symlink() else ["the link is left"]
     return left + ([] if "{value=port1}" in got.stdout else [f"{got}"])
-
-
-TESTS = [called_by_hand, linked_when_installed, live_interface, recorder_that_fails, ring_of_files]

@@ -4,12 +4,10 @@ import re
 from pathlib import Path
 from typing import List
 
-from tests.case import TOP, Run, listed, ran
+from tests.case import TOP, listed, ran, unlike
 from tests.simulated.failing_bus import RATE, ROUNDS, failing_bus
-from tests.listings import EXAMPLE, differing, objects_of, timed
+from tests.listings import EXAMPLE, objects_of, timed
 from tests.summaries import quantile, sentences_of, summary_of, table_of
-
-RUNS: List[Run] = []
 
 EXAMPLE_DICTIONARY = (TOP / "examples" / "port1-failure.toml").read_text(encoding="ascii")
 
@@ -73,14 +71,14 @@ def summary_of_example(_: Path) -> List[str]:
         return [f"sentences: {told}"]
     silent = f"Station 1 is silent: it answered none of {ROUNDS} commands, of type 1 (poll)."
     problems = problems_of_gap(told[0]) + problems_of_late(told[2])
-    problems += differing([silent, "5 pieces are damaged; see below."], [told[1], told[3]], "sentences")
+    problems += unlike("sentences", [silent, "5 pieces are damaged; see below."], [told[1], told[3]])
     cells = {kind: row[:6] for kind, row in table_of(summary).items()}
     wanted = {
         (1, 1): ["25", "0", "0", "25", "0", "100.0"],
         (2, 1): ["25", "17", "8", "0", "0", "32.0"],
         (16, 0): ["20", "20", "0", "0", "0", "0.0"],
     }
-    return problems + differing(wanted, cells, "table")
+    return problems + unlike("table", wanted, cells)
 
 
 def example_places(_: Path) -> List[str]:
@@ -90,7 +88,7 @@ def example_places(_: Path) -> List[str]:
     fates = {int(word[1]): word[3] for word in words if word[4:5] == ["station"]}
     told = failing_bus().told
     wanted = {command.first: command.fate for command in told if command.fate != "destroyed"}
-    return differing(wanted, fates, "places")
+    return unlike("places", wanted, fates)
 
 
 def objects_of_example(_: Path) -> List[str]:
@@ -100,10 +98,10 @@ def objects_of_example(_: Path) -> List[str]:
     words = [line.split() for line in listing.decode().splitlines()]
     heads = [(int(word[0]), int(word[1]), int(word[2]), word[3]) for word in words]
     got = [(found["line"], found["first"], found["past"], found["kind"]) for found in objects]
-    problems = differing(heads, got, "heads")
+    problems = unlike("heads", heads, got)
     replies = [(found["first"], found["reply_bits"]) for found in objects if "reply_bits" in found]
     truth = [(command.first, command.reply_bits) for command in failing_bus().told if command.reply_bits]
-    problems += differing(sorted(truth), sorted(replies), "replies")
+    problems += unlike("replies", sorted(truth), sorted(replies))
     wrong = [found for found in objects if abs(found["time"] - found["first"] / RATE) > 1e-8]
     timed = [found for found in objects if "reply_ms" in found]
     wrong += [found for found in timed if abs(found["reply_ms"] * 153.6 - found["reply_bits"]) > 1e-3]
@@ -121,7 +119,4 @@ def draft_of_example(_: Path) -> List[str]:
             longest = max(command.reply_bits for command in failing_bus().told if command.station == station)
             wanted += ["answered = true", f"# window = {longest}"]
     got = [line for line in draft.splitlines() if " = " in line and line[:6] not in ("versio", "[[fram")]
-    return differing(wanted, got, "entries")
-
-
-TESTS = [example_is_generated, example_places, summary_of_example, objects_of_example, draft_of_example]
+    return unlike("entries", wanted, got)

@@ -15,11 +15,10 @@ from contextlib import contextmanager
 from pathlib import Path
 from typing import IO, Iterator, List, NamedTuple, Sequence, Tuple
 
-from needs import SPECS_OF_NEWLIB, needs, needs_file, needs_module
-from tests.case import CALL, REPLY, SECONDS, TOP, Run, Test, Word, listed, packed, plain, random_bits, written_by
+from needs import SPECS_OF_NEWLIB, needs, needs_file
+from tests.case import CALL, REPLY, SECONDS, TOP, Word, listed, packed, plain, random_bits, written_by
+from tests.simulated.cabinet import Cabinet, arrivals_of, recorded_of
 from tests.targets import BUILD
-
-RUNS: List[Run] = []
 
 FIRMWARE = TOP / "c" / "examples" / "mcu"
 
@@ -132,9 +131,6 @@ def running(folder: Path) -> Iterator[Tap]:
 def arrivals_of_cabinets() -> Iterator[Tuple[str, str]]:
     """The arrivals of an example, and of cabinets whose clocks differ."""
     yield "two-clocks", plain((TOP / "examples" / "two-clocks.arrivals").read_text(encoding="ascii"))
-    needs_module("numpy")
-    from tests.simulated.cabinet import Cabinet, arrivals_of, recorded_of  # which needs the module
-
     for seed, (ppm, gated) in enumerate([(80, True), (-150, False)]):
         yield f"{ppm} ppm", arrivals_of(recorded_of(Cabinet(seed=seed, ppm=ppm, gated=gated, polls=3)))
 
@@ -192,6 +188,3 @@ def firmware_marks_what_is_lost(folder: Path) -> List[str]:
     fault = listed(got.encode(), ["--bits", "--arrivals"]).stderr.decode()
     wanted = f"port1: capture: octet {got.find('!')} is no bit\n"
     return problems + ([] if fault == wanted else [f"wanted {wanted!r}, got {fault!r}"])
-
-
-TESTS: List[Test] = [firmware_lists, firmware_taps, firmware_taps_both_at_once, firmware_marks_what_is_lost]

@@ -1,25 +1,21 @@
 """Outputs of the commands that were kept, so that another writing of a command cannot change them unseen.
 
-`golden.json` has the status and both streams of each run, long ones by their SHA-256. Where an output is to change,
-this writes the file anew, and the change stands in CHANGELOG.md:
+`golden.json` has a line for each run: its name, status and both streams, long ones by their SHA-256. Where an output is
+to change, this writes the file anew, and the change stands in CHANGELOG.md:
 
     cd scripts && PYTHONPATH=../tests:. python3 -B -m tests.golden
 """
 
 import hashlib
-import io
 import json
 import subprocess
-import zipfile
 from functools import lru_cache
 from pathlib import Path
-from typing import Any, Callable, Dict, Iterator, List, NamedTuple, Sequence
+from typing import Any, Callable, Iterator, List, NamedTuple, Sequence
 
 from needs import needs
 from tests import listings, summaries
-from tests.case import SCRIPTS, TOP, Run, Test, plain, ran
-
-RUNS: List[Run] = []
+from tests.case import SCRIPTS, TOP, ran
 
 KEPT = SCRIPTS / "tests" / "golden.json"
 
@@ -52,19 +48,6 @@ def samples() -> bytes:
     rows = (EXAMPLES / "four-wires.csv").read_text(encoding="ascii").splitlines()
     cells = [row.split(",")[-4:] for row in rows if row[:1].isdigit()]
     return bytes(sum(int(cell) << at for at, cell in enumerate(row)) for row in cells)
-
-
-def session() -> bytes:
-    """The same as PulseView saves it."""
-    metadata = "[device 1]\ncapturefile=logic-1\ntotal probes=4\nsamplerate=1 MHz\nunitsize=1\n"
-    metadata += "".join(f"probe{at}={name}\n" for at, name in enumerate(["TXC", "TXD", "RXC", "RXD"], 1))
-    packed = io.BytesIO()
-    with zipfile.ZipFile(packed, "w", zipfile.ZIP_DEFLATED) as archive:
-        archive.writestr("version", "2")
-        archive.writestr("metadata", metadata)
-        archive.writestr("logic-1-1", samples()[:100])
-        archive.writestr("logic-1-2", samples()[100:])
-    return packed.getvalue()
 
 
 @lru_cache(maxsize=None)
@@ -120,9 +103,9 @@ def shown(octets: bytes) -> str:
     return octets.decode() if len(octets) <= SHORT else f"sha256:{hashlib.sha256(octets).hexdigest()}"
 
 
-def outcome(case: Case) -> Dict[str, Any]:
+def outcome(case: Case) -> List[Any]:
     got = ran(case.words, case.stdin())
-    return {"status": got.returncode, "stdout": shown(got.stdout), "stderr": shown(got.stderr)}
+    return [got.returncode, shown(got.stdout), shown(got.stderr)]
 
 
 def problems_of(which: Callable[[Case], bool]) -> List[str]:
@@ -144,21 +127,6 @@ def outputs_of_big_listings(_: Path) -> List[str]:
     return problems_of(lambda case: case.name.endswith(": big"))
 
 
-def session_of_samples(folder: Path) -> List[str]:
-    """A session is a file and no pipe; it gives the bits of its samples."""
-    file = folder / "tap.sr"
-    file.write_bytes(session())
-    with file.open("rb") as stdin:
-        words = [SCRIPTS / "recording-to-bits", "TXC", "TXD", "RXC", "RXD"]
-        got = subprocess.run(words, stdin=stdin, capture_output=True)
-    wanted = ran(["recording-to-bits", "--samplerate=1M", "0", "1", "2", "3"], samples())
-    named = wanted.stderr.replace(b"0 has", b"TXC has").replace(b"2 has", b"RXC has")
-    same = (got.stdout, got.stderr, got.returncode) == (wanted.stdout, named, 0)
-    return [] if same and plain(got.stdout.decode()) else [f"{got.returncode}, {got.stderr!r}, {got.stdout[:80]!r}"]
-
-
-TESTS: List[Test] = [outputs_of_small_inputs, outputs_of_big_listings, session_of_samples]
-
-
 if __name__ == "__main__":
-    KEPT.write_text(json.dumps({case.name: outcome(case) for case in cases()}, indent=1) + "\n", encoding="utf-8")
+    rows = ",\n".join(f" {json.dumps(case.name)}: {json.dumps(outcome(case))}" for case in cases())
+    KEPT.write_text(f"{{\n{rows}\n}}\n", encoding="utf-8")

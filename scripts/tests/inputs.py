@@ -11,17 +11,10 @@ from functools import lru_cache
 from pathlib import Path
 from typing import Callable, Dict, Iterator, List, NamedTuple, Sequence, Tuple
 
-from needs import needs_module
-from tests.case import DICTIONARY, TOP, Run, Word, listed, ran
-
-try:
-    import numpy as np
-    from tests.simulated import cabinet
-    from tests.simulated.cabinet import Cabinet, HealthyBus
-except ModuleNotFoundError:
-    pass  # Each test that needs numpy then says so.
-
-RUNS: List[Run] = []
+import numpy as np
+from tests.case import DICTIONARY, TOP, Word, listed, ran
+from tests.simulated import cabinet
+from tests.simulated.cabinet import Cabinet, HealthyBus
 
 NAMES = ["TXC", "TXD", "RXC", "RXD"]
 
@@ -32,16 +25,16 @@ NEAR = 200
 
 
 @lru_cache(maxsize=None)
-def healthy(samples: int, jitter: int = 0) -> "np.ndarray":
+def healthy(samples: int, jitter: int = 0) -> np.ndarray:
     """So many samples a second of a bus on which all commands are answered."""
     return HealthyBus(Cabinet(5, 80, True, samples, POLLS, jitter)).samples()
 
 
-def changes_of(samples: "np.ndarray") -> "np.ndarray":
+def changes_of(samples: np.ndarray) -> np.ndarray:
     return np.flatnonzero(np.concatenate(([True], np.diff(samples) != 0)))
 
 
-def dump(samples: "np.ndarray", rate: int) -> bytes:
+def dump(samples: np.ndarray, rate: int) -> bytes:
     """A value change dump, whose times are whole microseconds up to 1 MHz and nanoseconds above, as sigrok's are."""
     scale, ticks = ("1 us", 1_000_000) if rate <= 1_000_000 else ("1 ns", 1_000_000_000)
     words = [f"$timescale {scale} $end"]
@@ -52,7 +45,7 @@ def dump(samples: "np.ndarray", rate: int) -> bytes:
     return "".join(f"{word}\n" for word in words).encode()
 
 
-def table(samples: "np.ndarray", rate: int, time: str = "{:.9f}") -> bytes:
+def table(samples: np.ndarray, rate: int, time: str = "{:.9f}") -> bytes:
     """A table with a row for each change, as Logic exports it."""
     rows = [",".join(["Time [s]", *NAMES])]
     for at in changes_of(samples):
@@ -60,7 +53,7 @@ def table(samples: "np.ndarray", rate: int, time: str = "{:.9f}") -> bytes:
     return "".join(f"{row}\n" for row in rows).encode()
 
 
-def analog_table(samples: "np.ndarray", rate: int) -> bytes:
+def analog_table(samples: np.ndarray, rate: int) -> bytes:
     """A table of the wires' volts."""
     rows = [",".join(["Time [s]", *NAMES])]
     for at in range(1000):
@@ -69,11 +62,11 @@ def analog_table(samples: "np.ndarray", rate: int) -> bytes:
     return "".join(f"{row}\n" for row in rows).encode()
 
 
-def samples_in(octets: bytes) -> "np.ndarray":
+def samples_in(octets: bytes) -> np.ndarray:
     return np.frombuffer(bytes(octets), dtype=np.uint8)
 
 
-def session(samples: "np.ndarray", rate: int, lacking: Sequence[int] = (), wrong: int = 0) -> bytes:
+def session(samples: np.ndarray, rate: int, lacking: Sequence[int] = (), wrong: int = 0) -> bytes:
     """A session of sigrok, its samples in three parts, some of which are lacking; one may have other samples."""
     made = io.BytesIO()
     probes = "".join(f"probe{at}={name}\n" for at, name in enumerate(NAMES, 1))
@@ -96,11 +89,11 @@ def session(samples: "np.ndarray", rate: int, lacking: Sequence[int] = (), wrong
 class Lossy(NamedTuple):
     """Samples of which some are lacking, and the numbers of the bits that come there."""
 
-    samples: "np.ndarray"
+    samples: np.ndarray
     places: List[int]
 
 
-def lossy(samples: "np.ndarray", rate: int, count: int) -> Lossy:
+def lossy(samples: np.ndarray, rate: int, count: int) -> Lossy:
     """Loses so many stretches, each a number of bits that is not whole, in a part of the recording each."""
     generator, left, places, bit = np.random.default_rng(count), [], [], rate / cabinet.RATE
     kept = np.array_split(samples, count + 1)
@@ -134,7 +127,7 @@ ROUNDED = f"{DIGITS} (N times, first at N s)"
 ANALOG = 'row 1: "{}" is no level, 0 or 1: export digital channels, and no analog ones'
 
 # Where a loss is.
-Writer = Callable[["np.ndarray", int], bytes]
+Writer = Callable[[np.ndarray, int], bytes]
 
 
 def lost(name: str, write: Writer, rate: int, count: int) -> Row:
@@ -228,7 +221,6 @@ def problems_of(row: Row, folder: Path) -> List[str]:
 
 def faults_of_the_analyser(folder: Path) -> List[str]:
     """Each recording of the table: what is told of it, and that nothing else is."""
-    needs_module("numpy")
     return [f"{row.name}: {problem}" for row in rows() for problem in problems_of(row, folder)]
 
 
@@ -393,6 +385,3 @@ def cut_listings(folder: Path) -> List[str]:
             got = outcome(["bus-limits", folder / "limits.toml", f"unit={folder / 'unit.list'}"])
             problems += [] if got[0] == 2 and b"PASS" not in got[1] else [f"{how}, without {cut} octets: {got}"]
     return problems
-
-
-TESTS = [faults_of_the_analyser, writings, partings, refusals, cut_listings]

@@ -7,9 +7,8 @@ from pathlib import Path
 from typing import Dict, Iterator, List, Sequence, Set, Tuple
 
 from needs import needs
-from tests.case import CALL, ONE_CALL, SCRIPTS, SECONDS, TOP, Run, Test, lines, plain, written_by
-
-RUNS: List[Run] = []
+from tests.case import CALL, ONE_CALL, SCRIPTS, SECONDS, TOP, lines, plain, written_by
+from tests.manners import scripts
 
 ONE_FRAME = b"8 49 frame 108300fde5\n"
 
@@ -41,12 +40,6 @@ SAME_FOLDERS = {
 TESTS_OF_SCRIPTS = {"tests", "self-test", "__pycache__"}
 
 
-def scripts() -> List[str]:
-    """The scripts: whatever can be run in their folder, but for what tests them."""
-    runnable = (path for path in SCRIPTS.iterdir() if path.is_file() and os.access(path, os.X_OK))
-    return sorted(path.name for path in runnable if path.name not in TESTS_OF_SCRIPTS)
-
-
 def made(target: str, words: Sequence[str], folder: Path) -> None:
     """Runs make with the built program, and with files for library and page, which need not be built for this."""
     library, page = folder / "library.a", folder / "page.html"
@@ -56,8 +49,8 @@ def made(target: str, words: Sequence[str], folder: Path) -> None:
     subprocess.run(["make", "-s", "-C", TOP, target, *given], check=True, capture_output=True, timeout=SECONDS)
 
 
-def left_in(folder: Path) -> List[str]:
-    return sorted(str(path.relative_to(folder)) for path in folder.rglob("*"))
+def left_in(place: Path) -> List[str]:
+    return sorted(str(path.relative_to(place)) for path in place.rglob("*"))
 
 
 PROGRAMS = {"port1", "port1-sample"}
@@ -111,12 +104,6 @@ def problems_of_use(prefix: Path, folder: Path) -> List[str]:
             written = b"".join(sorted(written.splitlines(keepends=True)))
         problems += [] if written == wanted else [f"{command}: wanted {wanted!r}, got {written!r}"]
     return problems
-
-
-def problems_of_files(prefix: Path) -> List[str]:
-    """Whether each file is the one that its place is for."""
-    rows = [(place, source, (TOP / source).read_bytes()) for place, source in SAME_FILES.items()]
-    return [f"{place}: not {source}" for place, source, octets in rows if (prefix / place).read_bytes() != octets]
 
 
 # What is written when it is installed, and what is built.
@@ -190,9 +177,9 @@ def problems_of_library(prefix: Path) -> List[str]:
     return problems
 
 
-def files_of(folder: Path) -> List[str]:
-    """The files of a folder, but for what tests them, and for a folder that has a place of its own."""
-    found = [path.relative_to(folder) for path in folder.rglob("*") if not path.is_dir()]
+def files_of(place: Path) -> List[str]:
+    """The files of a folder, but for what tests them, and for a place that has a place of its own."""
+    found = [path.relative_to(place) for path in place.rglob("*") if not path.is_dir()]
     others = TESTS_OF_SCRIPTS
     return sorted(str(path) for path in found if not others & set(path.parts))
 
@@ -322,8 +309,3 @@ def what_git_passes_over(folder: Path) -> List[str]:
     others = ["examples/new.bits", "examples/new.ts2", "examples/ci/new.py", "scripts/new", "c/new.c", "docs/new.md"]
     hidden = subprocess.run([*git, "check-ignore", "--no-index", *others], capture_output=True, text=True)
     return problems + [f"ignored: {name}" for name in sources + hidden.stdout.split()]
-
-
-TESTS: List[Test] = [
-    what_git_passes_over, in_a_home, for_a_package, one_target_at_a_time, what_is_of_others, make_check
-]

@@ -9,10 +9,8 @@ import time
 from pathlib import Path
 from typing import List, Sequence
 
-from tests.case import SCRIPTS, SECONDS, Run
+from tests.case import SCRIPTS, SECONDS
 from tests.watched import RATE, ROUND, Cabinet, Fault, child_of, feed, judged, read_until
-
-RUNS: List[Run] = []
 
 
 def problems_of_kills(folder: Path, moments: Sequence[float], scripts: Path = SCRIPTS) -> List[str]:
@@ -109,6 +107,3 @@ def ended_within(folder: Path) -> List[str]:
     told = [(r["run"], r.get("cut"), r.get("continues")) for r in cabinet.incidents if "burst" in r["causes"]]
     is_well = watch.returncode == 0 and told == [(1, True, None), (2, None, "1-1")]
     return [] if is_well else [f"{watch.returncode}, {cabinet.log}"]
-
-
-TESTS = [kills, undecided, row_that_is_cut, ended_within, many_kills]

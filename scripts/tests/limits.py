@@ -7,8 +7,9 @@ import xml.etree.ElementTree as Xml
 from pathlib import Path
 from typing import Dict, List, NamedTuple
 
-from tests.case import Run, Test, listed, ran
-from tests.simulated.failing_bus import CONTROL, RATE, ROUND, ROUNDS, Line, frame_bits
+from tests.case import listed, ran
+from table.captures import sent
+from tests.simulated.failing_bus import CONTROL, RATE, ROUND, ROUNDS, Line
 
 DICTIONARY = """version = 2
 [[frame]]
@@ -79,12 +80,12 @@ def unit(seed: int, planted: str) -> Unit:
             fate = planted if (station, number) == (victim, at) else "nothing"
             if fate == "unsent":
                 continue
-            past = commands.send(first, frame_bits(station, CONTROL, 1))
+            past = commands.send(first, sent(bytes([station, CONTROL, 1])))
             if fate == "destroyed":
                 commands.invert(first + generator.randrange(8))
             elif fate != "missing":
                 times = {"slow": SLOW, "late": LATE}.get(fate, IN_TIME)
-                answers.send(past + generator.randrange(*times), frame_bits(station, CONTROL, 129))
+                answers.send(past + generator.randrange(*times), sent(bytes([station, CONTROL, 129])))
     marks = "".join(str(int(one) + 2 * int(other)) for one, other in zip(commands.bits, answers.bits))
     return Unit(marks.encode(), broken_by(planted, victim, at))
 
@@ -285,10 +286,3 @@ def holds_each_to_limits(folder: Path) -> List[str]:
         ]
         found += [] if counts == [count] * 3 else [f"{text!r}: {counts} are not judged, not {count}"]
     return found
-
-
-RUNS: List[Run] = []
-
-TESTS: List[Test] = [
-    *(finds_what_is_planted, holds_each_to_limits, compares_with_an_earlier_run, names_faults, summary_as_json),
-]

@@ -116,21 +116,14 @@ RUNS = [
     Run("a last line without an end", ["list-to-jsonl"], b"8 9 open", b'{"first": 8, "past": 9, "kind": "open"}\n'),
     Run("no rate", ["list-to-jsonl", "--rate", "0"], b"", b"", RATE_USAGE.format("list-to-jsonl", "0", ""), 2),
     Run(
-        "octets above 127",
-        ["list-to-jsonl"],
-        b"8 9 open\n\xff8 9 open\n",
+        "octets above 127", ["list-to-jsonl"], b"8 9 open\n\xff8 9 open\n",
         b'{"first": 8, "past": 9, "kind": "open"}\n',
-        "list-to-jsonl: line 2 is no line of `port1 list`: \"\ufffd8 9 open\"\n",
-        2,
+        "list-to-jsonl: line 2 is no line of `port1 list`: \"\ufffd8 9 open\"\n", 2,
     ),
     *(
         Run(
-            f"no line: {text!r}",
-            ["list-to-jsonl"],
-            f"8 9 open\n{text}\n".encode(),
-            b'{"first": 8, "past": 9, "kind": "open"}\n',
-            bad_line("list-to-jsonl", text),
-            2,
+            f"no line: {text!r}", ["list-to-jsonl"], f"8 9 open\n{text}\n".encode(),
+            b'{"first": 8, "past": 9, "kind": "open"}\n', bad_line("list-to-jsonl", text), 2,
         )
         for text in BAD_LINES
     ),
@@ -138,10 +131,6 @@ RUNS = [
     Run("no line", ["draft-dictionary"], b"8 9 open\n8 9\n", b"", bad_line("draft-dictionary", "8 9"), 2),
     Run("a wrong call", ["draft-dictionary", "x.txt"], b"", b"", DRAFT_USAGE, 2),
 ]
-
-
-def differing(wanted: object, got: object, what: str) -> List[str]:
-    return [] if wanted == got else [f"{what}: wanted {wanted!r}, got {got!r}"]
 
 
 def objects_of(listing: bytes, *words: str) -> List[Dict[str, Any]]:
@@ -221,6 +210,3 @@ def big_listings(folder: Path) -> List[str]:
         if much > MOST_MEMORY or much - little > MORE_MEMORY:
             problems.append(f"{script}: {little} KiB, then {much} KiB")
     return problems
-
-
-TESTS = [drafts_are_accepted, big_listings]

@@ -17,9 +17,7 @@ from typing import Dict, Iterator, List, NamedTuple, Sequence, Tuple
 
 from needs import needs
 from tests.asleep import wait_until_asleep
-from tests.case import DICTIONARY, SCRIPTS, SECONDS, Run, is_of_node, lines
-
-RUNS: List[Run] = []
+from tests.case import DICTIONARY, SCRIPTS, SECONDS, is_of_node, lines
 
 SIGNALS = (signal.SIGINT, signal.SIGTERM)
 
@@ -251,16 +249,3 @@ def events_come_at_once(_: Path) -> List[str]:
     child.kill()
     child.wait(SECONDS)
     return [] if told == [b"recording-to-bits: event: 0 stops (at 0.299996 s)\n"] else [f"{told}"]
-
-
-TESTS = [
-    first_signal_ends_the_stream,
-    second_signal_ends_at_once,
-    hangup_is_passed_over,
-    half_a_dictionary_is_none,
-    unfinished_files_are_removed,
-    lines_come_at_once,
-    bits_come_soon,
-    one_processor_keeps_up,
-    events_come_at_once,
-]

@@ -4,11 +4,12 @@ import os
 import re
 import subprocess
 import tempfile
+from collections import Counter
 from pathlib import Path
 from typing import Dict, Iterator, List, NamedTuple
 
 from needs import needs
-from tests.case import DICTIONARY, SCRIPTS, SECONDS, TOP, Run, Word
+from tests.case import DICTIONARY, SCRIPTS, SECONDS, Word
 
 
 def scripts() -> List[str]:
@@ -54,8 +55,6 @@ FILES: Dict[str, List[str]] = {
 # Scripts that another program calls.
 CALLED = {"port1-extcap"}
 
-RUNS: List[Run] = []
-
 
 def lines_of(octets: bytes) -> List[str]:
     return octets.decode("utf-8", "replace").splitlines()
@@ -67,63 +66,27 @@ def called(name: str, words: List[Word], **options) -> "subprocess.CompletedProc
     return subprocess.run(words, stdout=subprocess.PIPE, stderr=subprocess.PIPE, timeout=SECONDS, **options)
 
 
-# What is tested, and the modules whose tests run it: every script, and what stands elsewhere in the repository.
-MODULES: Dict[str, List[str]] = {
-    "bus-limits": ["limits"],
-    "bus-report": ["reports"],
-    "bus-summary": ["summaries"],
-    "by-definition": ["definitions"],
-    "check-dictionary": ["dictionaries"],
-    "dictionary-to-lua": ["dissector"],
-    "draft-dictionary": ["listings"],
-    "flip-bits": ["packing"],
-    "list-in-parts": ["parts"],
-    "list-to-jsonl": ["listings"],
-    "list-to-page": ["reports"],
-    "list-to-pcap": ["wireshark"],
-    "pack-bits": ["packing"],
-    "recording-to-bits": ["recordings", "dumps"],
-    "bus-watch": ["watch"],
-    "port1-extcap": ["extcap"],
-    "unpack-bits": ["packing"],
-    "c/targets/build": ["targets"],
-    "bindings/python": ["python_module"],
-    "bindings/sigrok": ["sigrok"],
-}
-
-# What the tests of the other modules share.
-SHARED = {"__init__", "annotated", "asleep", "case", "python_texts", "watched"}
+# What has tests beside the scripts, as they write it.
+BESIDE = ["c/targets/build", "bindings/python", "bindings/sigrok"]
 
 
 def every_script_is_tested(_: Path) -> List[str]:
-    """A new script needs its words in the tables above, and a module with tests that run it."""
+    """A new script needs its words in the tables above, and a module beside this one that runs it."""
     problems = [f"{name} is in no table" for name in scripts() if name not in {*CALLS, *FILES, *CALLED}]
-    problems += [f"{name} has no module" for name in scripts() if name not in MODULES]
-    for name, modules in MODULES.items():
-        for module in modules:
-            path = SCRIPTS / "tests" / f"{module}.py"
-            text = path.read_text(encoding="utf-8") if path.is_file() else ""
-            words = [f'"{name}"', '"' + name.replace("/", '" / "') + '"']
-            runs = any(word in text for word in words)
-            problems += [] if runs and "TESTS" in text else [f"{name} is not run in {path.name}"]
-    there = [name for top in (SCRIPTS, TOP) for name in MODULES if (top / name).exists()]
-    return problems + [f"{name} is not there" for name in MODULES if name not in there]
-
-
-def every_module_is_run(_: Path) -> List[str]:
-    """Each module of this folder is in a group of self-test, and each function there that is a test is in its TESTS."""
-    problems = []
-    groups = (SCRIPTS / "self-test").read_text(encoding="utf-8").partition("GROUPS = [")[2].partition("\n]\n")[0]
-    for path in sorted((SCRIPTS / "tests").glob("*.py")):
-        text = path.read_text(encoding="utf-8")
-        listed = re.findall(r"\w+", text.partition("\nTESTS")[2])
-        written = re.findall(r"^def (\w+)\((?:folder|_): Path\) -> List\[str\]:", text, re.MULTILINE)
-        called = {name for name in written if re.search(rf"\b{name}\((?!folder: Path|_: Path)", text)}
-        if path.stem not in SHARED:
-            problems += [] if re.search(rf"\b{path.stem}\b", groups) else [f"{path.name} is in no group of self-test"]
-            left = [name for name in written if name not in listed and name not in called]
-            problems += [f"{path.name}: {name} is not run" for name in left]
+    modules = (path for path in (SCRIPTS / "tests").glob("*.py") if path.stem != "manners")
+    text = "".join(path.read_text(encoding="utf-8") for path in modules)
+    for name in [*scripts(), *BESIDE]:
+        words = [f'"{name}"', '"' + name.replace("/", '" / "') + '"']
+        problems += [] if any(word in text for word in words) else [f"no module runs {name}"]
     return problems
+
+
+def every_function_is_run(_: Path) -> List[str]:
+    """A function in this folder that is no test has another form, and is named elsewhere."""
+    texts = [path.read_text(encoding="utf-8") for path in sorted((SCRIPTS / "tests").glob("**/*.py"))]
+    names = Counter(re.findall(r"\w+", "".join(texts)))
+    others = re.compile(r"^def (\w+)\((?!(?:folder|_): Path\) -> List\[str\]:)", re.MULTILINE)
+    return [f"{name} is not run" for text in texts for name in others.findall(text) if names[name] == 1]
 
 
 def help_for_each(_: Path) -> List[str]:
@@ -221,15 +184,3 @@ def full_disk(_: Path) -> List[str]:
         if not is_one_line(got, name):
             problems.append(f"{name}: status {got.returncode}, {lines_of(got.stderr)}")
     return problems
-
-
-TESTS = [
-    every_script_is_tested,
-    every_module_is_run,
-    help_for_each,
-    wrong_calls,
-    folders_as_input,
-    files_that_are_not_there,
-    nobody_reads,
-    full_disk,
-]

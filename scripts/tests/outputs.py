@@ -7,22 +7,16 @@ import stat
 import subprocess
 import time
 from pathlib import Path
-from typing import Any, Dict, List, Tuple
+from typing import Dict, List, Tuple
 
 from needs import needs
-from tests.case import SCRIPTS, SECONDS, Run, ran
+from tests.case import SCRIPTS, SECONDS, ran, unlike
 
 RATE = "153600"
 
 LISTING = b"8 49 frame 108300fde5\n57 98 frame 118300fde5\n"
 
 LIMITS = "[bus]\nframes = 2\n"
-
-RUNS: List[Run] = []
-
-
-def compared(got: Any, wanted: Any) -> List[str]:
-    return [] if got == wanted else [f"wanted {wanted!r}, got {got!r}"]
 
 
 def writes(name: Path) -> subprocess.CompletedProcess:
@@ -40,7 +34,7 @@ def modes_stay(folder: Path) -> List[str]:
     names = sorted(path.name for path in folder.iterdir())
     is_written = old.read_bytes() == new.read_bytes() != b""
     wanted = ([b"", b""], [0o640, modes[2], modes[2]], ["new.pcap", "old.pcap", "other"], True)
-    return compared((told, modes, names, is_written), wanted)
+    return unlike("modes stay", wanted, (told, modes, names, is_written))
 
 
 def links_stay(folder: Path) -> List[str]:
@@ -54,8 +48,8 @@ def links_stay(folder: Path) -> List[str]:
         link.symlink_to(Path("inside", name))
         got = writes(link)
         size = (inside / name).stat().st_size if (inside / name).is_file() else 0
-        problems += compared((got.stderr, link.is_symlink(), size > len(b"before")), (b"", True, True))
-    return problems + compared(sorted(path.name for path in inside.iterdir()), ["missing", "there"])
+        problems += unlike("links stay", (b"", True, True), (got.stderr, link.is_symlink(), size > len(b"before")))
+    return problems + unlike("links stay", ["missing", "there"], sorted(path.name for path in inside.iterdir()))
 
 
 def pipe_in_tshark(folder: Path) -> List[str]:
@@ -69,7 +63,7 @@ def pipe_in_tshark(folder: Path) -> List[str]:
     got = writes(pipe)
     out, _ = reader.communicate(timeout=SECONDS)
     wanted = (0, b"", ["0x10", "0x11"], True)
-    return compared((got.returncode, got.stderr, out.decode().split(), pipe.is_fifo()), wanted)
+    return unlike("pipe in tshark", wanted, (got.returncode, got.stderr, out.decode().split(), pipe.is_fifo()))
 
 
 def reports_into_pipes(folder: Path) -> List[str]:
@@ -85,7 +79,7 @@ def reports_into_pipes(folder: Path) -> List[str]:
         got = ran(["bus-limits", option, pipe, limits, f"unit={listing}"])
         out, _ = reader.communicate(timeout=SECONDS)
         is_whole = bool(json.loads(out)) if option == "--json" else b"unit" in out
-        problems += compared((option, got.returncode, got.stderr, is_whole, pipe.is_fifo()), (option, 0, b"", True, True))
+        problems += unlike(option, (0, b"", True, True), (got.returncode, got.stderr, is_whole, pipe.is_fifo()))
     return problems
 
 
@@ -108,7 +102,7 @@ def devices_stay(folder: Path) -> List[str]:
     command = [*words, SCRIPTS / "list-to-pcap", RATE, device]
     got = subprocess.run(command, input=LISTING, capture_output=True, timeout=SECONDS)
     is_told = b"list-to-pcap: " in got.stderr and b"ENOSPC" in got.stderr and got.stderr.count(b"\n") == 1
-    return compared((got.returncode, is_told, stat.S_ISCHR(device.stat().st_mode)), (2, True, True))
+    return unlike("devices stay", (2, True, True), (got.returncode, is_told, stat.S_ISCHR(device.stat().st_mode)))
 
 
 def standard_output_by_name(folder: Path) -> List[str]:
@@ -117,7 +111,7 @@ def standard_output_by_name(folder: Path) -> List[str]:
         words = [SCRIPTS / "list-to-pcap", RATE, "/dev/stdout"]
         done = subprocess.run(words, input=LISTING, stdout=sink, stderr=subprocess.PIPE, timeout=SECONDS)
         size = os.fstat(sink.fileno()).st_size
-    return compared((done.returncode, done.stderr, size > 24), (0, b"", True))
+    return unlike("standard output by name", (0, b"", True), (done.returncode, done.stderr, size > 24))
 
 
 def a_pipe_without_reader(folder: Path) -> List[str]:
@@ -132,7 +126,7 @@ def a_pipe_without_reader(folder: Path) -> List[str]:
         time.sleep(0.01)
     child.send_signal(signal.SIGTERM)
     _, told = child.communicate(timeout=SECONDS)
-    return compared((child.returncode, told), (-signal.SIGTERM, b""))
+    return unlike("a pipe without reader", (-signal.SIGTERM, b""), (child.returncode, told))
 
 
 def catches(status: str, number: int) -> bool:
@@ -142,14 +136,3 @@ def catches(status: str, number: int) -> bool:
         key, _, value = line.partition(":")
         fields[key] = value.strip()
     return bool(int(fields.get("SigCgt", "0"), 16) >> (number - 1) & 1)
-
-
-TESTS = [
-    modes_stay,
-    links_stay,
-    pipe_in_tshark,
-    reports_into_pipes,
-    devices_stay,
-    standard_output_by_name,
-    a_pipe_without_reader,
-]

@@ -7,12 +7,8 @@ import subprocess
 from pathlib import Path
 from typing import Dict, Iterator, List, NamedTuple, Sequence, Tuple
 
-from needs import Skipped, needs
-from tests.case import ONE_CALL, SECONDS, TOP, Run, Test, Word
-
-RUNS: List[Run] = []
-
-ARCHIVE = TOP / "crates" / "port1_c" / "out" / "libport1_c.a"
+from needs import needs
+from tests.case import ONE_CALL, SECONDS, TOP, Word, needs_archive, unlike
 
 ONE_FRAME = "8 49 frame 108300fde5\n"
 
@@ -36,18 +32,12 @@ def make(target: str, words: Sequence[Word]) -> None:
 
 def moved(folder: Path) -> Path:
     """Where the library is after it was installed elsewhere and moved."""
-    needs("make")
-    needs("cc")
-    if not ARCHIVE.exists():
-        raise Skipped(f"no {ARCHIVE.relative_to(TOP)}; `make` builds it")
+    needs("make", "cc")
+    needs_archive()
     prefix, elsewhere = folder / "first", folder / "then moved"
     make("install-library", [f"PREFIX={prefix}", f"PYTHONDIR={prefix / 'lib' / 'python'}"])
     prefix.rename(elsewhere)
     return elsewhere
-
-
-def unlike(what: str, wanted: object, got: object) -> List[str]:
-    return [] if wanted == got else [f"{what}: wanted {wanted!r}, got {got!r}"]
 
 
 def told(words: Sequence[Word], stdin: bytes = b"", **settings: str) -> str:
@@ -121,8 +111,7 @@ def problems_of_installed(it: Installed, folder: Path) -> List[str]:
 def made_without_a_toolchain(folder: Path) -> List[str]:
     """With all installed in a folder."""
     needs("make")
-    if not ARCHIVE.exists():
-        raise Skipped(f"no {ARCHIVE.relative_to(TOP)}; `make` builds it")
+    needs_archive()
     prefix = folder / "prefix"
     make("install", [f"PREFIX={prefix}", f"PROGRAM={os.environ['PORT1']}"])
     there = Installed(prefix / "share/doc/port1/examples/c", prefix / "share/port1", prefix / "lib")
@@ -131,8 +120,7 @@ def made_without_a_toolchain(folder: Path) -> List[str]:
 
 def shared_library(folder: Path) -> List[str]:
     """Its name, that it exports the functions of the header alone, and that its text is shared."""
-    needs("nm")
-    needs("readelf")
+    needs("nm", "readelf")
     library = moved(folder) / "lib" / "libport1.so.2"
     header = (TOP / "c" / "include" / "port1.h").read_text(encoding="ascii")
     wanted = sorted(re.findall(r"^uint32_t (port1_\w+)\(", header, re.MULTILINE))
@@ -150,8 +138,7 @@ def shared_library(folder: Path) -> List[str]:
 
 def by_pkg_config(folder: Path) -> List[str]:
     """The examples, linked with what pkg-config says, and with the shared library in place of the archive."""
-    needs("pkg-config")
-    needs("readelf")
+    needs("pkg-config", "readelf")
     prefix = moved(folder)
     examples = prefix / "share" / "doc" / "port1" / "examples" / "c"
     rows = {"static": "", "shared": " | sed s/-lport1_c/-lport1/"}
@@ -179,8 +166,7 @@ def configured(folder: Path, prefix: Path, version: str) -> str:
 
 def by_cmake(folder: Path) -> List[str]:
     """A project that finds the library, links both forms of it in C and C++, and runs."""
-    for tool in ("cmake", "c++"):
-        needs(tool)
+    needs("cmake", "c++")
     prefix, work = moved(folder), folder / "work"
     (asked,) = re.findall(r"^find_package\(port1 (.*) REQUIRED\)$", (TOP / "docs" / "C.md").read_text("utf-8"), re.M)
     said = configured(work, prefix, asked)
@@ -208,8 +194,7 @@ def versions_to_ask_for() -> Dict[str, bool]:
 
 def versions_by_cmake(folder: Path) -> List[str]:
     """Which versions a project may ask for."""
-    for tool in ("cmake", "c++"):
-        needs(tool)
+    needs("cmake", "c++")
     prefix = moved(folder)
     problems = []
     for number, (version, suits) in enumerate(versions_to_ask_for().items()):
@@ -220,10 +205,8 @@ def versions_by_cmake(folder: Path) -> List[str]:
 
 def without_shared_library(folder: Path) -> List[str]:
     """With no shared library, cmake has the target of the archive alone."""
-    needs("cmake")
-    needs("make")
-    if not ARCHIVE.exists():
-        raise Skipped(f"no {ARCHIVE.relative_to(TOP)}; `make` builds it")
+    needs("cmake", "make")
+    needs_archive()
     prefix, work = folder / "prefix", folder / "work"
     make("install-library", [f"PREFIX={prefix}", "SHARED="])
     work.mkdir()
@@ -240,14 +223,3 @@ def taken_away(folder: Path) -> List[str]:
     prefix = moved(folder)
     make("uninstall", [f"PREFIX={prefix}", f"PYTHONDIR={prefix / 'lib' / 'python'}"])
     return [f"left: {path.relative_to(prefix)}" for path in prefix.rglob("*")]
-
-
-TESTS: List[Test] = [
-    made_without_a_toolchain,
-    shared_library,
-    by_pkg_config,
-    by_cmake,
-    versions_by_cmake,
-    without_shared_library,
-    taken_away,
-]

@@ -53,12 +53,8 @@ RUNS = [
     Run("a form feed", ["flip-bits", "0"], b"01\f10", b"", "flip-bits: octet 2 is no bit\n", 2),
     Run("an octet above 127", ["flip-bits", "0"], b"01\xb2", b"", "flip-bits: octet 2 is no bit\n", 2),
     Run(
-        "a place after the end",
-        ["flip-bits", "8"],
-        b"01111110",
-        b"01111110",
-        "flip-bits: no bit has the place 8: the capture has 8\n",
-        2,
+        "a place after the end", ["flip-bits", "8"], b"01111110", b"01111110",
+        "flip-bits: no bit has the place 8: the capture has 8\n", 2,
     ),
 ]
 
@@ -75,6 +71,3 @@ def pack_and_unpack(_: Path) -> List[str]:
         if ran(["unpack-bits"], both).stdout != lines(bits):
             problems.append(f"{count} bits")
     return problems
-
-
-TESTS = [pack_and_unpack]

@@ -3,7 +3,6 @@
 import os
 import random
 import signal
-import struct
 import subprocess
 import tempfile
 import time
@@ -12,25 +11,11 @@ from pathlib import Path
 from typing import Dict, List, NamedTuple, Sequence, Tuple
 
 from needs import needs
+from table.captures import packed_marks
 from tests.case import (
-    CALL,
-    SCRIPTS,
-    DICTIONARY,
-    ONE_CALL,
-    REPLY,
-    SECONDS,
-    TOP,
-    WINDOWS,
-    Run,
-    listed,
-    packed,
-    plain,
-    ran,
-    random_bits,
+    CALL, SCRIPTS, DICTIONARY, ONE_CALL, REPLY, SECONDS, TOP, WINDOWS, listed, packed, plain, ran, random_bits,
     written_by,
 )
-
-RUNS: List[Run] = []
 
 
 def dirty_line(generator: random.Random, count: int) -> str:
@@ -148,14 +133,6 @@ def parts_with_faults(folder: Path) -> List[str]:
     for options in [["--bits"], ["--help"], ["--kind", "frames"], ["--dict", "version = 3"], far, ["--no"]]:
         problems += parted(folder, ONE_CALL, options, 2, 1)
     return problems
-
-
-def packed_marks(magic: bytes, marks: Sequence[int]) -> bytes:
-    """A packed capture of pairs of bits, or of bits as they arrived."""
-    body = bytearray((len(marks) + 3) // 4)
-    for place, mark in enumerate(marks):
-        body[place // 4] |= mark << 2 * (place % 4)
-    return magic + struct.pack("<Q", len(marks)) + bytes(body)
 
 
 def packed_two(first: str, second: str) -> bytes:
@@ -346,18 +323,3 @@ def parts_that_are_ended(folder: Path) -> List[str]:
         if (process.returncode, len(processes), left) != (-row.signals[-1], 2, []):
             problems.append(f"{row}: status {process.returncode}, {len(processes)} processes, left {left}")
     return problems
-
-
-TESTS = [
-    parts_of_dirty_lines,
-    parts_up_to_the_end,
-    parts_by_jobs,
-    parts_of_traffic,
-    parts_with_faults,
-    parts_of_two_lines,
-    parts_of_odd_words,
-    parts_to_sinks,
-    parts_step_by_step,
-    parts_that_fail,
-    parts_that_are_ended,
-]

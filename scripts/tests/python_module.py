@@ -13,14 +13,12 @@ from needs import needs
 from table.captures import FLAG, IDLE, sent
 from table.samples import ROWS
 from table.vectors import VECTORS
-from tests.case import CALL, ONE_CALL, REPLY, SECONDS, TOP
-from tests.case import Run, Test, Word, listed, packed, plain, random_bits, written_by
-from tests.packages import moved, told, unlike
+from tests.case import CALL, ONE_CALL, REPLY, SECONDS, TOP, unlike
+from tests.case import Word, listed, packed, plain, random_bits, written_by
+from tests.packages import moved, told
 from tests.python_texts import (
     PAIRED, PAIRED_REFUSED, PAIRED_REFUSES, PRINTED, REFUSED, REFUSED_PRINTS, SAMPLED, SENT, TAPPED, TAPPED_REFUSES
 )
-
-RUNS: List[Run] = []
 
 MODULE = TOP / "bindings" / "python"
 
@@ -281,17 +279,3 @@ def layout_in_python(folder: Path) -> List[str]:
     problems = unlike("cc", "", told(words))
     problems += [] if len(lines) > 30 else [f"there are {len(lines)} lines: {lines}"]
     return problems or unlike("layout", lines, written_by([program]).decode().splitlines())
-
-
-TESTS: List[Test] = [
-    decoder_in_python,
-    pairing_in_python,
-    vectors_in_python,
-    encoder_in_python,
-    taps_in_python,
-    samples_in_python,
-    refusals_in_python,
-    code_of_the_document,
-    places_of_the_library,
-    layout_in_python,
-]

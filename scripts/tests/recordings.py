@@ -6,7 +6,7 @@ import zipfile
 from pathlib import Path
 from typing import List, Sequence, Tuple
 
-from needs import needs, needs_module
+from needs import needs
 from tests.case import CALL, SCRIPTS, Run, lines, plain, ran, written_by
 
 SCRIPT = "recording-to-bits"
@@ -60,38 +60,25 @@ def no_edges(clock: str) -> str:
 
 RUNS = [
     Run(
-        "samples of one octet",
-        [SCRIPT, "4", "5"],
-        bytes(clock << 4 | data << 5 for clock, data in samples_of(BITS)),
-        lines(BITS),
-        EDGES.replace("clk", "4"),
+        "samples of one octet", [SCRIPT, "4", "5"], bytes(clock << 4 | data << 5 for clock, data in samples_of(BITS)),
+        lines(BITS), EDGES.replace("clk", "4"),
     ),
     Run(
-        "samples of two octets",
-        [SCRIPT, "--octets=2", "3", "9"],
-        bytes(octet for clock, data in samples_of(BITS) for octet in (clock << 3, data << 1)),
-        lines(BITS),
+        "samples of two octets", [SCRIPT, "--octets=2", "3", "9"],
+        bytes(octet for clock, data in samples_of(BITS) for octet in (clock << 3, data << 1)), lines(BITS),
         EDGES.replace("clk", "3"),
     ),
     Run(
-        "half a sample at the end",
-        [SCRIPT, "--octets=2", "0", "1"],
-        bytes(5),
-        b"",
-        f"{no_edges('0')}{SCRIPT}: the recording ends within a sample of 2 octets\n",
-        2,
+        "half a sample at the end", [SCRIPT, "--octets=2", "0", "1"], bytes(5), b"",
+        f"{no_edges('0')}{SCRIPT}: the recording ends within a sample of 2 octets\n", 2,
     ),
     Run(
         "a table of sigrok", [SCRIPT, "clk", "data in"], table(SIGROK, [f"1,{row}" for row in ROWS]), lines(BITS), EDGES
     ),
     *[
         Run(
-            f"text that is no recording: {text[:9]!r}",
-            [SCRIPT, "0", "1"],
-            text,
-            b"",
-            f"{SCRIPT}: this is text, and neither a VCD nor a table (CSV); if it is samples, say --format binary\n",
-            2,
+            f"text that is no recording: {text[:9]!r}", [SCRIPT, "0", "1"], text, b"",
+            f"{SCRIPT}: this is text, and neither a VCD nor a table (CSV); if it is samples, say --format binary\n", 2,
         )
         for text in [b"version = 2\n[[frame]]\n", b"8 49 frame 108300fde5\n"]
     ],
@@ -105,161 +92,100 @@ RUNS = [
         ]
     ],
     Run(
-        "a dump of sigrok-cli with a line before",
-        [SCRIPT, "clk", "data in"],
-        b"META samplerate: 1000000\n" + DUMP,
-        b"1011\n",
-        f"{SCRIPT}: clk has 4 edges\n",
+        "a dump of sigrok-cli with a line before", [SCRIPT, "clk", "data in"], b"META samplerate: 1000000\n" + DUMP,
+        b"1011\n", f"{SCRIPT}: clk has 4 edges\n",
     ),
     Run(
-        "samples that look like letters",
-        [SCRIPT, "0", "1"],
-        bytes(0x40 | clock | data << 1 for clock, data in samples_of(BITS)),
-        lines(BITS),
-        EDGES.replace("clk", "0"),
+        "samples that look like letters", [SCRIPT, "0", "1"],
+        bytes(0x40 | clock | data << 1 for clock, data in samples_of(BITS)), lines(BITS), EDGES.replace("clk", "0"),
     ),
     Run(
-        "a table of sigrok, channels by their numbers",
-        [SCRIPT, "1", "2"],
-        table(SIGROK, [f"1,{row}" for row in ROWS]),
-        lines(BITS),
-        EDGES.replace("clk", "1"),
+        "a table of sigrok, channels by their numbers", [SCRIPT, "1", "2"], table(SIGROK, [f"1,{row}" for row in ROWS]),
+        lines(BITS), EDGES.replace("clk", "1"),
     ),
     Run(
-        "a table of Logic",
-        [SCRIPT, "Channel 0", "Channel 1 (data)"],
-        table(SALEAE, TIMED),
-        lines(BITS),
+        "a table of Logic", [SCRIPT, "Channel 0", "Channel 1 (data)"], table(SALEAE, TIMED), lines(BITS),
         EDGES.replace("clk", "Channel 0"),
     ),
     Run(
-        "a table of Logic with Windows' line ends",
-        [SCRIPT, "Channel 0", "Channel 1 (data)"],
-        table(SALEAE, TIMED).replace(b"\n", b"\r\n"),
-        lines(BITS),
-        EDGES.replace("clk", "Channel 0"),
+        "a table of Logic with Windows' line ends", [SCRIPT, "Channel 0", "Channel 1 (data)"],
+        table(SALEAE, TIMED).replace(b"\n", b"\r\n"), lines(BITS), EDGES.replace("clk", "Channel 0"),
     ),
     Run(
-        "times that go back",
-        [SCRIPT, "Channel 0", "Channel 1 (data)"],
-        table(SALEAE, ["0.1,0,1", "0.2,1,1", "0.15,0,1"]),
-        b"",
-        f"{no_edges('Channel 0')}{SCRIPT}: row 3: its time is before that of the row before it\n",
-        2,
+        "times that go back", [SCRIPT, "Channel 0", "Channel 1 (data)"],
+        table(SALEAE, ["0.1,0,1", "0.2,1,1", "0.15,0,1"]), b"",
+        f"{no_edges('Channel 0')}{SCRIPT}: row 3: its time is before that of the row before it\n", 2,
     ),
     *[
         Run(
-            f"times of day: {head}, {zone}",
-            [SCRIPT, "a", "b"],
+            f"times of day: {head}, {zone}", [SCRIPT, "a", "b"],
             table(f"{head},a,b\n", [f"2026-11-2{time}{zone},{row}" for time, row in zip(TIMES_OF_DAY, ROWS)]),
-            lines(BITS[:8]),
-            f"{SCRIPT}: a has 8 edges\n",
+            lines(BITS[:8]), f"{SCRIPT}: a has 8 edges\n",
         )
         for head, zone in [("Time", ""), ("Time [s]", "Z"), ("Time [s]", "+02:00"), ("Time(s)", "-0730")]
     ],
     Run(
-        "a table of DSView",
-        [SCRIPT, "a", "b"],
-        table("; CSV, generated by libsigrok4DSL\n; Channels (2/16)\nTime(s),a,b\n", TIMED),
-        lines(BITS),
+        "a table of DSView", [SCRIPT, "a", "b"],
+        table("; CSV, generated by libsigrok4DSL\n; Channels (2/16)\nTime(s),a,b\n", TIMED), lines(BITS),
         f"{SCRIPT}: a has {len(BITS)} edges\n",
     ),
     Run(
-        "times without a unit",
-        [SCRIPT, "Channel 0", "Channel 1 (data)"],
-        table("Time,Channel 0,Channel 1 (data)\n", ["12,0,1"]),
-        b"",
-        f'{SCRIPT}: the times of the column "Time" have no known unit: export them in seconds\n',
-        2,
+        "times without a unit", [SCRIPT, "Channel 0", "Channel 1 (data)"],
+        table("Time,Channel 0,Channel 1 (data)\n", ["12,0,1"]), b"",
+        f'{SCRIPT}: the times of the column "Time" have no known unit: export them in seconds\n', 2,
     ),
     Run(
-        "a row too short",
-        [SCRIPT, "clk", "data in"],
-        table(SIGROK, [*(f"1,{row}" for row in ROWS), "1,1", "1,0,0"]),
-        lines(BITS),
-        f"{EDGES}{SCRIPT}: row {len(ROWS) + 1} has 2 columns\n",
-        2,
+        "a row too short", [SCRIPT, "clk", "data in"], table(SIGROK, [*(f"1,{row}" for row in ROWS), "1,1", "1,0,0"]),
+        lines(BITS), f"{EDGES}{SCRIPT}: row {len(ROWS) + 1} has 2 columns\n", 2,
     ),
     Run(
-        "a table that is cut off within a row",
-        [SCRIPT, "clk", "data in"],
-        table(SIGROK, [f"1,{row}" for row in ROWS]) + b"1,0",
-        lines(BITS),
-        f"{EDGES}{SCRIPT}: the recording ends within row {len(ROWS) + 1}\n",
-        2,
+        "a table that is cut off within a row", [SCRIPT, "clk", "data in"],
+        table(SIGROK, [f"1,{row}" for row in ROWS]) + b"1,0", lines(BITS),
+        f"{EDGES}{SCRIPT}: the recording ends within row {len(ROWS) + 1}\n", 2,
     ),
     Run(
-        "a dump that is cut off within a time",
-        [SCRIPT, "clk", "data in"],
-        DUMP + b"#1",
-        b"1011\n",
-        f"{SCRIPT}: clk has 4 edges\n{SCRIPT}: the recording ends within the time #1\n",
-        2,
+        "a dump that is cut off within a time", [SCRIPT, "clk", "data in"], DUMP + b"#1", b"1011\n",
+        f"{SCRIPT}: clk has 4 edges\n{SCRIPT}: the recording ends within the time #1\n", 2,
     ),
     Run(
-        "no such column",
-        [SCRIPT, "clock", "data in"],
-        table(SIGROK, ["1,0,1"]),
-        b"",
-        f"{SCRIPT}: no channel has the name clock; there are: other, clk, data in\n",
-        2,
+        "no such column", [SCRIPT, "clock", "data in"], table(SIGROK, ["1,0,1"]), b"",
+        f"{SCRIPT}: no channel has the name clock; there are: other, clk, data in\n", 2,
     ),
     Run(
-        "names with a space and with brackets",
-        [SCRIPT, "clk", "data in"],
-        DUMP,
-        b"1011\n",
+        "names with a space and with brackets", [SCRIPT, "clk", "data in"], DUMP, b"1011\n",
         f"{SCRIPT}: clk has 4 edges\n",
     ),
     Run(
-        "the whole of a name with brackets",
-        [SCRIPT, "clk [0]", "data in"],
-        DUMP,
-        b"1011\n",
+        "the whole of a name with brackets", [SCRIPT, "clk [0]", "data in"], DUMP, b"1011\n",
         f"{SCRIPT}: clk [0] has 4 edges\n",
     ),
     Run(
-        "data that is named twice",
-        [SCRIPT, "a", "d", "b", "d"],
-        WIRES + b"#0 0a 0b 0d #10 1a 1b\n",
-        b"",
-        f"{SCRIPT}: the channel d is named twice\n",
-        2,
+        "data that is named twice", [SCRIPT, "a", "d", "b", "d"], WIRES + b"#0 0a 0b 0d #10 1a 1b\n", b"",
+        f"{SCRIPT}: the channel d is named twice\n", 2,
     ),
     Run(
-        "a clock without a period",
-        [SCRIPT, "a", "d"],
-        WIRES + b"#0 0a 0b 1d #10 1a #15 0a #20 1a #25 0a #120 1a\n",
+        "a clock without a period", [SCRIPT, "a", "d"], WIRES + b"#0 0a 0b 1d #10 1a #15 0a #20 1a #25 0a #120 1a\n",
         b"111\n",
         f"{SCRIPT}: a has 3 edges\n{SCRIPT}: warning: the edges of a jump: its wire has glitches, or samples were lost (at sample 120)\n",
     ),
     Run(
         "a rate in place of the one that a dump tells: its times are as many bits, of which a hundred have no edge",
         [SCRIPT, "--samplerate=153600", "a", "d"],
-        b"$timescale 1us $end\n" + WIRES + b"#0 0a 0b 1d #10 1a #15 0a #20 1a #25 0a #120 1a\n",
-        b"1" * 18 + b"\n",
+        b"$timescale 1us $end\n" + WIRES + b"#0 0a 0b 1d #10 1a #15 0a #20 1a #25 0a #120 1a\n", b"1" * 18 + b"\n",
         f"{SCRIPT}: a has 3 edges\n{SCRIPT}: warning: a stops (for 0.000651 s from 0.000130 s on)\n",
     ),
     Run(
-        "places of a dump that begins late",
-        [SCRIPT, "a", "d"],
-        WIRES + b"#7000 0a 0b 1d #7010 1a #7015 0a #7020 1a #7025 0a #7120 1a\n",
-        b"111\n",
+        "places of a dump that begins late", [SCRIPT, "a", "d"],
+        WIRES + b"#7000 0a 0b 1d #7010 1a #7015 0a #7020 1a #7025 0a #7120 1a\n", b"111\n",
         f"{SCRIPT}: a has 3 edges\n"
         f"{SCRIPT}: warning: the edges of a jump: its wire has glitches, or samples were lost (at sample 7120)\n",
     ),
     Run(
-        "a timescale of no length",
-        [SCRIPT, "a", "d"],
-        b"$timescale 0us $end\n" + WIRES + b"#0 0a 1d #10 1a #15 0a #20 1a\n",
-        b"11\n",
-        f"{SCRIPT}: a has 2 edges\n",
+        "a timescale of no length", [SCRIPT, "a", "d"],
+        b"$timescale 0us $end\n" + WIRES + b"#0 0a 1d #10 1a #15 0a #20 1a\n", b"11\n", f"{SCRIPT}: a has 2 edges\n",
     ),
     Run(
-        "a time too late",
-        [SCRIPT, "a", "d"],
-        WIRES + b"#0 0a 1d #9223372036854775808 1a\n",
-        b"",
+        "a time too late", [SCRIPT, "a", "d"], WIRES + b"#0 0a 1d #9223372036854775808 1a\n", b"",
         f"{no_edges('a')}{SCRIPT}: #9223372036854775808 is beyond the times that are read, which end at 9007199254740991 ticks\n",
         2,
     ),
@@ -267,45 +193,26 @@ RUNS = [
         "no edges", [SCRIPT, "0", "1"], bytes(100), b"", f"{SCRIPT}: 0 has 0 edges\n{SCRIPT}: warning: 0 has no edges\n"
     ),
     Run(
-        "no edges of either clock",
-        [SCRIPT, "0", "1", "2", "3"],
-        bytes(100),
-        b"",
+        "no edges of either clock", [SCRIPT, "0", "1", "2", "3"], bytes(100), b"",
         f"{SCRIPT}: 0 has 0 edges, 2 has 0 edges\n"
         f"{SCRIPT}: warning: 0 has no edges\n{SCRIPT}: warning: 2 has no edges\n",
     ),
     Run(
-        "a session through a pipe",
-        [SCRIPT, "0", "1"],
-        b"PK\3\4",
-        b"",
-        f"{SCRIPT}: a session of sigrok has to be a file: write `< tap.sr`\n",
-        2,
+        "a session through a pipe", [SCRIPT, "0", "1"], b"PK\3\4", b"",
+        f"{SCRIPT}: a session of sigrok has to be a file: write `< tap.sr`\n", 2,
     ),
     Run(
-        "samples with a rate that is none",
-        [SCRIPT, "0", "1", "--samplerate=fast"],
-        bytes(9),
-        b"",
-        f'{USAGE}\n{SCRIPT}: error: --samplerate: "fast" is no rate\n',
-        2,
+        "samples with a rate that is none", [SCRIPT, "0", "1", "--samplerate=fast"], bytes(9), b"",
+        f'{USAGE}\n{SCRIPT}: error: --samplerate: "fast" is no rate\n', 2,
     ),
     Run(
-        "no samples a second",
-        [SCRIPT, "0", "1", "--samplerate=0 kHz"],
-        bytes(9),
-        b"",
-        f'{USAGE}\n{SCRIPT}: error: --samplerate: "0 kHz" is no rate above 0\n',
-        2,
+        "no samples a second", [SCRIPT, "0", "1", "--samplerate=0 kHz"], bytes(9), b"",
+        f'{USAGE}\n{SCRIPT}: error: --samplerate: "0 kHz" is no rate above 0\n', 2,
     ),
     *(
         Run(
-            f"samples of {count} octets",
-            [SCRIPT, "0", "1", f"--octets={count}"],
-            bytes(9),
-            b"",
-            f'{USAGE}\n{SCRIPT}: error: --octets: "{count}" is no whole number from 1 to 8\n',
-            2,
+            f"samples of {count} octets", [SCRIPT, "0", "1", f"--octets={count}"], bytes(9), b"",
+            f'{USAGE}\n{SCRIPT}: error: --octets: "{count}" is no whole number from 1 to 8\n', 2,
         )
         for count in (0, 9, 18)
     ),
@@ -314,7 +221,6 @@ RUNS = [
 
 def session_of_sigrok(folder: Path) -> List[str]:
     """The real sigrok-cli makes a session of samples, and writes it as samples and as tables of its own."""
-    needs_module("numpy")
     needs("sigrok-cli")
     samples, session = folder / "tap.bin", folder / "tap.sr"
     samples.write_bytes(bytes(clock | data << 1 for clock, data in [*samples_of(BITS), (0, 0)]))
@@ -323,6 +229,7 @@ def session_of_sigrok(folder: Path) -> List[str]:
     written = {
         "binary": written_by(["sigrok-cli", "-i", session, "-O", "binary"]),
         "csv": written_by(["sigrok-cli", "-i", session, "-O", "csv"]),
+        "csv of times": written_by(["sigrok-cli", "-i", session, "-O", "csv:time=true"]),
         "csv of changes": written_by(["sigrok-cli", "-i", session, "-O", "csv:time=true:dedup=true"]),
         "vcd": written_by(["sigrok-cli", "-i", session, "-O", "vcd"]),
     }
@@ -360,6 +267,3 @@ def beyond_one_read(folder: Path) -> List[str]:
         got["session"] = subprocess.run([SCRIPTS / SCRIPT, *CHANNELS[:2]], stdin=source, capture_output=True)
     good = {form: run.stdout == lines(bits) and run.stderr.count(b"\n") == 1 for form, run in got.items()}
     return [f"{form}: {run.stderr!r}, {len(run.stdout)}" for form, run in got.items() if not good[form]]
-
-
-TESTS = [session_of_sigrok, beyond_one_read]

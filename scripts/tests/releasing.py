@@ -14,12 +14,10 @@ from multiprocessing.util import Finalize
 from pathlib import Path
 from typing import Callable, Dict, List, NamedTuple, Set, Tuple
 
-from needs import Skipped, needs
+from needs import needs
 from tests import installing
-from tests.case import SECONDS, TOP, Run, Test, Word
-from tests.packages import ARCHIVE, Installed, problems_of_installed, told, unlike
-
-RUNS: List[Run] = []
+from tests.case import SECONDS, TOP, Word, needs_archive, unlike
+from tests.packages import Installed, problems_of_installed, told
 
 MAINTAINER = "Tess Ter <tess@example.org>"
 
@@ -264,8 +262,7 @@ def contents_for_boards(_: Path) -> List[str]:
 
 def used_without_a_toolchain(folder: Path) -> List[str]:
     """With the packages for Debian unpacked in a folder."""
-    if not ARCHIVE.exists():
-        raise Skipped(f"no {ARCHIVE.relative_to(TOP)}; `make` builds it")
+    needs_archive()
     made = packages()
     for name in ("port1_amd64.deb", "libport1-dev_amd64.deb"):
         told(["dpkg-deb", "-x", made[name], folder / "root"])
@@ -528,23 +525,3 @@ def tools_that_are_missing(folder: Path) -> List[str]:
         says = f"dist: there is no {name}, which Debian has in the package {package}\n"
         problems += unlike(name, (2, says), (ran.returncode, ran.stderr))
     return problems
-
-
-TESTS: List[Test] = [
-    one_version,
-    packages_by_name,
-    without_arm,
-    contents_of_tarball,
-    contents_for_boards,
-    used_without_a_toolchain,
-    contents_of_program,
-    contents_of_libraries,
-    modes_and_owners,
-    another_time,
-    fields,
-    control_files,
-    proved_by,
-    same_octets,
-    refusals,
-    tools_that_are_missing,
-]

@@ -11,7 +11,7 @@ from datetime import datetime
 from pathlib import Path
 from typing import List, NamedTuple, Sequence
 
-from tests.case import DICTIONARY, SCRIPTS, Run, Test, Word, ran
+from tests.case import DICTIONARY, SCRIPTS, Run, Word, ran
 
 PAGE = SCRIPTS / "tests" / "page.html"
 
@@ -21,28 +21,16 @@ LISTING = b"8 49 frame 108300fde5 station 16 type 0 </script>\n57 72 idle\n" * 2
 
 RUNS = [
     Run(
-        "a page that is none",
-        [SCRIPT, "--page=/dev/null", "title"],
-        b"8 49 idle\n",
-        b"",
-        f"{SCRIPT}: this is no page that `make page` built\n",
-        2,
+        "a page that is none", [SCRIPT, "--page=/dev/null", "title"], b"8 49 idle\n", b"",
+        f"{SCRIPT}: this is no page that `make page` built\n", 2,
     ),
     Run(
-        "no page",
-        [SCRIPT, "--page=/no/page", "title"],
-        b"",
-        b"",
-        f"{SCRIPT}: there is no page /no/page: `make page` builds it; --page says where it is\n",
-        2,
+        "no page", [SCRIPT, "--page=/no/page", "title"], b"", b"",
+        f"{SCRIPT}: there is no page /no/page: `make page` builds it; --page says where it is\n", 2,
     ),
     Run(
-        "no recording",
-        [SCRIPT, f"--page={PAGE}", "--recording=/no/tap.sr", "title"],
-        b"",
-        b"",
-        f"{SCRIPT}: ENOENT: no such file or directory, open '/no/tap.sr'\n",
-        2,
+        "no recording", [SCRIPT, f"--page={PAGE}", "--recording=/no/tap.sr", "title"], b"", b"",
+        f"{SCRIPT}: ENOENT: no such file or directory, open '/no/tap.sr'\n", 2,
     ),
 ]
 
@@ -244,9 +232,3 @@ def refusals_of_reports(folder: Path) -> List[str]:
         problems += made_by(made, [word, wires, made], 2, told)
         problems += [f"{word}: a folder was made"] if made.exists() else []
     return problems
-
-
-TESTS: List[Test] = [
-    *[holds_the_listing, tells_what_it_is_given, tells_of_the_recording, refuses_another_time, refuses_other_lines],
-    *[report_of_a_recording, report_without_frames, report_that_fails, refusals_of_reports],
-]

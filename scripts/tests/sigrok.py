@@ -11,10 +11,9 @@ from needs import needs
 from table.vectors import VECTORS
 from tests.annotated import ANSWERS, BESIDE_FRAMES, CONTROLLER, REPLY_TIMES, Shown, annotations, built
 from tests.annotated import differences, expected, input_words, shown_of, side_of, sigrok
-from tests.case import CALL, DICTIONARY, REPLY, SCRIPTS, SECONDS, TOP, WINDOWS, Run, Word, listed, plain
+from tests.case import CALL, DICTIONARY, REPLY, SCRIPTS, SECONDS, TOP, WINDOWS, Word, listed, plain, unlike
+from tests.packages import DECODED
 from tests.simulated.waves import CHANNELS, RATE, REST, SECOND, Wave, encoded, recording, traffic, wave
-
-RUNS: List[Run] = []
 
 DECODER = TOP / "bindings" / "sigrok"
 
@@ -364,14 +363,7 @@ def dump_of_the_examples(folder: Path) -> List[str]:
     options = f"txc=clk:txd=tx:rxd=rx{dictionary_in(folder, DICTIONARY)}"
     words = ["-i", path, "-I", "vcd", "-P", f"nema_port1:{options}", "-A", "nema_port1"]
     got = sigrok(decoders, [*words, "--protocol-decoder-samplenum"])
-    wanted = (
-        "4-116 nema_port1-1: idle\n"
-        "68-396 nema_port1-1: frame 108300fde5 station 16 type 0 call\n"
-        "460-572 nema_port1-1: idle\n"
-        "524-852 nema_port1-1: frame 108380f561 station 16 type 128 reply\n"
-        "396-524 nema_port1-1: 0.128 ms, 16 bits\n"
-    )
-    return [] if (got.stdout, got.stderr) == (wanted, "") else [f"{got.stdout}{got.stderr}"]
+    return unlike("it shows", (DECODED, ""), (got.stdout, got.stderr))
 
 
 # Options that are refused, and what is said.
@@ -435,26 +427,3 @@ def without_a_terminal(_: Path) -> List[str]:
         if not out.strip():
             problems.append(f"{paper}: no bits: {err.decode()[:200]}")
     return problems
-
-
-TESTS = [
-    pieces_of_one_line,
-    pieces_of_vectors,
-    falling_edge,
-    data_that_changes_with_the_edge,
-    without_dictionary,
-    longest_frame,
-    two_lines_with_two_clocks,
-    two_lines_with_one_clock,
-    what_becomes_of_commands,
-    answer_that_begins_too_early,
-    piece_longer_than_what_is_kept,
-    reply_time_after_many_bits,
-    window_of_an_older_dictionary,
-    reset,
-    binary_output,
-    dump_of_the_examples,
-    faults,
-    installed,
-    without_a_terminal,
-]

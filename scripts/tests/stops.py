@@ -12,16 +12,10 @@ import subprocess
 from pathlib import Path
 from typing import Iterator, List, NamedTuple, Tuple
 
-from needs import needs_module
-from tests.case import SECONDS, Run, listed, sampler
-
-try:
-    import numpy as np
-    from tests.simulated.cabinet import DICTIONARY, FLAG, LENGTHS, RATE, body_of
-except ModuleNotFoundError:
-    pass  # Each test that needs numpy then says so.
-
-RUNS: List[Run] = []
+import numpy as np
+from table.captures import sent
+from tests.case import SECONDS, listed, sampler
+from tests.simulated.cabinet import DICTIONARY, FLAG, LENGTHS, RATE
 
 # Samples a second, in how many more of them a level has to stand, and after how many bits a clock has stopped.
 SAMPLES = 4_000_000
@@ -96,12 +90,12 @@ class Bus:
         first = self.lines[0]
         station, kind = generator.choice([1, 2, 16]), generator.randrange(2)
         command, answer = LENGTHS[kind]
-        body = body_of([station, 0x83, kind, *self.octets(command)])
+        body = sent(bytes([station, 0x83, kind, *self.octets(command)]))
         end = first.send(FLAG + body + FLAG, self.sent)
         self.fates.append(generator.choice(["answered"] * 9 + ["missing"]))
         quiet = end
         if self.fates[-1] == "answered":
-            quiet = self.answer(body_of([station, 0x83, kind + 128, *self.octets(answer)]), end)
+            quiet = self.answer(sent(bytes([station, 0x83, kind + 128, *self.octets(answer)])), end)
         quiet += generator.choice([10, 60, APART]) * generator.random() * first.bit
         self.sent = self.go_on(end, quiet)
 
@@ -170,14 +164,9 @@ def cabinets(commands: int, seeds: int) -> Iterator[Cabinet]:
 
 
 def clocks_that_stop(_: Path) -> List[str]:
-    needs_module("numpy")
     return [problem for cabinet in cabinets(20, 1) for problem in problems_of(cabinet)]
 
 
 def many_clocks_that_stop(_: Path) -> List[str]:
     """10,000 commands and more."""
-    needs_module("numpy")
     return [problem for cabinet in cabinets(210, 4) for problem in problems_of(cabinet)]
-
-
-TESTS = [clocks_that_stop, many_clocks_that_stop]

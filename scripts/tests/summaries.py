@@ -7,9 +7,9 @@ from decimal import ROUND_HALF_UP, Decimal
 from pathlib import Path
 from typing import Dict, List, Sequence, Tuple
 
-from tests.case import Run, ran
+from tests.case import Run, ran, unlike
 from tests.simulated.failing_bus import RATE
-from tests.listings import RATE_USAGE, Listing, bad_line, differing, good_listing
+from tests.listings import RATE_USAGE, Listing, bad_line, good_listing
 
 MORE_USAGE = " [--dictionary FILE] [--bits BITS] [--begin TIME] [--notes FILE] [--json]"
 
@@ -75,16 +75,16 @@ def gap_with_damage(_: Path) -> List[str]:
         " so 5 are lacking. 6 damaged pieces lay within (line 1: 5 fcs; line 2: 1 abort): commands may have been"
         " destroyed."
     )
-    problems = differing([wanted, "8 pieces are damaged; see below."], sentences_of(summary), "sentences")
+    problems = unlike("sentences", [wanted, "8 pieces are damaged; see below."], sentences_of(summary))
     cells = ["45", "45", "0", "0", "0", "0.0", "1.00", "1.00", "1.00", "1.00", "100.00", "600.00", "3.200"]
-    problems += differing(cells, table_of(summary).get((16, 0)), "table")
+    problems += unlike("table", cells, table_of(summary).get((16, 0)))
     cells = ["50", "50", "0", "0", "0", "0.0", "10.00", "10.00", "10.00", "10.00", "100.00", "100.00", "0.052"]
-    problems += differing(cells, table_of(summary).get((17, 0)), "table")
+    problems += unlike("table", cells, table_of(summary).get((17, 0)))
     wanted = (
         "Damage by cause: line 1: 5 fcs; line 2: 3 abort.\nMost of it lies here:\n"
         "  3.200 to 3.800 s: 6 pieces, 75 % of all\n"
     )
-    return problems + differing(wanted, summary[summary.index("Damage by cause:") :], "damage")
+    return problems + unlike("damage", wanted, summary[summary.index("Damage by cause:") :])
 
 
 NONE_SENT = "Nothing damaged lay within, but other frames: it seems that none were sent."
@@ -109,7 +109,7 @@ def gaps_in_order(_: Path) -> List[str]:
         "Station 16 got no type 0 (call) for 400 ms from 1.900 s on (place 291840). Usually it gets one each 100 ms,"
         f" so 3 are lacking. {NONE_SENT} 1 other gap of this kind stands out too.",
     ]
-    return differing(wanted, sentences_of(summary_of(listing.octets())), "sentences")
+    return unlike("sentences", wanted, sentences_of(summary_of(listing.octets())))
 
 
 def gap_of_a_line_at_rest(_: Path) -> List[str]:
@@ -122,7 +122,7 @@ def gap_of_a_line_at_rest(_: Path) -> List[str]:
         " are lacking. No frame and nothing damaged lay within: the line was at rest."
     ]
     summary = summary_of(listing.of_one_line(), "--rate", "9600")
-    return differing(wanted, sentences_of(summary), "sentences")
+    return unlike("sentences", wanted, sentences_of(summary))
 
 
 def uneven_polls(_: Path) -> List[str]:
@@ -135,7 +135,7 @@ def uneven_polls(_: Path) -> List[str]:
             even.command(16, 0, first)
             if number != 30:
                 holed.command(16, 0, first)
-    problems = differing([], sentences_of(summary_of(even.octets())), "two by two")
+    problems = unlike("two by two", [], sentences_of(summary_of(even.octets())))
     told = sentences_of(summary_of(holed.octets()))
     is_told = len(told) == 1 and told[0].startswith("Station 16 got no type 0 (call) for 190 ms from 2.910 s on")
     return problems if is_told else [*problems, f"with a gap: {told}"]
@@ -151,7 +151,7 @@ def gap_among_few(_: Path) -> List[str]:
             listing.command(16, 0, first)
         got = [text.partition(" from")[0] for text in sentences_of(summary_of(listing.octets()))]
         wanted = ["Station 16 got no type 0 (call) for 600 ms"] if told else []
-        problems += differing(wanted, got, f"{count} commands")
+        problems += unlike(f"{count} commands", wanted, got)
     return problems
 
 
@@ -184,7 +184,7 @@ def silent_and_missing(_: Path) -> List[str]:
         "12 frames of another length than in the dictionary, most of station 4 type 129: 12.",
         "12 strays, frames of answers to no command, most of station 4 type 129: 12.",
     ]
-    return differing(wanted, sentences_of(summary_of(listing.octets())), "sentences")
+    return unlike("sentences", wanted, sentences_of(summary_of(listing.octets())))
 
 
 def late_and_spoilt(_: Path) -> List[str]:
@@ -211,9 +211,9 @@ def late_and_spoilt(_: Path) -> List[str]:
         "3 pieces are damaged; see below.",
     ]
     summary = summary_of(listing.octets())
-    problems = differing(wanted, sentences_of(summary), "sentences")
-    problems += differing(["11", "8", "2", "0", "0", "20.0"], table_of(summary)[2, 1][:6], "late")
-    return problems + differing(["10", "7", "0", "0", "3", "30.0"], table_of(summary)[3, 1][:6], "spoilt")
+    problems = unlike("sentences", wanted, sentences_of(summary))
+    problems += unlike("late", ["11", "8", "2", "0", "0", "20.0"], table_of(summary)[2, 1][:6])
+    return problems + unlike("spoilt", ["10", "7", "0", "0", "3", "30.0"], table_of(summary)[3, 1][:6])
 
 
 def rounds_of(count: int, quiet: Sequence[int] = (), unanswered: Sequence[int] = ()) -> Listing:
@@ -238,8 +238,8 @@ def one_cause_one_sentence(_: Path) -> List[str]:
         "No command was sent to any station for 390 ms from 1.920 s on, of 2 types that otherwise come regularly.",
         "No station answered from 2.510 s on: 50 commands in a row, to 2 stations.",
     ]
-    problems = differing(apart[:1], sentences_of(summary_of(quiet)), "no command")
-    problems += differing(apart[1:], sentences_of(summary_of(mute)), "no answer")
+    problems = unlike("no command", apart[:1], sentences_of(summary_of(quiet)))
+    problems += unlike("no answer", apart[1:], sentences_of(summary_of(mute)))
     dead = sentences_of(summary_of(rounds_of(50).octets(), "--bits", str(10 * RATE)))
     wanted = "Nothing came on either line from 4.921 s until the recording ends at 10.000 s, for 5.1 s."
     return problems if [text.partition(" Before")[0] for text in dead] == [wanted] else [*problems, f"dead: {dead}"]
@@ -268,7 +268,7 @@ def exchanged_lines(_: Path) -> List[str]:
     listing = good_listing()
     listing.texts = [("2" if text[0] == "1" else "1") + text[1:] for text in listing.texts if "answered" not in text]
     told = sentences_of(summary_of(listing.octets()))
-    return differing(["4 commands came on line 2: are the two lines exchanged?"], told, "sentences")
+    return unlike("sentences", ["4 commands came on line 2: are the two lines exchanged?"], told)
 
 
 def many_of_one_sort(_: Path) -> List[str]:
@@ -282,8 +282,8 @@ def many_of_one_sort(_: Path) -> List[str]:
     listing.verdict("pending", 30, 1, 30_000)
     summary = summary_of(listing.octets())
     told = sentences_of(summary)
-    problems = differing(7, len(told), "sentences")
-    problems += differing("And 14 more of this sort; the table has them.", told[-1] if told else "", "the last")
+    problems = unlike("sentences", 7, len(told))
+    problems += unlike("the last", "And 14 more of this sort; the table has them.", told[-1] if told else "")
     is_told = "\n1 command at the end still waits for an answer.\n" in summary
     return problems if is_told else [*problems, "the pending command is not told"]
 
@@ -301,7 +301,7 @@ def answer_without_its_command(_: Path) -> List[str]:
         listing.texts.append("2 1000 1041 stray station 16 type 128")
         listing.exchange(16, 0, 2000, 100)
         told = [text for text in sentences_of(summary_of(listing.octets())) if "stray" in text]
-        problems += differing(strays, len(told), f"strays, {before}")
+        problems += unlike(f"strays, {before}", strays, len(told))
     return problems
 
 
@@ -373,24 +373,5 @@ def damage_in_time(_: Path) -> List[str]:
             f"  {begin}.000 to {end}.000 s: {count} pieces, {shown(100 * count / len(places), 0)} % of all"
             for begin, end, count in counts
         ]
-        problems += differing(texts, lines, "stretches")
+        problems += unlike("stretches", texts, lines)
     return problems
-
-
-TESTS = [
-    gap_with_damage,
-    gaps_in_order,
-    gap_of_a_line_at_rest,
-    uneven_polls,
-    gap_among_few,
-    silent_and_missing,
-    late_and_spoilt,
-    one_cause_one_sentence,
-    windows_of_a_dictionary,
-    exchanged_lines,
-    many_of_one_sort,
-    answer_without_its_command,
-    times_of_day,
-    reply_times,
-    damage_in_time,
-]

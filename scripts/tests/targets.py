@@ -10,7 +10,7 @@ from pathlib import Path
 from typing import List
 
 from needs import needs
-from tests.case import SECONDS, TOP, Run, Test
+from tests.case import SECONDS, TOP, Run
 
 BUILD = TOP / "c" / "targets" / "build"
 
@@ -22,11 +22,8 @@ RUNS: List[Run] = [
         for name, words in [("no word", []), ("no target", ["out"]), ("options alone", ["out", "--", "-O2"])]
     ],
     Run(
-        "a target that is none",
-        [str(BUILD), "out", "thumbv7m-none-eabi", "sparc"],
-        b"",
-        stderr=f"{USAGE}build: no such target: sparc\n",
-        status=2,
+        "a target that is none", [str(BUILD), "out", "thumbv7m-none-eabi", "sparc"], b"",
+        stderr=f"{USAGE}build: no such target: sparc\n", status=2,
     ),
 ]
 
@@ -91,6 +88,3 @@ def apart_from_this_machine(folder: Path) -> List[str]:
         wanted = [f'install -m 644 {archive} "{folder}/lib/libport1_c.a"']
         problems += [] if copied == wanted else [f"{target}: it installs {copied}"]
     return problems
-
-
-TESTS: List[Test] = [help_is_told, installed_alone, without_a_toolchain, apart_from_this_machine]

@@ -4,14 +4,9 @@ from collections import Counter
 from pathlib import Path
 from typing import Any, Iterator, List, NamedTuple, Sequence, Tuple
 
-from needs import needs_module
-from tests.case import Run, listed, ran
-
-try:
-    from tests.simulated import cabinet
-    from tests.simulated.cabinet import FLAG, RATE, Cabinet, recorded_from
-except ModuleNotFoundError:
-    pass  # Each test that needs numpy then says so.
+from tests.case import listed, ran
+from tests.simulated import cabinet
+from tests.simulated.cabinet import FLAG, RATE, Cabinet, recorded_from
 
 SAMPLES = 4_000_000
 
@@ -159,7 +154,6 @@ def totals(troubles: Sequence[Trouble], seeds: Sequence[int]) -> Iterator[Tuple[
 
 def problems_of(troubles: Sequence[Trouble], seeds: Sequence[int]) -> List[str]:
     """Where a listing differs from the truth, and where a recording is warned of whose controller's clock is as due."""
-    needs_module("numpy")
     return [
         f"{trouble.name()}: {found}"
         for trouble, found in totals(troubles, seeds)
@@ -175,8 +169,3 @@ def troubles(_: Path) -> List[str]:
 def many_troubles(_: Path) -> List[str]:
     """More of each, clocks that are off by up to 20000 parts in a million, and twelve seconds of flags."""
     return problems_of([*PLAIN, *FLAGS, *STOPS, *CUTS, *GLITCHES], range(5)) + problems_of(LONG, [1])
-
-
-RUNS: List[Run] = []
-
-TESTS = [troubles, many_troubles]

@@ -12,29 +12,12 @@ from pathlib import Path
 from typing import List, NamedTuple, Sequence, Set
 
 from needs import needs
-from tests.case import SCRIPTS, SECONDS, TOP, Run
+from tests.case import SCRIPTS, SECONDS, TOP
 from tests.killed import problems_of_kills
 from tests.watched import (
-    DICTIONARY,
-    RATE,
-    ROUNDED,
-    SIMULATOR,
-    Cabinet,
-    Fault,
-    Record,
-    Watched,
-    child_of,
-    clock_of,
-    disk_of,
-    judged,
-    lateness,
-    read_until,
-    schedule,
-    wait_until_idle,
-    watched_with_kills,
+    DICTIONARY, RATE, ROUNDED, SIMULATOR, Cabinet, Fault, Record, Watched, child_of, clock_of, disk_of, judged,
+    lateness, read_until, schedule, wait_until_idle, watched_with_kills,
 )
-
-RUNS: List[Run] = []
 
 # How far the two clocks of the computer may go apart within a test, in seconds, and lengths are rounded.
 CLOCK = 0.1
@@ -375,24 +358,3 @@ def problems_of_loss(folder: Path, is_killed: bool) -> List[str]:
     told = [(list(record["causes"]), lateness(cabinet, run, record)) for record in cabinet.incidents]
     is_told = [causes for causes, late in told if abs(late) < ROUNDED] == [["missing 1/1"]] and len(told) == 1
     return [] if is_kept and is_told else [f"{is_killed}, {is_kept}, {told}, {cabinet.log}"]
-
-
-TESTS = [
-    an_hour,
-    arrivals,
-    full_disk,
-    holes,
-    stalls,
-    times_of_day,
-    port1_is_killed,
-    source_that_ends,
-    stall_between_sources,
-    dead_wires,
-    one_watch,
-    commands_for_incidents,
-    unit_and_metrics,
-    wrong_forms,
-    lost_input,
-    loss_before_the_end,
-    a_day,
-]

@@ -16,10 +16,8 @@ from pathlib import Path
 from typing import IO, Dict, Iterator, List, Tuple
 
 from needs import needs
-from tests.case import SECONDS, Run
+from tests.case import SECONDS
 from tests.watched import RATE, Cabinet, Fault, child_of, fault_of, feed, read_until
-
-RUNS: List[Run] = []
 
 # How long a recording is, in seconds, and the words of the watch: what is joined depends on --after.
 RECORDED, WORDS = 80, [["--after", "2"], ["--longest", "8"]]
@@ -142,6 +140,3 @@ def slow_disk(folder: Path) -> List[str]:
     events = {record["event"] for record in cabinet.log}
     is_told = events == {"start", "begun", "incident", "well again", "end"} and len(cabinet.incidents) == len(faults)
     return [] if is_told and is_taken and not saved else [f"{is_taken}, {saved}, {cabinet.log}"]
-
-
-TESTS = [any_speed, slow_disk]

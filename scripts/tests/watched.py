@@ -116,8 +116,8 @@ def feed(pipe: IO[bytes], bits: bytes) -> None:
     try:
         pipe.write(bits)
         pipe.flush()
-    except OSError:
-        pass  # nobody reads any more
+    except (OSError, ValueError):
+        pass  # nobody reads any more, or the test has closed it
 
 
 def read_until(watch: "subprocess.Popen[bytes]", event: str) -> bytes:

@@ -25,27 +25,9 @@ from typing import Callable, Dict, Iterator, List, NamedTuple, Optional, Sequenc
 from needs import needs
 from tests.case import SCRIPTS, SECONDS
 from tests.watched import (
-    BEGIN,
-    DICTIONARY,
-    IN_PIPES,
-    RATE,
-    ROUNDED,
-    SIMULATOR,
-    SUPPORT,
-    Cabinet,
-    Fault,
-    Record,
-    Watched,
-    clock_of,
-    disk_of,
-    judged,
-    lateness,
-    modules_of,
-    problems_of_frames,
-    schedule,
+    BEGIN, DICTIONARY, IN_PIPES, RATE, ROUNDED, SIMULATOR, SUPPORT, Cabinet, Fault, Record, Watched, clock_of, disk_of,
+    judged, lateness, modules_of, problems_of_frames, schedule,
 )
-
-RUNS: List[object] = []
 
 DAY = 86400
 
@@ -462,9 +444,6 @@ def problems_of_days(
 def an_hour_of_all(folder: Path) -> List[str]:
     """A simulated hour with each of it, five hundred times as fast as the bus, and a part in real time."""
     return problems_of_days(folder, 1 / 24, [End(2, False), End(1, True)], (2475 * RATE, 0.5), DAY, "arrivals", 500)
-
-
-TESTS = [an_hour_of_all]
 
 
 def main(days: float, seconds: float) -> None:

@@ -4,10 +4,10 @@ import os
 import struct
 import subprocess
 from pathlib import Path
-from typing import Any, List, Sequence, Tuple
+from typing import List, Sequence, Tuple
 
 from needs import needs
-from tests.case import SECONDS, Run, Word, ran
+from tests.case import SECONDS, Run, Word, ran, unlike
 
 SDLC = 268
 
@@ -15,26 +15,20 @@ RATE = "153600"
 
 RUNS = [
     Run(
-        "frames alone",
-        ["list-to-pcap", RATE, "--text"],
+        "frames alone", ["list-to-pcap", RATE, "--text"],
         b"0 7 damaged short\n8 49 frame 108300fde5 station 16 type 0 call\n57 72 idle\n80 90 abort\n"
         b"99 140 damaged fcs\n150 700 overlong\n153608 153649 frame 108380f561\n8 49 missing station 16 type 0\n",
         b"0.000052\n000000 10 83 00\n1.000052\n000000 10 83 80\n",
     ),
     Run(
-        "frames of two lines",
-        ["list-to-pcap", RATE, "--text"],
+        "frames of two lines", ["list-to-pcap", RATE, "--text"],
         b"1 8 49 frame 108300fde5 station 16 type 0 call\n1 57 72 idle\n"
         b"2 153608 153649 frame 108380f561\n1 8 49 missing station 16 type 0\n2 153657 153658 open\n",
         b"0.000052\n000000 10 83 00\n1.000052\n000000 10 83 80\n",
     ),
     Run(
-        "no listing",
-        ["list-to-pcap", "1", "--text"],
-        b"frames 2\n",
-        b"",
-        "list-to-pcap: line 1 is no line of `port1 list`: \"frames 2\"\n",
-        2,
+        "no listing", ["list-to-pcap", "1", "--text"], b"frames 2\n", b"",
+        "list-to-pcap: line 1 is no line of `port1 list`: \"frames 2\"\n", 2,
     ),
 ]
 
@@ -54,10 +48,6 @@ def columns(folder: Path, path: Path, fields: Sequence[str], *words: Word) -> Li
     asked = [word for name in fields for word in ("-e", name)]
     text = tshark(folder, ["-r", path, *words, "-T", "fields", "-E", "separator=|", *asked])
     return [line.split("|") for line in text.splitlines()]
-
-
-def compared(got: Any, wanted: Any) -> List[str]:
-    return [] if got == wanted else [f"wanted {wanted!r}, got {got!r}"]
 
 
 # Capture files of list-to-pcap.
@@ -144,7 +134,7 @@ def files_octet_by_octet(folder: Path) -> List[str]:
     for name, read in [("x.pcap", packets_of_pcap), ("x.pcapng", packets_of_pcapng)]:
         got = ran(["list-to-pcap", RATE, folder / name], listing.encode())
         is_made = got.returncode == 0 and not got.stderr
-        problems += compared(read((folder / name).read_bytes()), wanted) if is_made else [got.stderr.decode()]
+        problems += unlike(name, wanted, read((folder / name).read_bytes())) if is_made else [got.stderr.decode()]
     return problems
 
 
@@ -166,7 +156,7 @@ def times_of_day(_: Path) -> List[str]:
     for begin, first, time in rows:
         listing = f"{first} {first + 41} frame 108300fde5\n"
         got = ran(["list-to-pcap", RATE, "--text", "--begin", begin], listing.encode(), env=environment)
-        problems += compared(got.stdout.decode(), f"{time}\n000000 10 83 00\n")
+        problems += unlike("times of day", f"{time}\n000000 10 83 00\n", got.stdout.decode())
     return problems
 
 
@@ -176,7 +166,7 @@ def pcap_in_tshark(folder: Path) -> List[str]:
     path = folder / "y.pcap"
     ran(["list-to-pcap", RATE, str(path)], b"8 49 frame 108300fde5\n57 98 frame ff83095a3b\n")
     rows = columns(folder, path, ["sdlc.address", "sdlc.control"])
-    return compared([[int(cell, 0) for cell in row] for row in rows], [[0x10, 0x83], [0xFF, 0x83]])
+    return unlike("pcap in tshark", [[0x10, 0x83], [0xFF, 0x83]], [[int(cell, 0) for cell in row] for row in rows])
 
 
 def pcapng_of_two_lines(folder: Path) -> List[str]:
@@ -184,11 +174,11 @@ def pcapng_of_two_lines(folder: Path) -> List[str]:
     needs("tshark")
     path = folder / "z.pcapng"
     got = ran(["list-to-pcap", RATE, path], TWO_LINES)
-    told = compared((got.returncode, got.stdout, got.stderr), (0, b"", b""))
+    told = unlike("pcapng of two lines", (0, b"", b""), (got.returncode, got.stdout, got.stderr))
     filters = {'frame.comment contains "then"': ["6", "8"], "frame.packet_flags_direction == 1": ["2", "4", "5"]}
     for text, wanted in filters.items():
-        told += compared([row[0] for row in columns(folder, path, ["frame.number"], "-Y", text)], wanted)
-    return told + compared(columns(folder, path, SAID), TWO_LINES_PACKETS)
+        told += unlike(text, wanted, [row[0] for row in columns(folder, path, ["frame.number"], "-Y", text)])
+    return told + unlike("pcapng of two lines", TWO_LINES_PACKETS, columns(folder, path, SAID))
 
 
 def pcapng_of_the_same_places(folder: Path) -> List[str]:
@@ -198,7 +188,7 @@ def pcapng_of_the_same_places(folder: Path) -> List[str]:
     listing = b"1 8 49 frame 108300fde5\n2 8 49 frame 118380f561\n2 8 49 stray station 17 type 128\n"
     got = ran(["list-to-pcap", RATE, path], listing)
     wanted = [[OUTBOUND, "0.000052000", ""], [INBOUND, "0.000052000", "stray"]]
-    return compared(got.stderr, b"") + compared(columns(folder, path, SAID), wanted)
+    return unlike("the same places", b"", got.stderr) + unlike("the same places", wanted, columns(folder, path, SAID))
 
 
 def pcapng_of_one_line(folder: Path) -> List[str]:
@@ -210,7 +200,7 @@ def pcapng_of_one_line(folder: Path) -> List[str]:
     got = ran(["list-to-pcap", RATE, path], listing.encode())
     comment = "; ".join([f"then {line}" for line in damage[:8]] + ["and 2 more"])
     wanted = [["", "0.000052000", comment], ["", "0.001302000", ""]]
-    return compared(got.stderr, b"") + compared(columns(folder, path, SAID), wanted)
+    return unlike("it says", b"", got.stderr) + unlike("packets", wanted, columns(folder, path, SAID))
 
 
 def pcapng_of_many_packets(folder: Path) -> List[str]:
@@ -230,7 +220,7 @@ def pcapng_of_many_packets(folder: Path) -> List[str]:
     got = ran(["list-to-pcap", RATE, path], "".join(texts).encode())
     rows = columns(folder, path, SAID)
     wrong = [(was, right) for was, right in zip(rows, wanted) if was != right]
-    return compared((got.stderr, len(rows), wrong[:3]), (b"", len(wanted), []))
+    return unlike("packets", (b"", len(wanted), []), (got.stderr, len(rows), wrong[:3]))
 
 
 def pcapng_of_nothing(folder: Path) -> List[str]:
@@ -240,9 +230,10 @@ def pcapng_of_nothing(folder: Path) -> List[str]:
     got = ran(["list-to-pcap", RATE, empty], b"8 30 damaged short\n")
     fault = ran(["list-to-pcap", RATE, bad], b"8 49 frame 108300fde5\nframe\n")
     told = b'list-to-pcap: line 2 is no line of `port1 list`: "frame"\n'
-    return compared(
-        (got.returncode, columns(folder, empty, SAID), fault.returncode, fault.stderr, list(folder.glob("bad*"))),
+    return unlike(
+        "pcapng of nothing",
         (0, [], 2, told, []),
+        (got.returncode, columns(folder, empty, SAID), fault.returncode, fault.stderr, list(folder.glob("bad*"))),
     )
 
 
@@ -259,17 +250,4 @@ def wrong_calls(folder: Path) -> List[str]:
         got = ran(words, cwd=folder)
         if got.returncode != 2 or got.stdout or b"usage: " not in got.stderr or reason.encode() not in got.stderr:
             problems.append(f"{words}: {got}")
-    return problems + compared(list(folder.iterdir()), [])
-
-
-TESTS = [
-    files_octet_by_octet,
-    times_of_day,
-    pcap_in_tshark,
-    pcapng_of_two_lines,
-    pcapng_of_the_same_places,
-    pcapng_of_one_line,
-    pcapng_of_many_packets,
-    pcapng_of_nothing,
-    wrong_calls,
-]
+    return problems + unlike("wrong calls", [], list(folder.iterdir()))

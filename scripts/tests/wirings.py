@@ -13,17 +13,10 @@ from pathlib import Path
 from tempfile import TemporaryDirectory
 from typing import Callable, Dict, Iterator, List, NamedTuple, Optional, Sequence, Tuple
 
-from needs import needs, needs_module
-from tests.case import SCRIPTS, SECONDS, Run, ran, sampler
-
-try:
-    import numpy as np
-    from tests.simulated import cabinet
-    from tests.simulated.cabinet import Cabinet, HealthyBus
-except ModuleNotFoundError:
-    pass  # Each test that needs numpy then says so.
-
-RUNS: List[Run] = []
+import numpy as np
+from tests.case import SCRIPTS, SECONDS, sampler
+from tests.simulated import cabinet
+from tests.simulated.cabinet import Cabinet, HealthyBus
 
 SAMPLES = 1_920_000
 
@@ -39,7 +32,7 @@ BUSES = {
     "gated": (True, "1"), "gated, flags": (True, "01111110"), "free": (False, "1"), "free, flags": (False, "01111110")
 }
 
-Change = Callable[["np.ndarray"], "np.ndarray"]
+Change = Callable[[np.ndarray], np.ndarray]
 
 
 class Setting(NamedTuple):
@@ -88,7 +81,7 @@ class Wiring(NamedTuple):
 
 
 @lru_cache(maxsize=None)
-def healthy(bus_name: str) -> "np.ndarray":
+def healthy(bus_name: str) -> np.ndarray:
     """A recording of a bus on which all commands are answered."""
     gated, fill = BUSES[bus_name]
 
@@ -105,7 +98,7 @@ def healthy(bus_name: str) -> "np.ndarray":
 def held(channel: str, level: int, begin: float = 0, end: float = 1) -> Change:
     """A wire that has a level from a part of the recording to another."""
 
-    def changed(samples: "np.ndarray") -> "np.ndarray":
+    def changed(samples: np.ndarray) -> np.ndarray:
         mask, kept = np.uint8(1 << NAMES.index(channel)), samples.copy()
         part = slice(round(begin * len(samples)), round(end * len(samples)))
         kept[part] = kept[part] | mask if level else kept[part] & ~mask
@@ -115,7 +108,7 @@ def held(channel: str, level: int, begin: float = 0, end: float = 1) -> Change:
 
 
 def both(*changes: Change) -> Change:
-    def changed(samples: "np.ndarray") -> "np.ndarray":
+    def changed(samples: np.ndarray) -> np.ndarray:
         for change in changes:
             samples = change(samples)
         return samples
@@ -135,7 +128,7 @@ def order(*channels: str) -> Change:
 
 
 def glitches(channel: str, begin: float = 0, end: float = 1) -> Change:
-    def changed(samples: "np.ndarray") -> "np.ndarray":
+    def changed(samples: np.ndarray) -> np.ndarray:
         changed, generator = samples.copy(), np.random.default_rng(3)
         low, high = (round(part * len(samples)) for part in (begin, end))
         changed[generator.integers(low, high, 60)] ^= np.uint8(1 << NAMES.index(channel))
@@ -147,7 +140,7 @@ def glitches(channel: str, begin: float = 0, end: float = 1) -> Change:
 def lost(*begins: float) -> Change:
     """Samples that the analyser lost at parts of the recording, a bit and a half at each."""
 
-    def changed(samples: "np.ndarray") -> "np.ndarray":
+    def changed(samples: np.ndarray) -> np.ndarray:
         count = round(1.5 * SAMPLES / cabinet.RATE)
         return np.delete(samples, [round(begin * len(samples)) + at for begin in begins for at in range(count)])
 
@@ -283,7 +276,7 @@ def wirings() -> List[Wiring]:
     return [*dead_wires(), *turned_wires(), *exchanged_wires(), *unsteady_wires()]
 
 
-Read = Tuple["np.ndarray", Setting, int]
+Read = Tuple[np.ndarray, Setting, int]
 
 
 def said_of(recordings: Sequence[Read]) -> List[Said]:
@@ -342,7 +335,6 @@ def cured(setting: Setting, said: Said) -> Setting:
 
 def wrong_wirings(_: Path) -> List[str]:
     """Each wiring of the table, on each bus: what is warned of, what is said to be wrong, and nothing else."""
-    needs_module("numpy")
     problems = []
     for bus in BUSES:
         rows = wirings()
@@ -359,7 +351,6 @@ def wrong_wirings(_: Path) -> List[str]:
 
 def cures(_: Path) -> List[str]:
     """Who does what is said, and again what is said then, comes to a recording of which nothing is said."""
-    needs_module("numpy")
     rows = [(row, bus) for bus in BUSES for row in wirings() if row.is_cured]
     left = [(f"{row.name}, {bus}", row.change(healthy(bus)), Setting()) for row, bus in rows]
     for _ in range(MOST_CURES):
@@ -373,9 +364,5 @@ def cures(_: Path) -> List[str]:
 
 def right_wiring(_: Path) -> List[str]:
     """Of the bus as it is nothing is said."""
-    needs_module("numpy")
     found = said_of([(healthy(bus), Setting(), SAMPLES) for bus in BUSES])
     return [f"{bus}: {said}" for bus, said in zip(BUSES, found) if said.warnings or WELL not in said.summary]
-
-
-TESTS = [right_wiring, wrong_wirings, cures]

@@ -2,8 +2,8 @@
 
 from typing import List, Tuple
 
-from .captures import CALL, CALL_AND_REPLY, FLAG, LAST_ORIGIN, REPLY, packed_pairs
-from .case import Case, fault
+from .captures import CALL, CALL_AND_REPLY, FLAG, LAST_ORIGIN, REPLY, packed_marks
+from .case import Case, faulty
 from .checks import report
 from .pairs import PACKED_CALL
 from .vectors import VECTORS, capture, cases
@@ -19,10 +19,7 @@ PACKED_BY_CALLS = ["list", "--arrivals", "--dict", DICTIONARY]
 
 def packed(marks: bytes) -> bytes:
     """As pairs are packed: the bit is the lower, and whether it is of the second line the higher."""
-    symbols = [b"01oi".index(mark) for mark in marks]
-    bits, seconds = ("".join(str(symbol >> place & 1) for symbol in symbols) for place in (0, 1))
-    pairs = packed_pairs(bits, seconds)
-    return pairs.replace(b"TS2BITS2", b"TS2BITS3", 1)
+    return packed_marks(b"TS2BITS3", [b"01oi".index(mark) for mark in marks])
 
 
 assert packed(b"01oi")[16:] == bytes([0b11100100])
@@ -44,9 +41,7 @@ RESTED = [
 # Of a broken reply; without a dictionary.
 RESTS = [
     Case(
-        f"a second line that rests {name}",
-        ["list", "--bits", "--arrivals", "--rest", rest],
-        BROKEN_OFF,
+        f"a second line that rests {name}", ["list", "--bits", "--arrivals", "--rest", rest], BROKEN_OFF,
         f"1 8 49 frame 108300fde5\n1 57 72 idle\n{lines}",
     )
     for name, rest, lines in RESTED
@@ -87,7 +82,7 @@ DRIFTS = [
 ]
 
 FAULTS = [
-    Case(f"fault: {name}", ["list", *words], stdin, stderr=fault(f"capture: {why}"), status=2)
+    faulty(f"fault: {name}", ["list", *words], f"capture: {why}", stdin)
     for name, words, stdin, why in [
         ("a mark of pairs", ["--bits", "--arrivals"], b"0o 2", "octet 3 is no bit"),
         ("a mark of arrivals in pairs", ["--bits", "--two"], b"01o", "octet 2 is no bit"),
@@ -105,12 +100,8 @@ FAULTS = [
 ]
 
 CHECKED = report(
-    "station 16 answered 1 missing 0 spoilt 0 late 0",
-    "last 1 8 49 108300fde5",
-    "last 2 68 109 108380f561",
-    frames=2,
-    idles=2,
-    answered=1,
+    "station 16 answered 1 missing 0 spoilt 0 late 0", "last 1 8 49 108300fde5", "last 2 68 109 108380f561", frames=2,
+    idles=2, answered=1,
 )
 
 ARRIVALS = [

@@ -3,7 +3,7 @@
 from typing import List
 
 from .captures import CALL, FLAG, LAST_ORIGIN
-from .case import Case, fault
+from .case import Case, faulty
 
 BITS = ["list", "--bits"]
 
@@ -51,13 +51,9 @@ LINES = [
 
 # The smaller block is full after some 850 bits, the larger after some 16300.
 BAD = [
-    Case(
-        f"a bad octet after {place} bits",
-        BITS,
-        (MANY[:place] + "2" + MANY[place:rest]).encode(),
-        lines_of(place),
-        stderr=fault(f"capture: octet {place} is no bit"),
-        status=2,
+    faulty(
+        f"a bad octet after {place} bits", BITS, f"capture: octet {place} is no bit",
+        (MANY[:place] + "2" + MANY[place:rest]).encode(), lines_of(place)
     )
     for place, rest in [
         *((place, 1000) for place in range(830, 960)), *((place, 18000) for place in range(16180, 16400, 20))
@@ -66,22 +62,16 @@ BAD = [
 
 ENDS = [
     Case(
-        f"a text of {length} bits",
-        BITS,
-        MANY[:length].encode(),
+        f"a text of {length} bits", BITS, MANY[:length].encode(),
         lines_of(length) + (f"{49 * (length // 49) + 8} {length} open\n" if length % 49 > 8 else ""),
     )
     for length in [49 * number + 40 for number in range(1, 40)]
 ]
 
 PLACES = [
-    Case(
-        f"{room} places for more bits",
-        [*BITS, f"--origin={LAST_ORIGIN - room}"],
-        cut(MANY, 80, "\n"),
-        lines_of(room, LAST_ORIGIN - room),
-        stderr=fault("capture: place limit"),
-        status=2,
+    faulty(
+        f"{room} places for more bits", [*BITS, f"--origin={LAST_ORIGIN - room}"], "capture: place limit",
+        cut(MANY, 80, "\n"), lines_of(room, LAST_ORIGIN - room)
     )
     for room in (1, 63, 64, 65, 500, 847, 848, 849, 1000, 16000, 16300)
 ]

@@ -4,12 +4,10 @@ from dataclasses import replace
 from typing import Iterator, List, Optional, Tuple
 
 from .captures import CALL, CALLS, FLAG, IDLE, PACKED, REPLY, STATES, marks, packed_pairs, text
-from .case import Case, Counted, fault
+from .case import Case, Counted, fault, faulty
 from .checks import MISSING_AND_SPOILT_REPORT, report
 from .lists import MISSING_AND_SPOILT, MISSING_AND_SPOILT_LINES, ONE_CALL_LINES
-from .pairs import (
-    AT_ONE_PLACE, AT_ONE_PLACE_LINES, CALL_AND_REPLY, CALL_AND_REPLY_LINES, CALL_AND_REPLY_REPORT, CALLED
-)
+from .pairs import AT_ONE_PLACE, AT_ONE_PLACE_LINES, CALL_AND_REPLY, CALL_AND_REPLY_LINES, CALL_AND_REPLY_REPORT, CALLED
 from .shows import STATE, STATE_TEXT
 from .words import HELP
 
@@ -30,9 +28,7 @@ LIST = Case("a call and its reply", BY_CALLS, ANSWERED, ANSWERED_LINES)
 LIST_PACKED = Case("a packed call", ["list", "--dict", CALLS], PACKED, ONE_CALL_LINES)
 
 LIST_TWO = Case(
-    "a call and its reply on two lines",
-    ["list", "--bits", "--two", "--dict", CALLS],
-    marks(*CALL_AND_REPLY),
+    "a call and its reply on two lines", ["list", "--bits", "--two", "--dict", CALLS], marks(*CALL_AND_REPLY),
     CALL_AND_REPLY_LINES,
 )
 
@@ -40,9 +36,7 @@ LIST_TWO = Case(
 DECIDED_TWO = [15, 57, 72, 114, 114]
 
 PACKED_TWO = Case(
-    "packed frames that end at one place",
-    ["list", "--two", "--dict", CALLS],
-    packed_pairs(*AT_ONE_PLACE),
+    "packed frames that end at one place", ["list", "--two", "--dict", CALLS], packed_pairs(*AT_ONE_PLACE),
     AT_ONE_PLACE_LINES,
 )
 
@@ -51,19 +45,14 @@ CHECK_TWO = Case(
 )
 
 CHECK = Case(
-    "a check",
-    ["check", "--bits", "--dict", CALLS],
-    MISSING_AND_SPOILT.replace(b" ", b""),
-    MISSING_AND_SPOILT_REPORT,
+    "a check", ["check", "--bits", "--dict", CALLS], MISSING_AND_SPOILT.replace(b" ", b""), MISSING_AND_SPOILT_REPORT,
     status=1,
 )
 
 THREE = b"frame 108300\nidle\r\nframe 1083fe"
 
 ENCODE = Case(
-    "three lines",
-    ["encode"],
-    THREE,
+    "three lines", ["encode"], THREE,
     "011111100000100011000001000000001011111011010011101111110\n"
     "111111111111111\n"
     "0111111000001000110000010111110110011000011011111001111110\n",
@@ -151,14 +140,7 @@ def lines_in_time() -> Iterator[Counted]:
 
 def bad_octet(name: str, command: str, place: int, stdout: str = "") -> Case:
     """As many ones as `place` says, and an octet that is no bit."""
-    return Case(
-        name,
-        [command, "--bits"],
-        b"1" * place + b"2",
-        stdout,
-        stderr=fault(f"capture: octet {place} is no bit"),
-        status=2,
-    )
+    return faulty(name, [command, "--bits"], f"capture: octet {place} is no bit", b"1" * place + b"2", stdout)
 
 
 IDLE_LINE = "0 15 idle\n"
@@ -174,25 +156,21 @@ IN_ORDER = [
     Counted(Case("an open piece", BY_CALLS, text(FLAG) + b"0", "8 9 open\n"), calls=["read 9", "read 0", "write 9"]),
     Counted(
         Case(
-            "two lines of the end",
-            BY_CALLS,
-            ANSWERED[:57] + b"0",
+            "two lines of the end", BY_CALLS, ANSWERED[:57] + b"0",
             f"{CALL_LINE}57 58 open\n8 49 pending station 16 type 0\n",
         ),
         calls=["read 58", f"write {len(CALL_LINE)}", "read 0", "write 42"],
     ),
     Counted(LIST, calls=["read 106", f"write {len(ANSWERED_LINES)}", "read 0"]),
     Counted(
-        named(LIST, "by two reads"),
-        piece=57,
+        named(LIST, "by two reads"), piece=57,
         calls=[
             "read 57", f"write {len(CALL_LINE)}", "read 49", f"write {len(ANSWERED_LINES) - len(CALL_LINE)}", "read 0"
         ],
     ),
     Counted(bad_octet("a fault after a line", "list", 15, IDLE_LINE), calls=["read 16", "write 10"]),
     Counted(
-        bad_octet("a fault after a line, by the next read", "list", 15, IDLE_LINE),
-        piece=15,
+        bad_octet("a fault after a line, by the next read", "list", 15, IDLE_LINE), piece=15,
         calls=["read 15", "write 10", "read 1"],
     ),
     Counted(bad_octet("a fault alone to list", "list", 0), calls=["read 1"]),
@@ -201,14 +179,12 @@ IN_ORDER = [
     Counted(Case("nothing to check", ["check", "--bits"], stdout=report()), calls=["read 0", f"write {len(report())}"]),
     Counted(LIST_TWO, calls=["read 114", f"write {len(CALL_AND_REPLY_LINES)}", "read 0"]),
     Counted(
-        named(LIST_TWO, "by two reads"),
-        piece=60,
+        named(LIST_TWO, "by two reads"), piece=60,
         calls=["read 60", "write 59", "read 54", f"write {len(CALL_AND_REPLY_LINES) - 59}", "read 0"],
     ),
     Counted(
         Case(
-            "three lines of the end of two",
-            ["list", "--bits", "--two", "--dict", CALLS],
+            "three lines of the end of two", ["list", "--bits", "--two", "--dict", CALLS],
             marks(CALLED + "0", FLAG + "0" * 50),
             "1 8 49 frame 108300fde5 station 16 type 0 call\n"
             "1 57 58 open\n2 8 58 open\n1 8 49 pending station 16 type 0\n",
@@ -217,20 +193,18 @@ IN_ORDER = [
     ),
     Counted(CHECK, calls=["read 138", "read 0", f"write {len(MISSING_AND_SPOILT_REPORT)}"]),
     Counted(
-        named(CHECK, "by two reads"),
-        piece=100,
+        named(CHECK, "by two reads"), piece=100,
         calls=["read 100", "read 38", "read 0", f"write {len(MISSING_AND_SPOILT_REPORT)}"],
     ),
     Counted(Case("nothing to encode", ["encode"]), calls=["read 0"]),
     Counted(Case("an empty line to encode", ["encode"], b"\n"), calls=["read 1", "read 0"]),
-    Counted(Case("a bad line", ["encode"], b"x\n", stderr=fault("line 1: bad line"), status=2), calls=["read 2"]),
+    Counted(faulty("a bad line", ["encode"], "line 1: bad line", b"x\n"), calls=["read 2"]),
     Counted(
         Case("two lines to encode", ["encode"], b"flag\nidle\n", "01111110\n111111111111111\n"),
         calls=["read 10", "write 9", "write 16", "read 0"],
     ),
     Counted(
-        Case("two lines to encode, by two reads", ["encode"], b"flag\nidle\n", "01111110\n111111111111111\n"),
-        piece=7,
+        Case("two lines to encode, by two reads", ["encode"], b"flag\nidle\n", "01111110\n111111111111111\n"), piece=7,
         calls=["read 7", "write 9", "read 3", "write 16", "read 0"],
     ),
     Counted(
@@ -238,15 +212,7 @@ IN_ORDER = [
         calls=["read 4", "read 0", "write 9"],
     ),
     Counted(
-        Case(
-            "a bad line after a good one",
-            ["encode"],
-            b"flag\nx\n",
-            "01111110\n",
-            stderr=fault("line 2: bad line"),
-            status=2,
-        ),
-        piece=5,
+        faulty("a bad line after a good one", ["encode"], "line 2: bad line", b"flag\nx\n", "01111110\n"), piece=5,
         calls=["read 5", "write 9", "read 2"],
     ),
 ]
@@ -274,14 +240,10 @@ def listing_of_calls(count: int) -> str:
 LONG_LISTING = Case("a thousand calls", BY_CALLS, capture_of_calls(1000), listing_of_calls(1000))
 
 LONG_REPORT = Case(
-    "a check of 1100 calls",
-    ["check", "--bits", "--dict", CALLS, "--depth", "1024"],
-    capture_of_calls(1100),
+    "a check of 1100 calls", ["check", "--bits", "--dict", CALLS, "--depth", "1024"], capture_of_calls(1100),
     report(
         "station 16 answered 0 missing 1099 spoilt 0 late 0",
-        *[f"last {first} {past} 108300fde5" for first, past in call_places(1100)[-1024:]],
-        frames=1100,
-        missing=1099,
+        *[f"last {first} {past} 108300fde5" for first, past in call_places(1100)[-1024:]], frames=1100, missing=1099,
     ),
     status=1,
 )
@@ -323,12 +285,9 @@ def cut_short() -> Iterator[Counted]:
         for command in ["list", "check"]:
             for count in range(len(capture)):
                 why = "short head" if count < 16 else "short body"
-                case = Case(
-                    f"{command} of {count} octets of {form}",
-                    [command, *options, "--dict", CALLS],
-                    capture[:count],
-                    stderr=fault(f"capture: {why}"),
-                    status=2,
+                case = faulty(
+                    f"{command} of {count} octets of {form}", [command, *options, "--dict", CALLS], f"capture: {why}",
+                    capture[:count]
                 )
                 yield Counted(case)
 
@@ -349,13 +308,7 @@ def bad_marks() -> Iterator[Counted]:
     """The place of a bad octet counts the octets of all reads."""
     for options, stdin in [(["--bits"], b"01111110 2"), (["--bits", "--two"], b"01232310 4")]:
         for command in ["list", "check"]:
-            case = Case(
-                f"a bad octet to {command}",
-                [command, *options],
-                stdin,
-                stderr=fault("capture: octet 9 is no bit"),
-                status=2,
-            )
+            case = faulty(f"a bad octet to {command}", [command, *options], "capture: octet 9 is no bit", stdin)
             for piece in [1, 4, 9, 10]:
                 yield Counted(named(case, f"by reads of {piece} {options[-1]}"), piece=piece)
 
@@ -364,13 +317,9 @@ def long_lines() -> Iterator[Counted]:
     """Lines of no good form after a good one: such a line is refused at the latest by its end."""
     for count in [600, 601, 602]:
         for end in [b"", b"\n", b"\r", b"\r\n"]:
-            case = Case(
-                f"a line of {count} octets that is none, ended by {end!r}",
-                ["encode"],
-                b"flag\n" + b"x" * count + end,
-                "01111110\n",
-                stderr=fault("line 2: bad line"),
-                status=2,
+            case = faulty(
+                f"a line of {count} octets that is none, ended by {end!r}", ["encode"], "line 2: bad line",
+                b"flag\n" + b"x" * count + end, "01111110\n"
             )
             for piece in [1, None]:
                 yield Counted(case, piece=piece)
@@ -388,12 +337,9 @@ def judged_early() -> Iterator[Counted]:
         (601, b"\r", True),
     ]:
         stdin = b"x" * count + end
-        case = Case(
-            f"a line of {count} octets and {end!r}, and a read that fails",
-            ["encode"],
-            stdin,
-            stderr=fault("line 1: bad line" if is_judged else "read failed"),
-            status=2,
+        case = faulty(
+            f"a line of {count} octets and {end!r}, and a read that fails", ["encode"],
+            "line 1: bad line" if is_judged else "read failed", stdin
         )
         yield Counted(case, piece=1, failing_read=len(stdin) + 1)
 

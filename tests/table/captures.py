@@ -4,6 +4,7 @@ The frames and their bits are worked examples of the format; their names and typ
 """
 
 import re
+from typing import Sequence
 
 FLAG = "01111110"
 
@@ -14,16 +15,10 @@ CALL = "00001000 11000001 00000000 101111101 10100111"
 REPLY = "00001000 11000001 00000001 10101111 100000110"
 # ff 83 09 5a 3b: to all stations, of type 9.
 NOTICE = "111110111 110000001 10010000 01011010 11011100"
-# ff 83 00 9b a6: to all stations, of type 0.
-CALL_TO_ALL = "111110111 110000001 00000000 11011001 01100101"
 # 10 83 fe 0c fb: of type 254; the second inserted 0 is the last bit.
 TYPE_254 = "00001000 11000001 011111011 00110000 110111110"
-# 10 13 cc b8: another control octet.
-CONTROL_19 = "00001000 11001000 00110011 00011101"
 # 10 83 45 2c: no information.
 UNTYPED = "00001000 11000001 10100010 00110100"
-# 10 83 01 74 f4: of type 1, with nothing after the type.
-TYPE_1 = "00001000 11000001 10000000 00101110 00101111"
 
 IDLE = "1" * 15
 
@@ -75,20 +70,6 @@ length = 2
 bits = [ { at = 9, name = "flash" }, { at = 0, name = "call1" }, { at = 7, name = "ped" } ]
 """
 
-# The last type that is a command, and its answer, of ten octets each.
-LAST_TYPES = """version = 2
-[[frame]]
-type = 127
-name = "ask"
-length = 10
-answered = true
-window = 16
-[[frame]]
-type = 255
-name = "tell"
-length = 10
-"""
-
 # A flag, the call and a flag, 57 bits.
 PACKED = bytes.fromhex("5453324249545331 3900000000000000 7e1083007dcbfd00")
 
@@ -131,11 +112,15 @@ def packed(bits: str) -> bytes:
     return b"TS2BITS1" + len(bits).to_bytes(8, "little") + body
 
 
+def packed_marks(magic: bytes, symbols: Sequence[int]) -> bytes:
+    """A packed capture of two lines, or of bits as they arrived: four marks in an octet, the first lowest."""
+    fours = (symbols[at : at + 4] for at in range(0, len(symbols), 4))
+    body = bytes(sum(symbol << 2 * at for at, symbol in enumerate(four)) for four in fours)
+    return magic + len(symbols).to_bytes(8, "little") + body
+
+
 def packed_pairs(first: str, second: str) -> bytes:
-    """A packed capture of two lines: the bits of a pair stand side by side, the first line's lower."""
-    octets = marks(first, second).decode()
-    pairs = "".join(f"{int(mark):02b}"[::-1] for mark in octets)
-    return b"TS2BITS2" + len(octets).to_bytes(8, "little") + packed(pairs)[16:]
+    return packed_marks(b"TS2BITS2", [int(mark) for mark in marks(first, second).decode()])
 
 
 assert fcs(b"123456789") == bytes.fromhex("6e90")

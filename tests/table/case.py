@@ -89,3 +89,8 @@ class Exchange:
 def fault(text: str) -> str:
     """What standard error has of a fault of the program."""
     return f"port1: {text}\n"
+
+
+def faulty(name: str, words: Sequence[Union[str, bytes]], why: str, stdin: bytes = b"", stdout: str = "") -> Case:
+    """A run with a fault, and what it writes before that."""
+    return Case(name, words, stdin, stdout, fault(why), 2)

@@ -5,7 +5,7 @@ from typing import List
 from .captures import (
     CALL, CALLS, FLAG, IDLE, LAST_ORIGIN, LONG, NOTICE, PACKED, REPLY, SHORT, WITHIN, WITHIN_1, sent, text
 )
-from .case import Case, fault
+from .case import Case, faulty
 from .lists import ALL_KINDS, IN_TIME, LATE, MISSING_AND_SPOILT
 
 BITS = ["check", "--bits"]
@@ -83,54 +83,28 @@ REPORTS = [
     Case("of nothing", BY_CALLS, stdout=report()),
     Case("of missing and spoilt", BY_CALLS, MISSING_AND_SPOILT, MISSING_AND_SPOILT_REPORT, status=1),
     Case(
-        "of all kinds",
-        BY_CALLS,
-        ALL_KINDS,
+        "of all kinds", BY_CALLS, ALL_KINDS,
         report(
-            "station 16 answered 1 missing 1 spoilt 1 late 0",
-            "last 8 49 108300fde5",
-            "last 57 98 108380f561",
-            "last 106 147 108300fde5",
-            "last 155 196 108300fde5",
-            "last 323 364 108380f561",
-            "last 372 413 108300fde5",
-            frames=6,
-            damaged=1,
-            overlong=1,
-            aborts=1,
-            idles=1,
-            strays=1,
-            answered=1,
-            missing=1,
-            spoilt=1,
+            "station 16 answered 1 missing 1 spoilt 1 late 0", "last 8 49 108300fde5", "last 57 98 108380f561",
+            "last 106 147 108300fde5", "last 155 196 108300fde5", "last 323 364 108380f561", "last 372 413 108300fde5",
+            frames=6, damaged=1, overlong=1, aborts=1, idles=1, strays=1, answered=1, missing=1, spoilt=1,
         ),
         status=1,
     ),
     Case(
-        "of two stations, by rising number",
-        [*BY_CALLS, "--depth", "1"],
-        TWO_STATIONS,
+        "of two stations, by rising number", [*BY_CALLS, "--depth", "1"], TWO_STATIONS,
         report(
-            "station 3 answered 1 missing 0 spoilt 0 late 0",
-            "station 200 answered 0 missing 1 spoilt 0 late 0",
-            "last 104 144 038380040b",
-            frames=3,
-            answered=1,
-            missing=1,
+            "station 3 answered 1 missing 0 spoilt 0 late 0", "station 200 answered 0 missing 1 spoilt 0 late 0",
+            "last 104 144 038380040b", frames=3, answered=1, missing=1,
         ),
         status=1,
     ),
     Case(
-        "without a dictionary",
-        BITS,
-        MISSING_AND_SPOILT,
-        report("last 8 49 108300fde5", "last 57 98 108300fde5", frames=2, damaged=1),
-        status=1,
+        "without a dictionary", BITS, MISSING_AND_SPOILT,
+        report("last 8 49 108300fde5", "last 57 98 108300fde5", frames=2, damaged=1), status=1,
     ),
     Case(
-        "of strays without a dictionary",
-        BITS,
-        text(FLAG, REPLY, FLAG),
+        "of strays without a dictionary", BITS, text(FLAG, REPLY, FLAG),
         report("last 8 49 108380f561", frames=1, strays=1),
     ),
     Case("of a packed capture", ["check", "--dict", CALLS], PACKED, ONE_CALL_REPORT),
@@ -144,16 +118,10 @@ def answer_in_window(name: str, dictionary: str, capture: bytes, first: int, is_
     late = int(is_late)
     answered = 1 - late
     return Case(
-        name,
-        ["check", "--bits", "--dict", dictionary],
-        capture,
+        name, ["check", "--bits", "--dict", dictionary], capture,
         report(
-            f"station 16 answered {answered} missing 0 spoilt 0 late {late}",
-            "last 8 49 108300fde5",
-            f"last {first} {first + 41} 108380f561",
-            frames=2,
-            answered=answered,
-            late=late,
+            f"station 16 answered {answered} missing 0 spoilt 0 late {late}", "last 8 49 108300fde5",
+            f"last {first} {first + 41} 108380f561", frames=2, answered=answered, late=late,
         ),
         status=late,
     )
@@ -166,16 +134,12 @@ STATUSES = [
     answer_in_window("an answer at the end of its window is in time", WITHIN, IN_TIME, first=65),
     answer_in_window("an answer that only version 2 calls late", WITHIN_1, LATE, first=73),
     Case(
-        "a missing answer alone is amiss",
-        [*BY_CALLS, "--depth=1"],
-        text(FLAG, CALL, FLAG, NOTICE, FLAG),
+        "a missing answer alone is amiss", [*BY_CALLS, "--depth=1"], text(FLAG, CALL, FLAG, NOTICE, FLAG),
         report("station 16 answered 0 missing 1 spoilt 0 late 0", "last 57 99 ff83095a3b", frames=2, missing=1),
         status=1,
     ),
     Case(
-        "a call that an abort spoils is amiss",
-        BY_CALLS,
-        text(FLAG, CALL, FLAG, "00001000", "1111111"),
+        "a call that an abort spoils is amiss", BY_CALLS, text(FLAG, CALL, FLAG, "00001000", "1111111"),
         report("station 16 answered 0 missing 0 spoilt 1 late 0", "last 8 49 108300fde5", frames=1, aborts=1, spoilt=1),
         status=1,
     ),
@@ -186,15 +150,11 @@ STATUSES = [
 
 DEPTHS = [
     Case(
-        "the last two frames",
-        [*BY_CALLS, "--depth", "2"],
-        THREE_FRAMES,
+        "the last two frames", [*BY_CALLS, "--depth", "2"], THREE_FRAMES,
         report(STATION_16_ANSWERED, "last 57 98 108380f561", "last 106 148 ff83095a3b", frames=3, answered=1),
     ),
     Case(
-        "the last frame",
-        [*BY_CALLS, "--depth=1"],
-        THREE_FRAMES,
+        "the last frame", [*BY_CALLS, "--depth=1"], THREE_FRAMES,
         report(STATION_16_ANSWERED, "last 106 148 ff83095a3b", frames=3, answered=1),
     ),
     Case("sixteen of sixteen frames", BITS, notices(16), report(*last_notices(0, 16), frames=16)),
@@ -207,48 +167,23 @@ DEPTHS = [
 
 # A fault leaves nothing of the report.
 FAULTS = [
-    Case(
-        "an octet that is no bit after a frame",
-        BY_CALLS,
-        text(FLAG, CALL.replace(" ", ""), FLAG, "x"),
-        stderr=fault("capture: octet 57 is no bit"),
-        status=2,
+    faulty(
+        "an octet that is no bit after a frame", BY_CALLS, "capture: octet 57 is no bit",
+        text(FLAG, CALL.replace(" ", ""), FLAG, "x")
     ),
-    Case(
-        "one bit past the last place",
-        [*BITS, f"--origin={LAST_ORIGIN - 57}"],
-        text(FLAG, CALL, FLAG, "0"),
-        stderr=fault("capture: place limit"),
-        status=2,
+    faulty(
+        "one bit past the last place", [*BITS, f"--origin={LAST_ORIGIN - 57}"], "capture: place limit",
+        text(FLAG, CALL, FLAG, "0")
     ),
-    Case("a packed capture of nothing", ["check"], stderr=fault("capture: short head"), status=2),
-    Case(
-        "a packed capture without its last octet", ["check"], PACKED[:-1], stderr=fault("capture: short body"), status=2
+    faulty("a packed capture of nothing", ["check"], "capture: short head"),
+    faulty("a packed capture without its last octet", ["check"], "capture: short body", PACKED[:-1]),
+    faulty("a packed capture with an octet after its end", ["check"], "capture: octets after the end", PACKED + b"\0"),
+    faulty(
+        "a packed capture with a spare bit that is 1", ["check"], "capture: spare bits are not 0",
+        PACKED[:-1] + b"\x80"
     ),
-    Case(
-        "a packed capture with an octet after its end",
-        ["check"],
-        PACKED + b"\0",
-        stderr=fault("capture: octets after the end"),
-        status=2,
-    ),
-    Case(
-        "a packed capture with a spare bit that is 1",
-        ["check"],
-        PACKED[:-1] + b"\x80",
-        stderr=fault("capture: spare bits are not 0"),
-        status=2,
-    ),
-    Case(
-        "text taken for a packed capture", ["check"], MISSING_AND_SPOILT, stderr=fault("capture: wrong magic"), status=2
-    ),
-    Case(
-        "a packed capture with too great a count",
-        ["check"],
-        PACKED[:8] + b"\xff" * 8,
-        stderr=fault("capture: too many bits"),
-        status=2,
-    ),
+    faulty("text taken for a packed capture", ["check"], "capture: wrong magic", MISSING_AND_SPOILT),
+    faulty("a packed capture with too great a count", ["check"], "capture: too many bits", PACKED[:8] + b"\xff" * 8),
 ]
 
 CHECKS = [*REPORTS, *STATUSES, *DEPTHS, *FAULTS]

@@ -185,12 +185,8 @@ SHOW = ["show", "10838101026e1f"]
 
 def refused(number: int, command: List[str], text: str, why: str) -> Case:
     return Case(
-        f"{number}: {why}, told by {command[0]}",
-        [*command, "--dict", text],
-        b"2",
-        stderr=fault(f"dictionary: {why}"),
-        status=2,
-        leaves_input=True,
+        f"{number}: {why}, told by {command[0]}", [*command, "--dict", text], b"2", stderr=fault(f"dictionary: {why}"),
+        status=2, leaves_input=True,
     )
 
 
@@ -212,9 +208,7 @@ TAKEN = [
     *[
         taken(
             f"a window of {window} in version {version}",
-            WINDOWED_CALLS.format(window).replace("version = 1", f"version = {version}"),
-            "108300fde5",
-            CALL_SHOWN,
+            WINDOWED_CALLS.format(window).replace("version = 1", f"version = {version}"), "108300fde5", CALL_SHOWN,
         )
         for version, windows in [("1", WINDOWS_OF_VERSION_1), ("2", WINDOWS_OF_VERSION_2)]
         for window in windows
@@ -224,16 +218,12 @@ TAKEN = [
     ),
     taken("version 2 without a window", CALLS.replace("version = 1", "version = 2"), "108300fde5", CALL_SHOWN),
     taken(
-        "keys of no meaning",
-        "other = 1\n" + CALLS.replace('"call"', '"call"\ncolour = "red"'),
-        "108300fde5",
+        "keys of no meaning", "other = 1\n" + CALLS.replace('"call"', '"call"\ncolour = "red"'), "108300fde5",
         CALL_SHOWN,
     ),
     taken(
-        "a name of forty octets and a bit of the last place",
-        document({**COMMAND, "name": f"'{'x' * 40}'"}, ANSWER),
-        "10830100800000",
-        f"frame 10830100800000 bad\nstation 16 type 1 {'x' * 40}\n15 a\n",
+        "a name of forty octets and a bit of the last place", document({**COMMAND, "name": f"'{'x' * 40}'"}, ANSWER),
+        "10830100800000", f"frame 10830100800000 bad\nstation 16 type 1 {'x' * 40}\n15 a\n",
     ),
 ]
 

@@ -4,7 +4,7 @@ from dataclasses import dataclass
 from typing import Iterator, List, Optional
 
 from .captures import CALLS, LAST_ORIGIN, PACKED, packed_pairs
-from .case import Case, fault
+from .case import Case, faulty
 from .pairs import CALLED, REPLIED
 
 
@@ -23,17 +23,11 @@ class Form:
 
 FORMS = [
     Form(
-        name="a packed capture",
-        capture=PACKED,
-        words=[],
-        places=8,
+        name="a packed capture", capture=PACKED, words=[], places=8,
         lines="8 49 frame 108300fde5 station 16 type 0 call\n",
     ),
     Form(
-        name="a packed capture of two lines",
-        capture=packed_pairs(CALLED, REPLIED),
-        words=["--two"],
-        places=4,
+        name="a packed capture of two lines", capture=packed_pairs(CALLED, REPLIED), words=["--two"], places=4,
         lines="""\
 1 8 49 frame 108300fde5 station 16 type 0 call
 2 8 49 frame 108380f561 station 16 type 128 reply
@@ -72,13 +66,10 @@ def flips(form: Form) -> Iterator[Case]:
         # A body that proves too short was taken whole; any other fault stands before the last flag.
         stdout = form.lines if why == "short body" else ""
         for command in ["list", "check"]:
-            yield Case(
+            yield faulty(
                 f"{command}: bit {place % 8} of octet {place // 8} of {form.name} flipped",
-                [command, *form.words, "--dict", CALLS],
-                bytes(octets),
-                stdout if command == "list" else "",
-                stderr=fault(f"capture: {why}"),
-                status=2,
+                [command, *form.words, "--dict", CALLS], f"capture: {why}", bytes(octets),
+                stdout if command == "list" else ""
             )
 
 

@@ -1,7 +1,7 @@
 """Rows of `list`, and of the program without words."""
 
 from .captures import CALL, CALLS, FLAG, IDLE, LAST_ORIGIN, PACKED, WITHIN, packed, text
-from .case import Case, fault
+from .case import Case, faulty
 from .vectors import capture, cases
 
 BITS = ["list", "--bits"]
@@ -46,27 +46,18 @@ def of_kind(lines: str, kind: str) -> str:
 
 PLAIN = [
     Case(
-        "no words",
-        stdin=b"01111110 00001000110000010000000010111110110100111 01111110\n",
+        "no words", stdin=b"01111110 00001000110000010000000010111110110100111 01111110\n",
         stdout="8 49 frame 108300fde5\n",
     ),
     Case("no words and no input"),
     Case("no words, and heads", stdin=ALL_HEADS, stdout=ALL_HEADS_PLAIN),
-    Case(
-        "no words, and a fault",
-        stdin=text(IDLE, "2"),
-        stdout="0 15 idle\n",
-        stderr=fault("capture: octet 15 is no bit"),
-        status=2,
-    ),
+    faulty("no words, and a fault", (), "capture: octet 15 is no bit", text(IDLE, "2"), "0 15 idle\n"),
 ]
 
 ORIGINS = [
     Case("from place 0", [*BY_CALLS, "--origin", "0"], ONE_CALL, ONE_CALL_LINES),
     Case(
-        "from place 100",
-        [*BY_CALLS, "--origin", "100"],
-        ONE_CALL,
+        "from place 100", [*BY_CALLS, "--origin", "100"], ONE_CALL,
         """\
 108 149 frame 108300fde5 station 16 type 0 call
 108 149 pending station 16 type 0
@@ -74,35 +65,17 @@ ORIGINS = [
     ),
     Case("a packed capture from place 100", ["list", "--origin=100"], PACKED, "108 149 frame 108300fde5\n"),
     Case(
-        "to the last place",
-        [*BITS, f"--origin={LAST_ORIGIN - 57}"],
-        ONE_CALL,
+        "to the last place", [*BITS, f"--origin={LAST_ORIGIN - 57}"], ONE_CALL,
         "1152921504606846927 1152921504606846968 frame 108300fde5\n",
     ),
-    Case(
-        "one bit past the last place",
-        [*BY_CALLS, f"--origin={LAST_ORIGIN - 57}"],
-        ONE_CALL + b"0",
-        "1152921504606846927 1152921504606846968 frame 108300fde5 station 16 type 0 call\n",
-        stderr=fault("capture: place limit"),
-        status=2,
+    faulty(
+        "one bit past the last place", [*BY_CALLS, f"--origin={LAST_ORIGIN - 57}"], "capture: place limit",
+        ONE_CALL + b"0", "1152921504606846927 1152921504606846968 frame 108300fde5 station 16 type 0 call\n"
     ),
     Case("three bits at three places", [*BITS, "--origin", str(LAST_ORIGIN - 3)], b"000"),
-    Case(
-        "four bits at three places",
-        [*BITS, "--origin", str(LAST_ORIGIN - 3)],
-        b"0000",
-        stderr=fault("capture: place limit"),
-        status=2,
-    ),
+    faulty("four bits at three places", [*BITS, "--origin", str(LAST_ORIGIN - 3)], "capture: place limit", b"0000"),
     Case("no bits at no place", [*BITS, "--origin", str(LAST_ORIGIN)]),
-    Case(
-        "one bit at no place",
-        ["list", "--origin", str(LAST_ORIGIN)],
-        packed("1"),
-        stderr=fault("capture: place limit"),
-        status=2,
-    ),
+    faulty("one bit at no place", ["list", "--origin", str(LAST_ORIGIN)], "capture: place limit", packed("1")),
 ]
 
 FILTERS = [
@@ -124,27 +97,19 @@ FILTERS = [
     # With another control octet there is no type.
     Case("of type 204", [*BY_CALLS, "--type", "204"], ALL_HEADS),
     Case(
-        "of station 16 and type 0",
-        [*BY_CALLS, "--station", "16", "--type", "0"],
-        ALL_HEADS,
+        "of station 16 and type 0", [*BY_CALLS, "--station", "16", "--type", "0"], ALL_HEADS,
         chosen(ALL_HEADS_LINES, 1, 3),
     ),
     Case(
-        "of station 255 and type 0",
-        [*BY_CALLS, "--type", "0", "--station", "255"],
-        ALL_HEADS,
+        "of station 255 and type 0", [*BY_CALLS, "--type", "0", "--station", "255"], ALL_HEADS,
         chosen(ALL_HEADS_LINES, 4),
     ),
     Case(
-        "of station 16, type 254 and kind stray",
-        [*BY_CALLS, "--kind", "stray", "--station", "16", "--type", "254"],
-        ALL_HEADS,
-        chosen(ALL_HEADS_LINES, 8),
+        "of station 16, type 254 and kind stray", [*BY_CALLS, "--kind", "stray", "--station", "16", "--type", "254"],
+        ALL_HEADS, chosen(ALL_HEADS_LINES, 8),
     ),
     Case(
-        "of station 16 and kind frame",
-        [*BY_CALLS, "--station", "16", "--kind", "frame"],
-        MISSING_AND_SPOILT,
+        "of station 16 and kind frame", [*BY_CALLS, "--station", "16", "--kind", "frame"], MISSING_AND_SPOILT,
         chosen(MISSING_AND_SPOILT_LINES, 1, 2),
     ),
     Case("of kind late", ["list", "--bits", "--dict", WITHIN, "--kind", "late"], LATE, "8 49 late station 16 type 0\n"),
@@ -152,35 +117,26 @@ FILTERS = [
     Case("of kind missing", [*BY_CALLS, "--kind", "missing"], MISSING_AND_SPOILT, "8 49 missing station 16 type 0\n"),
     Case("of type 128, where there is none", [*BY_CALLS, "--type", "128"], MISSING_AND_SPOILT),
     Case(
-        "lines without a station",
-        [*BY_CALLS, "--station", "16"],
-        ALL_KINDS,
+        "lines without a station", [*BY_CALLS, "--station", "16"], ALL_KINDS,
         chosen(ALL_KINDS_LINES, 1, 2, 3, 4, 5, 6, 8, 12, 13, 14, 16),
     ),
     Case("lines without a type", [*BY_CALLS, "--type", "128"], ALL_KINDS, chosen(ALL_KINDS_LINES, 2, 12, 13)),
     Case("of station 255 without a dictionary", [*BITS, "--station", "255"], ALL_HEADS, chosen(ALL_HEADS_PLAIN, 2, 3)),
     Case("of type 0 without a dictionary", [*BITS, "--type", "0"], ALL_HEADS, chosen(ALL_HEADS_PLAIN, 1, 3)),
     Case("of kind stray without a dictionary", [*BITS, "--kind", "stray"], ALL_HEADS),
-    Case(
-        "a fault after lines that are left out",
-        [*BITS, "--kind", "abort"],
-        text(IDLE, "2"),
-        stderr=fault("capture: octet 15 is no bit"),
-        status=2,
+    faulty(
+        "a fault after lines that are left out", [*BITS, "--kind", "abort"], "capture: octet 15 is no bit",
+        text(IDLE, "2")
     ),
 ]
 
 TEXT_FAULTS = [
-    Case("an octet that is no bit", BY_CALLS, b"01111110 2", stderr=fault("capture: octet 9 is no bit"), status=2),
-    Case(
-        "an octet that is no bit after a line",
-        BY_CALLS,
-        text(FLAG, CALL.replace(" ", ""), FLAG, "0x"),
-        CALL_LINE,
-        stderr=fault("capture: octet 58 is no bit"),
-        status=2,
+    faulty("an octet that is no bit", BY_CALLS, "capture: octet 9 is no bit", b"01111110 2"),
+    faulty(
+        "an octet that is no bit after a line", BY_CALLS, "capture: octet 58 is no bit",
+        text(FLAG, CALL.replace(" ", ""), FLAG, "0x"), CALL_LINE
     ),
-    Case("a packed capture taken for text", BITS, PACKED, stderr=fault("capture: octet 0 is no bit"), status=2),
+    faulty("a packed capture taken for text", BITS, "capture: octet 0 is no bit", PACKED),
 ]
 
 PACKED_CAPTURES = [
@@ -188,52 +144,26 @@ PACKED_CAPTURES = [
     Case("packed, without a dictionary", ["list"], PACKED, "8 49 frame 108300fde5\n"),
     Case("packed, all kinds", ["list", "--dict", CALLS], packed(ALL_KINDS.decode().replace(" ", "")), ALL_KINDS_LINES),
     Case("packed, no bits", ["list"], packed("")),
-    Case(
-        "packed, without its last octet",
-        ["list", "--dict", CALLS],
-        PACKED[:-1],
-        stderr=fault("capture: short body"),
-        status=2,
+    faulty("packed, without its last octet", ["list", "--dict", CALLS], "capture: short body", PACKED[:-1]),
+    faulty(
+        "packed, with a spare bit that is 1", ["list", "--dict", CALLS], "capture: spare bits are not 0",
+        PACKED[:-1] + b"\x02"
     ),
-    Case(
-        "packed, with a spare bit that is 1",
-        ["list", "--dict", CALLS],
-        PACKED[:-1] + b"\x02",
-        stderr=fault("capture: spare bits are not 0"),
-        status=2,
+    faulty(
+        "packed, with an octet after its end", ["list", "--dict", CALLS], "capture: octets after the end",
+        PACKED + b"\0", CALL_LINE
     ),
-    Case(
-        "packed, with an octet after its end",
-        ["list", "--dict", CALLS],
-        PACKED + b"\0",
-        CALL_LINE,
-        stderr=fault("capture: octets after the end"),
-        status=2,
+    faulty("packed, with another first octet", ["list", "--dict", CALLS], "capture: wrong magic", b"\x55" + PACKED[1:]),
+    faulty("text taken for a packed capture", ["list"], "capture: wrong magic", ONE_CALL),
+    faulty("packed, ten octets", ["list", "--dict", CALLS], "capture: short head", PACKED[:10]),
+    faulty("packed, nothing", ["list"], "capture: short head"),
+    faulty(
+        "packed, with too great a count", ["list", "--dict", CALLS], "capture: too many bits",
+        PACKED[:8] + (LAST_ORIGIN + 1).to_bytes(8, "little")
     ),
-    Case(
-        "packed, with another first octet",
-        ["list", "--dict", CALLS],
-        b"\x55" + PACKED[1:],
-        stderr=fault("capture: wrong magic"),
-        status=2,
-    ),
-    Case("text taken for a packed capture", ["list"], ONE_CALL, stderr=fault("capture: wrong magic"), status=2),
-    Case("packed, ten octets", ["list", "--dict", CALLS], PACKED[:10], stderr=fault("capture: short head"), status=2),
-    Case("packed, nothing", ["list"], stderr=fault("capture: short head"), status=2),
-    Case(
-        "packed, with too great a count",
-        ["list", "--dict", CALLS],
-        PACKED[:8] + (LAST_ORIGIN + 1).to_bytes(8, "little"),
-        stderr=fault("capture: too many bits"),
-        status=2,
-    ),
-    Case(
-        "packed, with the greatest count",
-        ["list", "--dict", CALLS],
-        PACKED[:8] + LAST_ORIGIN.to_bytes(8, "little") + PACKED[16:],
-        CALL_LINE,
-        stderr=fault("capture: short body"),
-        status=2,
+    faulty(
+        "packed, with the greatest count", ["list", "--dict", CALLS], "capture: short body",
+        PACKED[:8] + LAST_ORIGIN.to_bytes(8, "little") + PACKED[16:], CALL_LINE
     ),
 ]
 

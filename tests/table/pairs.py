@@ -8,7 +8,7 @@ from typing import Tuple
 from .captures import (
     CALL, CALLS, FLAG, IDLE, LAST_ORIGIN, LONG, NOTICE, PACKED, REPLY, SHORT, WITHIN, marks, packed_pairs
 )
-from .case import Case, fault
+from .case import Case, faulty
 from .checks import report
 from .lists import KINDS, chosen
 from .vectors import capture, cases
@@ -39,12 +39,8 @@ CALL_AND_REPLY = (CALLED + REST, REST + REPLIED)
 _, CALL_AND_REPLY_LINES = capture("two lines", "a call and its reply")
 
 CALL_AND_REPLY_REPORT = report(
-    "station 16 answered 1 missing 0 spoilt 0 late 0",
-    "last 1 8 49 108300fde5",
-    "last 2 65 106 108380f561",
-    frames=2,
-    idles=2,
-    answered=1,
+    "station 16 answered 1 missing 0 spoilt 0 late 0", "last 1 8 49 108300fde5", "last 2 65 106 108380f561", frames=2,
+    idles=2, answered=1,
 )
 
 # Both frames end at one place.
@@ -87,15 +83,11 @@ AT_THE_LAST_PLACE = """\
 
 ORIGINS = [
     Case(
-        "from place 100",
-        [*BY_CALLS, "--origin", "100"],
-        marks(*AT_ONE_PLACE),
+        "from place 100", [*BY_CALLS, "--origin", "100"], marks(*AT_ONE_PLACE),
         AT_ONE_PLACE_LINES.replace(" 8 49 ", " 108 149 "),
     ),
     Case(
-        "pieces not closed, from place 100",
-        [*BY_CALLS, "--origin=100"],
-        marks(CALLED + "0", "1" * 50 + FLAG),
+        "pieces not closed, from place 100", [*BY_CALLS, "--origin=100"], marks(CALLED + "0", "1" * 50 + FLAG),
         """\
 2 100 115 idle
 1 108 149 frame 108300fde5 station 16 type 0 call
@@ -104,37 +96,20 @@ ORIGINS = [
 """,
     ),
     Case("to the last place", [*TWO, f"--origin={LAST_ORIGIN - 57}"], marks(*AT_ONE_PLACE), AT_THE_LAST_PLACE),
-    Case(
-        "one pair past the last place",
-        [*TWO, f"--origin={LAST_ORIGIN - 57}"],
-        marks(*AT_ONE_PLACE) + b"0",
-        AT_THE_LAST_PLACE,
-        stderr=fault("capture: place limit"),
-        status=2,
+    faulty(
+        "one pair past the last place", [*TWO, f"--origin={LAST_ORIGIN - 57}"], "capture: place limit",
+        marks(*AT_ONE_PLACE) + b"0", AT_THE_LAST_PLACE
     ),
-    Case(
-        "packed, one pair past the last place",
-        ["list", "--two", f"--origin={LAST_ORIGIN - 57}"],
-        packed_pairs(CALLED + "0", REPLIED + "0"),
-        AT_THE_LAST_PLACE,
-        stderr=fault("capture: place limit"),
-        status=2,
+    faulty(
+        "packed, one pair past the last place", ["list", "--two", f"--origin={LAST_ORIGIN - 57}"],
+        "capture: place limit", packed_pairs(CALLED + "0", REPLIED + "0"), AT_THE_LAST_PLACE
     ),
     Case("three pairs at three places", [*TWO, "--origin", str(LAST_ORIGIN - 3)], b"303"),
-    Case(
-        "four pairs at three places",
-        [*TWO, "--origin", str(LAST_ORIGIN - 3)],
-        b"3030",
-        stderr=fault("capture: place limit"),
-        status=2,
-    ),
+    faulty("four pairs at three places", [*TWO, "--origin", str(LAST_ORIGIN - 3)], "capture: place limit", b"3030"),
     Case("no pairs at no place", [*TWO, "--origin", str(LAST_ORIGIN)]),
-    Case(
-        "one pair at no place",
-        ["list", "--two", "--origin", str(LAST_ORIGIN)],
-        packed_pairs("1", "1"),
-        stderr=fault("capture: place limit"),
-        status=2,
+    faulty(
+        "one pair at no place", ["list", "--two", "--origin", str(LAST_ORIGIN)], "capture: place limit",
+        packed_pairs("1", "1")
     ),
 ]
 
@@ -156,55 +131,34 @@ FILTERS = [
     filtered("of type 128 and kind stray", ["--type", "128", "--kind", "stray"], 12),
     filtered("of station 16, type 0 and kind frame", ["--kind=frame", "--station=16", "--type=0"], 2, 7, 14, 20),
     Case(
-        "of kind late",
-        [*TWO, "--dict", WITHIN.replace("16", "15"), "--kind", "late"],
-        marks(*CALL_AND_REPLY),
+        "of kind late", [*TWO, "--dict", WITHIN.replace("16", "15"), "--kind", "late"], marks(*CALL_AND_REPLY),
         "1 8 49 late station 16 type 0\n",
     ),
     Case(
-        "of kind stray, where an answer is late",
-        [*TWO, "--dict", WITHIN.replace("16", "15"), "--kind", "stray"],
+        "of kind stray, where an answer is late", [*TWO, "--dict", WITHIN.replace("16", "15"), "--kind", "stray"],
         marks(*CALL_AND_REPLY),
     ),
-    Case(
-        "a fault after lines that are left out",
-        [*TWO, "--kind", "abort"],
-        marks(IDLE, IDLE) + b"4",
-        stderr=fault("capture: octet 15 is no bit"),
-        status=2,
+    faulty(
+        "a fault after lines that are left out", [*TWO, "--kind", "abort"], "capture: octet 15 is no bit",
+        marks(IDLE, IDLE) + b"4"
     ),
 ]
 
 TEXT_FAULTS = [
-    Case("an octet that is no mark", BY_CALLS, b"4", stderr=fault("capture: octet 0 is no bit"), status=2),
+    faulty("an octet that is no mark", BY_CALLS, "capture: octet 0 is no bit", b"4"),
     *[
-        Case(
-            f"{octet!r} after marks and spaces",
-            BY_CALLS,
-            b"0123 \t" + octet,
-            stderr=fault("capture: octet 6 is no bit"),
-            status=2,
-        )
+        faulty(f"{octet!r} after marks and spaces", BY_CALLS, "capture: octet 6 is no bit", b"0123 \t" + octet)
         for octet in [b"4", b"9", b"/", b"x", b",", b"\v", b"\0", b"\xb2"]
     ],
-    Case(
-        "an octet that is no mark, after a line",
-        BY_CALLS,
-        marks(*CALL_AND_REPLY) + b" 4",
-        CALL_AND_REPLY_LINES,
-        stderr=fault("capture: octet 115 is no bit"),
-        status=2,
+    faulty(
+        "an octet that is no mark, after a line", BY_CALLS, "capture: octet 115 is no bit",
+        marks(*CALL_AND_REPLY) + b" 4", CALL_AND_REPLY_LINES
     ),
-    Case(
-        "a packed capture taken for text", BY_CALLS, PACKED_CALL, stderr=fault("capture: octet 0 is no bit"), status=2
-    ),
+    faulty("a packed capture taken for text", BY_CALLS, "capture: octet 0 is no bit", PACKED_CALL),
     *[
-        Case(
-            f"marks of two lines taken for one: {' '.join(words) or 'no words'}",
-            words,
-            b"10 2",
-            stderr=fault("capture: octet 3 is no bit"),
-            status=2,
+        faulty(
+            f"marks of two lines taken for one: {' '.join(words) or 'no words'}", words, "capture: octet 3 is no bit",
+            b"10 2"
         )
         for words in [[], ["list", "--bits"], ["check", "--bits"]]
     ],
@@ -221,184 +175,105 @@ PACKED_CAPTURES = [
     Case("packed, all kinds", PACKED_BY_CALLS, packed_pairs(*ALL_KINDS), ALL_KINDS_LINES),
     Case("packed, no pairs", ["list", "--two"], packed_pairs("", "")),
     *[
-        Case(
-            f"packed, {name} of the fourth pair of the last octet is 1",
-            ["list", "--two"],
-            PACKED_IDLE[:-1] + last,
-            stderr=fault("capture: spare bits are not 0"),
-            status=2,
+        faulty(
+            f"packed, {name} of the fourth pair of the last octet is 1", ["list", "--two"],
+            "capture: spare bits are not 0", PACKED_IDLE[:-1] + last
         )
         for name, last in [("the second bit", b"\xbf"), ("the first bit", b"\x7f")]
     ],
-    Case("packed, of two lines taken for one", ["list"], PACKED_IDLE, stderr=fault("capture: wrong magic"), status=2),
-    Case(
-        "packed, of one line taken for two", ["list", "--two"], PACKED, stderr=fault("capture: wrong magic"), status=2
+    faulty("packed, of two lines taken for one", ["list"], "capture: wrong magic", PACKED_IDLE),
+    faulty("packed, of one line taken for two", ["list", "--two"], "capture: wrong magic", PACKED),
+    faulty(
+        "packed, without its last octet", PACKED_BY_CALLS, "capture: short body", PACKED_CALL[:-1],
+        chosen(ONE_CALL_LINES, 1)
     ),
-    Case(
-        "packed, without its last octet",
-        PACKED_BY_CALLS,
-        PACKED_CALL[:-1],
-        chosen(ONE_CALL_LINES, 1),
-        stderr=fault("capture: short body"),
-        status=2,
+    faulty(
+        "packed, with an octet after its end", PACKED_BY_CALLS, "capture: octets after the end", PACKED_CALL + b"\0",
+        CALL_LINES
     ),
-    Case(
-        "packed, with an octet after its end",
-        PACKED_BY_CALLS,
-        PACKED_CALL + b"\0",
-        CALL_LINES,
-        stderr=fault("capture: octets after the end"),
-        status=2,
+    faulty(
+        "packed, a number of pairs as if they were bits", PACKED_BY_CALLS, "capture: short body",
+        PACKED_CALL[:8] + (2 * 57).to_bytes(8, "little") + PACKED_CALL[16:], CALL_LINES
     ),
-    Case(
-        "packed, a number of pairs as if they were bits",
-        PACKED_BY_CALLS,
-        PACKED_CALL[:8] + (2 * 57).to_bytes(8, "little") + PACKED_CALL[16:],
-        CALL_LINES,
-        stderr=fault("capture: short body"),
-        status=2,
+    faulty(
+        "packed, with too great a count", PACKED_BY_CALLS, "capture: too many bits",
+        PACKED_CALL[:8] + (LAST_ORIGIN + 1).to_bytes(8, "little")
     ),
-    Case(
-        "packed, with too great a count",
-        PACKED_BY_CALLS,
-        PACKED_CALL[:8] + (LAST_ORIGIN + 1).to_bytes(8, "little"),
-        stderr=fault("capture: too many bits"),
-        status=2,
+    faulty(
+        "packed, with the greatest count", PACKED_BY_CALLS, "capture: short body",
+        PACKED_CALL[:8] + LAST_ORIGIN.to_bytes(8, "little") + PACKED_CALL[16:], CALL_LINES
     ),
-    Case(
-        "packed, with the greatest count",
-        PACKED_BY_CALLS,
-        PACKED_CALL[:8] + LAST_ORIGIN.to_bytes(8, "little") + PACKED_CALL[16:],
-        CALL_LINES,
-        stderr=fault("capture: short body"),
-        status=2,
-    ),
-    Case(
-        "text taken for a packed capture",
-        ["list", "--two"],
-        marks(*ONE_CALL),
-        stderr=fault("capture: wrong magic"),
-        status=2,
-    ),
-    Case("packed, nothing", ["list", "--two"], stderr=fault("capture: short head"), status=2),
+    faulty("text taken for a packed capture", ["list", "--two"], "capture: wrong magic", marks(*ONE_CALL)),
+    faulty("packed, nothing", ["list", "--two"], "capture: short head"),
 ]
 
 CHECKED = [
     Case("check: nothing", CHECK_BY_CALLS, stdout=report()),
     Case("check: a call and its reply", CHECK_BY_CALLS, marks(*CALL_AND_REPLY), CALL_AND_REPLY_REPORT),
     Case(
-        "check: packed, a call and its reply",
-        ["check", "--two", "--dict", CALLS],
-        packed_pairs(*CALL_AND_REPLY),
+        "check: packed, a call and its reply", ["check", "--two", "--dict", CALLS], packed_pairs(*CALL_AND_REPLY),
         CALL_AND_REPLY_REPORT,
     ),
     Case(
-        "check: a reply on the first line",
-        CHECK_BY_CALLS,
-        marks(*ANSWER_ON_FIRST),
+        "check: a reply on the first line", CHECK_BY_CALLS, marks(*ANSWER_ON_FIRST),
         report(
-            "station 16 answered 0 missing 1 spoilt 0 late 0",
-            "last 1 8 49 108300fde5",
-            "last 1 57 98 108380f561",
-            frames=2,
-            idles=1,
-            strays=1,
-            missing=1,
+            "station 16 answered 0 missing 1 spoilt 0 late 0", "last 1 8 49 108300fde5", "last 1 57 98 108380f561",
+            frames=2, idles=1, strays=1, missing=1,
         ),
         status=1,
     ),
     Case(
-        "check: frames that end at one place, of which the last is kept",
-        [*CHECK_BY_CALLS, "--depth", "1"],
+        "check: frames that end at one place, of which the last is kept", [*CHECK_BY_CALLS, "--depth", "1"],
         marks(*AT_ONE_PLACE),
         report("station 16 answered 1 missing 0 spoilt 0 late 0", "last 2 8 49 108380f561", frames=2, answered=1),
     ),
     Case(
-        "check: all kinds",
-        CHECK_BY_CALLS,
-        marks(*ALL_KINDS),
+        "check: all kinds", CHECK_BY_CALLS, marks(*ALL_KINDS),
         report(
-            "station 16 answered 1 missing 1 spoilt 1 late 0",
-            "last 1 8 49 108300fde5",
-            "last 2 65 106 108380f561",
-            "last 1 122 163 108300fde5",
-            "last 1 179 221 ff83095a3b",
-            "last 2 237 278 108380f561",
-            "last 1 294 335 108300fde5",
-            "last 1 391 432 108300fde5",
-            frames=7,
-            damaged=1,
-            overlong=1,
-            aborts=1,
-            idles=6,
-            strays=1,
-            answered=1,
-            missing=1,
-            spoilt=1,
+            "station 16 answered 1 missing 1 spoilt 1 late 0", "last 1 8 49 108300fde5", "last 2 65 106 108380f561",
+            "last 1 122 163 108300fde5", "last 1 179 221 ff83095a3b", "last 2 237 278 108380f561",
+            "last 1 294 335 108300fde5", "last 1 391 432 108300fde5", frames=7, damaged=1, overlong=1, aborts=1,
+            idles=6, strays=1, answered=1, missing=1, spoilt=1,
         ),
         status=1,
     ),
     Case(
-        "check: the last three frames of both lines",
-        [*CHECK_BY_CALLS, "--depth=3", "--origin=1000"],
+        "check: the last three frames of both lines", [*CHECK_BY_CALLS, "--depth=3", "--origin=1000"],
         marks(*(line[:343] for line in ALL_KINDS)),
         report(
-            "station 16 answered 1 missing 1 spoilt 0 late 0",
-            "last 1 1179 1221 ff83095a3b",
-            "last 2 1237 1278 108380f561",
-            "last 1 1294 1335 108300fde5",
-            frames=6,
-            overlong=1,
-            idles=4,
-            strays=1,
-            answered=1,
-            missing=1,
+            "station 16 answered 1 missing 1 spoilt 0 late 0", "last 1 1179 1221 ff83095a3b",
+            "last 2 1237 1278 108380f561", "last 1 1294 1335 108300fde5", frames=6, overlong=1, idles=4, strays=1,
+            answered=1, missing=1,
         ),
         status=1,
     ),
     Case(
-        "check: a late answer alone is amiss",
-        ["check", "--bits", "--two", "--dict", WITHIN.replace("16", "15")],
+        "check: a late answer alone is amiss", ["check", "--bits", "--two", "--dict", WITHIN.replace("16", "15")],
         marks(*CALL_AND_REPLY),
         report(
-            "station 16 answered 0 missing 0 spoilt 0 late 1",
-            "last 1 8 49 108300fde5",
-            "last 2 65 106 108380f561",
-            frames=2,
-            idles=2,
-            late=1,
+            "station 16 answered 0 missing 0 spoilt 0 late 1", "last 1 8 49 108300fde5", "last 2 65 106 108380f561",
+            frames=2, idles=2, late=1,
         ),
         status=1,
     ),
     Case(
-        "check: damage on the second line alone is amiss",
-        CHECK_BY_CALLS,
-        marks("1" * 14 + "0" * 26, FLAG + SHORT + FLAG),
-        report(damaged=1),
-        status=1,
+        "check: damage on the second line alone is amiss", CHECK_BY_CALLS,
+        marks("1" * 14 + "0" * 26, FLAG + SHORT + FLAG), report(damaged=1), status=1,
     ),
     Case(
-        "check: a call on the second line is not",
-        CHECK_BY_CALLS,
-        marks(REST, CALLED),
+        "check: a call on the second line is not", CHECK_BY_CALLS, marks(REST, CALLED),
         report("last 2 8 49 108300fde5", frames=1, idles=1),
     ),
-    Case(
-        "check: an octet that is no mark, after lines",
-        CHECK_BY_CALLS,
-        marks(*CALL_AND_REPLY) + b"4",
-        stderr=fault("capture: octet 114 is no bit"),
-        status=2,
+    faulty(
+        "check: an octet that is no mark, after lines", CHECK_BY_CALLS, "capture: octet 114 is no bit",
+        marks(*CALL_AND_REPLY) + b"4"
     ),
-    Case(
-        "check: one pair past the last place",
-        ["check", "--bits", "--two", f"--origin={LAST_ORIGIN - 57}"],
-        marks(*AT_ONE_PLACE) + b"0",
-        stderr=fault("capture: place limit"),
-        status=2,
+    faulty(
+        "check: one pair past the last place", ["check", "--bits", "--two", f"--origin={LAST_ORIGIN - 57}"],
+        "capture: place limit", marks(*AT_ONE_PLACE) + b"0"
     ),
     *[
-        Case(f"check: {name}", ["check", *words], stdin, stderr=fault(f"capture: {why}"), status=2)
+        faulty(f"check: {name}", ["check", *words], f"capture: {why}", stdin)
         for name, words, stdin, why in [
             ("packed, without its last octet", ["--two"], PACKED_CALL[:-1], "short body"),
             ("packed, with an octet after its end", ["--two"], PACKED_CALL + b"\0", "octets after the end"),

@@ -19,8 +19,7 @@ SAMPLES = [
             *(f"--invert-{wire}" for wire in row["turned"]),
             *map(str, row["wires"]),
         ],
-        bytes(int(digit, 16) for digit in row["samples"]),
-        f"{row['bits']}\n" if row["bits"] else "",
+        bytes(int(digit, 16) for digit in row["samples"]), f"{row['bits']}\n" if row["bits"] else "",
     )
     for row in ROWS
 ]

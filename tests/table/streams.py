@@ -1,18 +1,12 @@
 """Rows of standard streams that fail."""
 
 from .captures import CALL, FLAG, IDLE, text
-from .case import Case, Sink, Source, fault
+from .case import Case, Sink, Source, fault, faulty
 
 READERS = [[], ["list", "--bits"], ["list"], ["check", "--bits"], ["check"], ["encode"]]
 
 UNREADABLE = [
-    Case(
-        f"standard input is {source.value}: {' '.join(words) or 'no words'}",
-        words,
-        source,
-        stderr=fault("read failed"),
-        status=2,
-    )
+    faulty(f"standard input is {source.value}: {' '.join(words) or 'no words'}", words, "read failed", source)
     for source in Source
     for words in READERS
 ]
@@ -32,11 +26,7 @@ WRITERS = [
 
 UNWRITABLE = [
     Case(
-        f"standard output is {sink.value}: {' '.join(words)}",
-        words,
-        stdin,
-        stderr=fault("write failed"),
-        status=2,
+        f"standard output is {sink.value}: {' '.join(words)}", words, stdin, stderr=fault("write failed"), status=2,
         sink=sink,
     )
     for sink in [Sink.CLOSED, Sink.FULL, Sink.BROKEN_PIPE]
@@ -46,12 +36,8 @@ UNWRITABLE = [
 # Where nothing is to be written, nothing fails.
 UNWRITTEN = [
     Case(
-        f"nothing is written to standard output that is closed: {' '.join(words)}",
-        words,
-        stdin,
-        stderr=stderr,
-        status=status,
-        sink=Sink.CLOSED,
+        f"nothing is written to standard output that is closed: {' '.join(words)}", words, stdin, stderr=stderr,
+        status=status, sink=Sink.CLOSED,
     )
     for words, stdin, stderr, status in [
         (["list", "--bits"], text(FLAG), "", 0),
@@ -65,9 +51,7 @@ UNWRITTEN = [
 # Directories and closed inputs are no matter to what does not read.
 UNREAD = [
     Case(
-        f"standard input that is {source.value} is not read",
-        ["show", "1013ccb8"],
-        source,
+        f"standard input that is {source.value} is not read", ["show", "1013ccb8"], source,
         "frame 1013ccb8 good\ncontrol 19\n",
     )
     for source in Source

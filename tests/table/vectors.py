@@ -47,10 +47,8 @@ def read() -> List[Vector]:
     file = json.loads(FILE.read_text(encoding="ascii"))
     return [
         Vector(
-            name=row["name"],
-            kind=row["kind"],
-            dictionary=file["dictionaries"][row["dictionary"]] if "dictionary" in row else "",
-            marks=row["marks"],
+            name=row["name"], kind=row["kind"],
+            dictionary=file["dictionaries"][row["dictionary"]] if "dictionary" in row else "", marks=row["marks"],
             listing="".join(f"{line}\n" for line in row["listing"]),
         )
         for row in file["captures"]

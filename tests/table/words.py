@@ -27,10 +27,7 @@ HELP_WORDS = [
 
 HELPS = [
     Case(
-        f"help: {' '.join(words)}",
-        words,
-        UNREAD,
-        (HELP / f"{topic}.txt").read_text(encoding="ascii"),
+        f"help: {' '.join(words)}", words, UNREAD, (HELP / f"{topic}.txt").read_text(encoding="ascii"),
         leaves_input=True,
     )
     for topic, words in HELP_WORDS

@@ -1,4 +1,5 @@
-import { FORMS, HEAD, SKIPPED, countOf, marksByOctet } from "../../../scripts/modules/capture/forms.js";
+import { FORMS, SKIPPED, marksByOctet } from "../../../scripts/modules/capture/forms.js";
+import { PackedReader as Reader } from "../../../scripts/modules/capture/packed.js";
 import { Fault } from "../../../scripts/modules/fault.js";
 import { BLOCK } from "./decoder.js";
 
@@ -100,50 +101,30 @@ export class TextReader {
 export class PackedReader {
   /** @param {Kind} kind @param {Sink} sink */
   constructor(kind, sink) {
-    this.form = FORMS[kind];
     this.sink = sink;
-    /** @type {number[]} */
-    this.head = [];
-    this.left = 0; // marks that are still to come
+    this.reader = new Reader(FORMS[kind], (octets, marks) => {
+      for (const octet of octets) sink.addOctet(octet, marks);
+    });
   }
 
   /** @param {Uint8Array} octets */
   take(octets) {
-    let at = 0;
-    while (this.head.length < HEAD && at < octets.length) {
-      this.head.push(octets[at++]);
-      if (this.head.length === HEAD) this.readHead();
-    }
-    for (; at < octets.length; at++) this.takeOctet(octets[at]);
-  }
-
-  readHead() {
-    try {
-      this.left = countOf(this.form, Uint8Array.from(this.head));
-    } catch (fault) {
-      throw new Fault(`capture: ${/** @type {Fault} */ (fault).message}`);
-    }
-  }
-
-  /** @param {number} octet */
-  takeOctet(octet) {
-    if (this.left === 0) this.refuse("octets after the end");
-    const { width } = this.form; // bits of a mark
-    const marks = Math.min(this.left, 8 / width);
-    if (octet >> (marks * width) !== 0) this.refuse("spare bits are not 0");
-    this.sink.addOctet(octet, marks);
-    this.left -= marks;
-  }
-
-  /** @param {string} text */
-  refuse(text) {
-    this.sink.flush();
-    throw new Fault(`capture: ${text}`);
+    this.tried(() => this.reader.take(octets));
   }
 
   end() {
-    if (this.head.length < HEAD) throw new Fault("capture: short head");
+    this.tried(() => this.reader.end());
     this.sink.flush();
-    if (this.left > 0) throw new Fault("capture: short body");
+  }
+
+  /** @param {() => void} step whose fault comes when the sink has all before it */
+  tried(step) {
+    try {
+      step();
+    } catch (fault) {
+      if (!(fault instanceof Fault)) throw fault;
+      this.sink.flush();
+      throw new Fault(`capture: ${fault.message}`);
+    }
   }
 }

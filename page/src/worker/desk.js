@@ -8,7 +8,7 @@ import { FRAME, KINDS } from "../../../scripts/modules/listing/kinds.js";
 import { NO_HEAD } from "../../../scripts/modules/listing/listing.js";
 import { octetsOf } from "../../../scripts/modules/octets.js";
 import { warningOf } from "../../../scripts/modules/recording/doubts.js";
-import { channelsOf } from "../../../scripts/modules/recording/forms.js";
+import { channelsOf, isRecording } from "../../../scripts/modules/recording/forms.js";
 import { unsureOf } from "../../../scripts/modules/recording/seams.js";
 import { sessionOf } from "../../../scripts/modules/recording/session.js";
 import { isWholeHead } from "../../../scripts/modules/recording/signals.js";
@@ -24,7 +24,7 @@ import { found } from "./filter.js";
 import { formOf, HEAD } from "./forms.js";
 import { Lanes } from "./lanes.js";
 import { warningsOfLevels } from "./levels.js";
-import { isRecording, read } from "./source.js";
+import { read } from "./source.js";
 import { structureOf } from "./structure.js";
 import { clocklessOf, countsOf, namesOf, timesOf } from "./summary.js";
 
@@ -143,7 +143,7 @@ export class Desk {
     const dayTime = job.begin && new DayTime(job.begin.text, job.begin.late);
     this.bus = new Bus(job.rate, dayTime, unsureOf([...warnings, ...told]));
     this.bus.takeAll(listing.rows());
-    const ofLevels = isRecording(job)
+    const ofLevels = isRecording(job.form)
       ? warningsOfLevels(/** @type {RecordingSource} */ (job).channels, /** @type {Bits} */ (bits), listing)
       : [];
     /** @param {Warning} warning */

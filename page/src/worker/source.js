@@ -9,6 +9,7 @@ import { Sampler } from "../engine/sampler.js";
 import { Fault } from "../../../scripts/modules/fault.js";
 import { ListingReader } from "../../../scripts/modules/listing/read.js";
 import { doubtsOf, edgesOf } from "../../../scripts/modules/recording/doubts.js";
+import { isRecording } from "../../../scripts/modules/recording/forms.js";
 import { Moments } from "../../../scripts/modules/recording/moments.js";
 import { recordingOf } from "../../../scripts/modules/recording/recording.js";
 import { samplingOf } from "../../../scripts/modules/recording/sampling.js";
@@ -140,7 +141,7 @@ async function readOnce(job, heard) {
   /** @type {Pick<Read, "notes"|"warnings"|"recorded">} */
   const told = { notes: [], warnings: [], recorded: null };
   try {
-    if (isRecording(job)) await takeRecording(/** @type {RecordingSource} */ (job), library, sink, told, heard);
+    if (isRecording(job.form)) await takeRecording(/** @type {RecordingSource} */ (job), library, sink, told, heard);
     else await takeCapture(job, kind, sink, heard);
   } catch (fault) {
     if (!(fault instanceof Fault)) throw fault;
@@ -152,19 +153,11 @@ async function readOnce(job, heard) {
 }
 
 /**
- * Whether a form is one of recordings.
- * @param {Source} source
- */
-export function isRecording({ form }) {
-  return form === "vcd" || form === "csv" || form === "session";
-}
-
-/**
  * The kind of the capture that a file is, or that is taken from it.
  * @param {BitsSource} job
  */
 function kindOf(job) {
-  if (!isRecording(job)) return job.kind;
+  if (!isRecording(job.form)) return job.kind;
   return job.channels.length === 2 ? 1 : "arrivals";
 }
 

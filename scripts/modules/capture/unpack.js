@@ -1,5 +1,4 @@
-import { Fault } from "../fault.js";
-import { HEAD, countOf } from "./forms.js";
+import { PackedReader } from "./packed.js";
 
 /** Marks of a line. */
 const LINE = 64;
@@ -18,53 +17,33 @@ function marksOf({ marks, width }) {
   return Array.from({ length: 256 }, (_, octet) => shifts.map((shift) => marks.charCodeAt((octet >> shift) & mask)));
 }
 
-/** Writes the marks of a packed capture as lines of text. */
+/** Writes the marks of a packed capture as lines of text, the last of which a fault ends, too. */
 export class Unpacker {
-  head = new Uint8Array(0);
-  left = 0; // marks that are still to come
   column = 0; // of the line that is written
 
-  /** @param {Form} form */
-  constructor(form) {
-    this.form = form;
+  /** @param {Form} form @param {(text: Uint8Array) => void} write */
+  constructor(form, write) {
     this.marks = marksOf(form);
+    this.write = write;
+    this.reader = new PackedReader(form, (octets, count) => this.put(octets, count));
   }
 
-  /**
-   * The text of the next octets. A fault comes once what stands before it is written.
-   * @param {Uint8Array} octets
-   * @param {(text: Uint8Array) => void} write
-   */
-  take(octets, write) {
-    const needed = Math.min(HEAD - this.head.length, octets.length);
-    if (needed > 0) {
-      this.head = Buffer.concat([this.head, octets.subarray(0, needed)]);
-      if (this.head.length < HEAD) return;
-      this.left = countOf(this.form, this.head);
+  /** @param {Uint8Array} octets */
+  take(octets) {
+    try {
+      this.reader.take(octets);
+    } catch (fault) {
+      this.endLine();
+      throw fault;
     }
-    this.takeBody(octets.subarray(needed), write);
-  }
-
-  /** @param {Uint8Array} octets @param {(text: Uint8Array) => void} write */
-  takeBody(octets, write) {
-    const inOctet = 8 / this.form.width;
-    const whole = Math.min(octets.length, Math.floor(this.left / inOctet));
-    this.put(octets.subarray(0, whole), inOctet, write);
-    if (whole === octets.length) return;
-    const rest = octets[whole] >> (this.left * this.form.width);
-    if (this.left > 0 && rest !== 0) throw this.fault("spare bits are not 0", write);
-    const used = Math.min(1, this.left);
-    this.put(octets.subarray(whole, whole + used), this.left, write);
-    if (whole + used < octets.length) throw this.fault("octets after the end", write);
   }
 
   /**
    * Writes so many marks of each of these octets.
    * @param {Uint8Array} octets
    * @param {number} count
-   * @param {(text: Uint8Array) => void} write
    */
-  put(octets, count, write) {
+  put(octets, count) {
     const text = new Uint8Array(octets.length * count + Math.ceil((octets.length * count) / LINE) + 1);
     let at = 0;
     for (const octet of octets) {
@@ -75,26 +54,16 @@ export class Unpacker {
       text[at++] = LINE_END;
       this.column = 0;
     }
-    this.left -= octets.length * count;
-    write(text.subarray(0, at));
+    this.write(text.subarray(0, at));
   }
 
-  /** @param {string} text @param {(text: Uint8Array) => void} write */
-  fault(text, write) {
-    this.endLine(write);
-    return new Fault(text);
-  }
-
-  /** @param {(text: Uint8Array) => void} write */
-  endLine(write) {
-    if (this.column > 0) write(Uint8Array.of(LINE_END));
+  endLine() {
+    if (this.column > 0) this.write(Uint8Array.of(LINE_END));
     this.column = 0;
   }
 
-  /** @param {(text: Uint8Array) => void} write */
-  end(write) {
-    if (this.head.length < HEAD) throw new Fault("short head");
-    this.endLine(write);
-    if (this.left > 0) throw new Fault("short body");
+  end() {
+    this.endLine();
+    this.reader.end();
   }
 }

@@ -11,6 +11,12 @@ export const FORMS = /** @type {const} */ (["session", "binary", "vcd", "csv"]);
 
 /** @typedef {Exclude<typeof FORMS[number], "binary">} Form one that is told by its head */
 
+/**
+ * Whether a file is one, by its form.
+ * @param {string} form
+ */
+export const isRecording = (form) => FORMS.some((each) => each === form && each !== "binary");
+
 /** What may stand before the first word of a recording. */
 const BEFORE_TEXT = Uint8Array.from([0xef, 0xbb, 0xbf, 9, 10, 13, 32]);
 

@@ -44,6 +44,12 @@ export { channelsOf, formOfText } from "./forms.js";
  * @property {AsyncGenerator<Uint8Array>} pieces
  */
 
+/**
+ * What reads the changes of a recording that is no row of samples, by its form.
+ * @type {Record<Exclude<import("./forms.js").Form, "session">, typeof dumpOf>}
+ */
+const READERS = { vcd: dumpOf, csv: changesOfTable };
+
 /** The most samples a second of runs: a recording with finer ticks has some of them in one sample. */
 const FINEST = 1e7;
 
@@ -78,10 +84,10 @@ export async function recordingOf(pieces, wanted) {
   const { form, channels, samples } = wanted;
   if (channels.length < 2 || channels.length > 4) throw new Fault("two, three or four channels are to be named");
   const names = wiresOf(channels);
-  if (form === "vcd" || form === "csv") {
+  if (form !== "session" && form !== "binary") {
     const plain = plainPieces(pieces);
     const source = new Source(form === "csv" ? piecesWithCommas(plain) : plain);
-    const { ticks, changes, positions, faults = () => [] } = await (form === "vcd" ? dumpOf : changesOfTable)(source, channels);
+    const { ticks, changes, positions, faults = () => [] } = await READERS[form](source, channels);
     checkOnce(positions, channels);
     const known = wanted.ticks ?? ticks;
     const unit = known === null ? 1 : Math.max(1, Math.floor(known / FINEST));

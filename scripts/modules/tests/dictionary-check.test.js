@@ -4,7 +4,7 @@ import assert from "node:assert/strict";
 import { readFileSync } from "node:fs";
 import { test } from "node:test";
 
-import { remarksOf, remarksOfFile } from "../dictionary/check.js";
+import { remarksOfFile } from "../dictionary/check.js";
 import { faultsBySchema } from "../dictionary/schema.js";
 import { TOP } from "./support/scripts.js";
 
@@ -16,21 +16,7 @@ function example(name) {
   return readFileSync(`${TOP}examples/${name}`, "utf8");
 }
 
-const VECTORS = JSON.parse(example("vectors/dictionaries.json"));
-
-const textOf = ({ text, file, replace, by }) => text ?? (replace === "" ? example(file) : example(file).replaceAll(replace, by));
-
 const said = (findings) => findings.map(({ line, text }) => `${line}: ${text}`);
-
-test("the dictionaries of examples/vectors", () => {
-  assert.ok(VECTORS.length > 25);
-  for (const row of VECTORS) {
-    const findings = remarksOf(textOf(row), SCHEMA);
-    const inOrder = [...row.findings].sort((one, other) => Number.parseInt(one, 10) - Number.parseInt(other, 10));
-    assert.deepEqual(said(findings), inOrder, textOf(row));
-    assert.ok(findings.every((finding) => finding.isFault !== finding.text.includes(": remark: ")));
-  }
-});
 
 test("files that are no UTF-8 or no TOML, too deep, empty, or with line ends of Windows", () => {
   const windows = "; the lines end with CR LF: `tr -d '\\r'` takes the CR away";

@@ -1,4 +1,4 @@
-// Drafts of dictionaries: as they were kept, and as the tests of draft-dictionary say.
+// Drafts of dictionaries, as they were kept.
 
 import assert from "node:assert/strict";
 import { test } from "node:test";
@@ -7,7 +7,6 @@ import { draftOf } from "../dictionary/draft.js";
 import { Fault } from "../fault.js";
 import { compare } from "./support/golden.js";
 import { rowsOf } from "./support/listing.js";
-import { runsOf } from "./support/listings.js";
 import { madeListing } from "./support/made_listing.js";
 
 const NO_TYPE = "the listing has no frame of a type";
@@ -28,12 +27,6 @@ test("random listings", () => {
   for (const word of words) {
     assert.ok(drafts.join("").includes(word), `no draft that says: ${word}`);
   }
-});
-
-test("what draft-dictionary is to write", () => {
-  const runs = runsOf("draft-dictionary");
-  assert.ok(runs.length > 0);
-  for (const [listing, wanted] of runs) assert.equal(draftOf(rowsOf(listing)), wanted);
 });
 
 test("a listing without a typed frame is a fault", () => {

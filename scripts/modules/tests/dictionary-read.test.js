@@ -3,16 +3,18 @@
 
 import assert from "node:assert/strict";
 import { spawnSync } from "node:child_process";
-import { readFileSync } from "node:fs";
+import { existsSync, readFileSync } from "node:fs";
 import { test } from "node:test";
 
 import { readDictionary } from "../dictionary/dictionary.js";
 import { Fault } from "../fault.js";
 import { IS_WHOLE, TOP, askPython } from "./support/scripts.js";
 import { madeDictionary } from "./support/made_dictionary.js";
-import { PROGRAM } from "./support/listings.js";
 import { randomOf } from "./support/random.js";
 import { DOCUMENTS, entangled, mutated } from "./support/toml_corpus.js";
+
+/** The program, where it is built. */
+const PROGRAM = [process.env.PORT1, `${TOP}crates/port1/out/port1`].find((path) => path && existsSync(path));
 
 const ROWS = `
 sys.path.insert(0, sys.argv[1])

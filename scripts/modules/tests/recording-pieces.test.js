@@ -1,12 +1,9 @@
 import assert from "node:assert/strict";
-import { execFileSync, spawnSync } from "node:child_process";
-import { mkdtempSync, readFileSync, rmSync, writeFileSync } from "node:fs";
-import { tmpdir } from "node:os";
-import { join } from "node:path";
+import { readFileSync } from "node:fs";
 import { test } from "node:test";
 import { inPieces, taken } from "./recording-helpers.js";
 
-/** Recordings in pieces, and those that sigrok-cli writes. */
+/** Recordings in pieces. */
 
 const TOP = new URL("../../../", import.meta.url);
 
@@ -49,24 +46,3 @@ for (const width of [1, 2, 3, 8]) {
     }
   });
 }
-
-/** @type {[import("../recording/forms.js").Form, string[]][]} */
-const OUTPUTS = [["csv", ["csv", "csv:time=true:dedup=true", "csv:time=true"]], ["vcd", ["vcd"]]];
-
-const hasSigrok = spawnSync("sigrok-cli", ["--version"]).status === 0;
-
-test("what sigrok-cli writes", { skip: hasSigrok ? false : "no sigrok-cli" }, async () => {
-  const folder = mkdtempSync(join(tmpdir(), "sigrok-"));
-  const [samples, session] = [join(folder, "tap.bin"), join(folder, "tap.sr")];
-  const written = (words) => execFileSync("sigrok-cli", words);
-  writeFileSync(samples, Uint8Array.from([...SAMPLES, 0]));
-  written(["-i", samples, "-I", "binary:numchannels=4:samplerate=1000000", "-o", session]);
-  for (const [form, outputs] of OUTPUTS) {
-    for (const output of outputs) {
-      const octets = written(["-i", session, "-O", output]);
-      const got = await taken([octets], { form, channels: ["0", "1"] });
-      assert.deepEqual(got, { bits: BITS, fault: null }, output);
-    }
-  }
-  rmSync(folder, { recursive: true });
-});

@@ -1,8 +1,7 @@
 // Sessions of sigrok: the bits and notes are those of their samples, and what is damaged is refused.
 
 import assert from "node:assert/strict";
-import { execFileSync, spawnSync } from "node:child_process";
-import { mkdtempSync, openAsBlob, readFileSync, rmSync, writeFileSync } from "node:fs";
+import { mkdtempSync, openAsBlob, readFileSync, rmSync } from "node:fs";
 import { tmpdir } from "node:os";
 import { join } from "node:path";
 import { after, test } from "node:test";
@@ -146,16 +145,4 @@ test("a session that ends within a sample gives what stands before", async () =>
   const got = await readBy(await openAsBlob(join(folder, "odd.sr")), WIRES);
   const { bits } = await readPlain(WIRES);
   assert.deepEqual(got, { bits, fault: "the recording ends within a sample of 2 octets" });
-});
-
-const HAS_SIGROK = spawnSync("sigrok-cli", ["--version"]).status === 0;
-
-test("a session that sigrok-cli writes", { skip: HAS_SIGROK ? false : "no sigrok-cli" }, async () => {
-  const [samples, session] = ["tap.bin", "tap.sr"].map((name) => join(folder, name));
-  writeFileSync(samples, Uint8Array.from({ length: 200000 }, (_, at) => ((at * 7919) >> 5) & 15));
-  execFileSync("sigrok-cli", ["-i", samples, "-I", "binary:numchannels=4:samplerate=1000000", "-o", session]);
-  const got = await readBy(await openAsBlob(session), ["0", "1"]);
-  const names = Array.from({ length: 8 }, (_, at) => String(at));
-  const wanted = await taken([readFileSync(samples)], { form: "binary", channels: ["0", "1"], samples: { names, width: 1, ticks: 1e6 } });
-  assert.deepEqual(got, wanted);
 });

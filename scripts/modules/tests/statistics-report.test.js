@@ -1,4 +1,4 @@
-// The report: as it was kept, and what the generator of a failing bus says of it.
+// The report, as it was kept.
 
 import assert from "node:assert/strict";
 import { test } from "node:test";
@@ -7,7 +7,6 @@ import { Bus } from "../statistics/bus.js";
 import { report } from "../statistics/report.js";
 import { compare } from "./support/golden.js";
 import { rowsOf } from "./support/listing.js";
-import { failingBus, runsOf } from "./support/listings.js";
 import { madeDamage, madeListing } from "./support/made_listing.js";
 
 const RATES = [153600, 9600, 1, 7, 1_000_003, 12_000_000];
@@ -45,17 +44,4 @@ test("damage in bursts and spread, in more slots of time than are kept apart", (
   for (const word of ["Most of it lies here", "spread over the time"]) {
     assert.ok(wanted.includes(word), `no listing of which the report says: ${word}`);
   }
-});
-
-test("what bus-summary is to write", () => {
-  const runs = runsOf("bus-summary");
-  assert.ok(runs.length >= 5);
-  for (const [listing, wanted] of runs) assert.equal(reportOf(153600, listing), wanted);
-});
-
-test("the failing bus", () => {
-  const told = reportOf(153600, failingBus());
-  assert.match(told, /1\. Station 16 got no type 0 \(call\) for 120 ms/);
-  assert.match(told, /2\. Station 1 is silent: it answered none of 25 commands/);
-  assert.match(told, /3\. Station 2 answered 8 of 25 commands/);
 });

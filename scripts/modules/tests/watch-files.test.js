@@ -1,31 +1,19 @@
 // What a watch has on disk: the ring, the log, and the places of what is packed.
 
 import assert from "node:assert/strict";
-import { appendFileSync, mkdtempSync, readFileSync, readdirSync, rmSync, statSync, writeFileSync } from "node:fs";
-import { tmpdir } from "node:os";
+import { appendFileSync, readFileSync, readdirSync, statSync, writeFileSync } from "node:fs";
 import { join } from "node:path";
 import { test } from "node:test";
 
-import { DISK } from "../watch/disk.js";
 import { ARRIVALS, PAIRS, TextPacker, octetsBefore } from "../watch/forms.js";
 import { Incidents } from "../watch/incidents.js";
 import { Journal } from "../watch/journal.js";
 import { untold } from "../watch/memory.js";
 import { Ring, SEGMENT } from "../watch/ring.js";
 import { Triggers } from "../watch/triggers.js";
+import { inFolder } from "./support/folder.js";
 import { randomOf } from "./support/random.js";
 import { rowsOf } from "./support/talk.js";
-
-/** Runs a test in a folder of its own. */
-async function within(body) {
-  const folder = mkdtempSync(join(tmpdir(), "port1-"));
-  try {
-    await body(folder);
-    await DISK.idle;
-  } finally {
-    rmSync(folder, { recursive: true, force: true });
-  }
-}
 
 /** @type {[typeof PAIRS, string, string][]} */
 const FORMS = [[PAIRS, "0123", "0123"], [ARRIVALS, "01oi", "01"]];
@@ -58,7 +46,7 @@ for (const [form, marks, counted] of FORMS) {
 }
 
 test("the ring keeps the last octets, never more than it may, and another run finds them", () =>
-  within(async (folder) => {
+  inFolder(async (folder) => {
     const random = randomOf(4);
     const limits = { most: 6 * SEGMENT, floor: 0, warn: assert.fail };
     const ring = new Ring(folder, 7, limits);
@@ -79,7 +67,7 @@ test("the ring keeps the last octets, never more than it may, and another run fi
   }));
 
 test("a line that a disk took half of is written again, and one that a kill cut off is dropped", () =>
-  within((folder) => {
+  inFolder((folder) => {
     const path = join(folder, "log");
     writeFileSync(path, '{"event":"start"}\n{"event":"inci');
     const journal = new Journal(path, () => {}, () => {});
@@ -91,7 +79,7 @@ test("a line that a disk took half of is written again, and one that a kill cut 
   }));
 
 test("a line that is cut within a character, or of which the end of a long log has a part, is no event", () =>
-  within((folder) => {
+  inFolder((folder) => {
     const path = join(folder, "log");
     const long = `{"event":"incident","id":"1-1","causes":{"a":"${"x".repeat(1 << 18)}"}}\n`;
     const line = `${long}{"event":"incident","id":"1-2"}\n`;

@@ -1,16 +1,15 @@
 // Where the disk took no bits there is a hole, which is told, and what is saved stands at its places.
 
 import assert from "node:assert/strict";
-import { chmodSync, mkdtempSync, readFileSync, readdirSync, rmSync, statSync, writeFileSync } from "node:fs";
-import { tmpdir } from "node:os";
+import { chmodSync, readFileSync, readdirSync, statSync, writeFileSync } from "node:fs";
 import { join } from "node:path";
 import { test } from "node:test";
 
 import { RATE } from "../port1.js";
-import { DISK } from "../watch/disk.js";
 import { PAIRS } from "../watch/forms.js";
 import { Ring, SEGMENT } from "../watch/ring.js";
 import { Saver } from "../watch/saver.js";
+import { inFolder } from "./support/folder.js";
 
 const SECOND = RATE / 4; // octets
 
@@ -40,9 +39,8 @@ function ringIn(folder, told = []) {
   return ring;
 }
 
-test("a ring with holes gives pieces that stand at their places, and tells the holes", async () => {
-  const folder = mkdtempSync(join(tmpdir(), "port1-"));
-  try {
+test("a ring with holes gives pieces that stand at their places, and tells the holes", () =>
+  inFolder((folder) => {
     assert.ok(60 * SECOND > SEGMENT);
     const told = [];
     const ring = ringIn(folder, told);
@@ -55,11 +53,7 @@ test("a ring with holes gives pieces that stand at their places, and tells the h
       assert.deepEqual(pieces.map(({ place, past }) => [place / RATE, past / RATE]), wanted, `${first} to ${past}`);
       wanted.forEach(([one, other], at) => assert.deepEqual(pieces[at].octets, octetsOf(one, other)));
     }
-  } finally {
-    await DISK.idle;
-    rmSync(folder, { recursive: true, force: true });
-  }
-});
+  }));
 
 /** The octets of a capture that a folder has. */
 const bitsOf = (folder, name) => readFileSync(join(folder, name)).subarray(16);
@@ -87,9 +81,8 @@ const CASES = [
 ];
 
 for (const { at, main, beside, holes } of CASES) {
-  test(`an incident at ${at[0]} s has the bits of its places, and says which are missing`, async () => {
-    const folder = mkdtempSync(join(tmpdir(), "port1-"));
-    try {
+  test(`an incident at ${at[0]} s has the bits of its places, and says which are missing`, () =>
+    inFolder(async (folder) => {
       const saver = saverIn(folder, ringIn(folder));
       const [first, past] = at.map((second) => second * RATE);
       const incident = { id: "1-1", run: 1, first, past, causes: { burst: 1 }, zero: 0, cut: false };
@@ -106,19 +99,15 @@ for (const { at, main, beside, holes } of CASES) {
       beside.forEach(([from, to], number) => assert.deepEqual(bitsOf(own, names[number]), octetsOf(from, to)));
       const summary = readFileSync(join(own, "summary.txt"), "utf8");
       assert.equal(summary.split("Bits are missing").length - 1, holes.length);
-    } finally {
-      rmSync(folder, { recursive: true, force: true });
-    }
-  });
+    }));
 }
 
 /** The octets of a folder. */
 const sizeOf = (folder) => readdirSync(folder).reduce((sum, name) => sum + statSync(join(folder, name)).size, 0);
 
 /** The folders that are left after incidents of some causes, each a second long, and the octets of the last. */
-async function leftBy(keep, causes) {
-  const folder = mkdtempSync(join(tmpdir(), "port1-"));
-  try {
+const leftBy = (keep, causes) =>
+  inFolder(async (folder) => {
     const saver = saverIn(folder, ringIn(folder), keep);
     for (const [number, cause] of causes.entries()) {
       const first = (20 + number) * RATE;
@@ -129,11 +118,7 @@ async function leftBy(keep, causes) {
     const names = readdirSync(join(folder, "incidents")).sort();
     const left = names.map((name) => name.slice(15, 17) + name.slice(name.indexOf("Z-") + 1));
     return { left, size: sizeOf(join(folder, "incidents", names[names.length - 1])) };
-  } finally {
-    await DISK.idle;
-    rmSync(folder, { recursive: true, force: true });
-  }
-}
+  });
 
 test("old folders go before the first ones of their causes, and the last one stays however great it is", async () => {
   const causes = ["burst", "rest", "burst", "burst"];

@@ -6,43 +6,18 @@ import { test } from "node:test";
 import { RATE } from "../port1.js";
 import { Incidents } from "../watch/incidents.js";
 import { SURE, Triggers } from "../watch/triggers.js";
-import { rowsOf } from "./support/talk.js";
+import { rowsOf, talkOf } from "./support/talk.js";
 import { randomOf } from "./support/random.js";
 
-const [ROUND, SECONDS] = [6144, 100];
+const SECONDS = 100;
 
-/** When stations are silent or not asked, and when nothing comes, in seconds. */
-/** @type {[kind: string, from: number, past: number][]} */
-const FAULTS = /** @type {any} */ ([
+const FAULTS = /** @type {import("./support/talk.js").Faults} */ ([
   ...[["silent", 4, 5], ["unasked", 16.4, 16.9], ["rest", 30, 31.5], ["silent", 41.9, 42.4], ["burst", 54.1, 54.4]],
   ...[["rest", 65.9, 67.1], ["unasked", 65.2, 66.2]],
   ...[["silent", 78, 79], ["burst", 79.1, 79.3], ["unasked", 78.9, 79.3]],
 ]);
 
-const has = (kind, place) =>
-  FAULTS.some(([own, from, past]) => own === kind && from * RATE <= place && place < past * RATE);
-
-/** The lines of a talk, each with the place at which it is decided. */
-function talk() {
-  const lines = [];
-  const put = (text, at) => lines.push({ text, at });
-  for (let place = 0; place < SECONDS * RATE; place += ROUND) {
-    const pieces = has("burst", place) ? [500, 900, 1300] : [];
-    pieces.forEach((at) => put(`1 ${place + at} ${place + at + 90} damaged short`, place + at + 91));
-    for (const [at, station] of [[100, 1], [3000, 2]]) {
-      const [first, past] = [place + at, place + at + 56];
-      if (has("rest", first) || (station === 1 && has("unasked", first))) continue;
-      const isSilent = station === 2 && has("silent", first);
-      put(`1 ${first} ${past} frame 0${station}83010000 station ${station} type 1 poll`, past + 1);
-      if (isSilent) put(`1 ${first} ${past} missing station ${station} type 1`, past + 8000);
-      else put(`2 ${past + 200} ${past + 256} frame 0${station}83810000 station ${station} type 129 state`, past + 257);
-      if (!isSilent) put(`1 ${first} ${past} answered station ${station} type 1`, past + 257);
-    }
-  }
-  return lines.sort((one, other) => one.at - other.at);
-}
-
-const LINES = talk();
+const LINES = talkOf(SECONDS, FAULTS);
 const ROWS = rowsOf(LINES.map(({ text }) => text)).map((row, at) => ({ row, at: LINES[at].at }));
 
 /** What is told, sorted, where pieces of the input come that are so long at most, in seconds. */

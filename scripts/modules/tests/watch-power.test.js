@@ -1,8 +1,7 @@
 // Power fails after any step of writing, and within any: each incident is told once, and no number comes twice.
 
 import assert from "node:assert/strict";
-import { existsSync, mkdtempSync, readFileSync, readdirSync, rmSync, writeFileSync } from "node:fs";
-import { tmpdir } from "node:os";
+import { existsSync, readFileSync, readdirSync, writeFileSync } from "node:fs";
 import { join } from "node:path";
 import { test } from "node:test";
 
@@ -13,6 +12,7 @@ import { read } from "../watch/memory.js";
 import { CLOCKS, RecordedWall } from "../watch/wall.js";
 import { Watch } from "../watch/watch.js";
 import { Left, Quick, Slow, TakenDown, lay } from "./support/cut_disk.js";
+import { inFolder } from "./support/folder.js";
 import { randomOf } from "./support/random.js";
 import { LINES, SECONDS, WANTED, rowsOf } from "./support/talk.js";
 
@@ -66,15 +66,6 @@ class Tried extends Watch {
     this.decoder = /** @type {any} */ (new Known((rows) => this.triggers.hear(rows)));
   }
 }
-
-const inFolder = async (body) => {
-  const folder = mkdtempSync(join(tmpdir(), "port1-"));
-  try {
-    return await body(folder);
-  } finally {
-    rmSync(folder, { recursive: true, force: true });
-  }
-};
 
 /** The steps of a run over the whole talk. */
 const stepsOfRun = () => inFolder(async (folder) => {

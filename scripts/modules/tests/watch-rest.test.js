@@ -1,13 +1,11 @@
 // A kill at any line: what the next run judges again makes the same incidents, each once.
 
 import assert from "node:assert/strict";
-import { chmodSync, mkdtempSync, rmSync, writeFileSync } from "node:fs";
-import { tmpdir } from "node:os";
+import { chmodSync, writeFileSync } from "node:fs";
 import { join } from "node:path";
 import { test } from "node:test";
 
 import { RATE } from "../port1.js";
-import { DISK } from "../watch/disk.js";
 import { PAIRS } from "../watch/forms.js";
 import { Incidents } from "../watch/incidents.js";
 import { Journal } from "../watch/journal.js";
@@ -15,6 +13,7 @@ import { untold } from "../watch/memory.js";
 import { judgedRest } from "../watch/rest.js";
 import { Ring } from "../watch/ring.js";
 import { Triggers } from "../watch/triggers.js";
+import { inFolder } from "./support/folder.js";
 import { ENDED, LINES, ROUND, SECONDS, WANTED, rowsOf } from "./support/talk.js";
 
 /** What a run told and wrote down until it was killed after some lines, having written it down each so many. */
@@ -51,7 +50,6 @@ async function incidentsOf(folder, count, each) {
   chmodSync(program, 0o755);
   const asked = /** @type {any} */ ({ program, form: PAIRS, dictionary: "", limits, gaps: new Map() });
   const { incidents } = await judgedRest(old, ringIn(folder), asked, journal);
-  await DISK.idle;
   const told = journal.told().filter(({ event }) => event === "incident");
   const begun = journal.told().filter(({ event }) => event === "begun");
   const ended = journal.told().filter(({ event }) => event === "well again").map(({ place }) => place);
@@ -71,16 +69,11 @@ for (const each of [1, 7, 100000]) {
   test(`kills after lines, what is known written down each ${each} lines`, async () => {
     const step = Math.floor(LINES.length / 24);
     for (let count = 1; count < LINES.length; count += step) {
-      const folder = mkdtempSync(join(tmpdir(), "port1-"));
-      try {
-        const { all, begun, ended } = await incidentsOf(folder, count, each);
-        const found = all.map(({ causes, first }) => [Object.keys(/** @type {object} */ (causes)).join(), first]);
-        assert.deepEqual(found, WANTED, `killed after ${count} lines`);
-        assert.deepEqual(ended, ENDED, `killed after ${count} lines`);
-        assert.deepEqual(begun.map(({ id }) => id), all.map(({ id }) => id), `killed after ${count} lines`);
-      } finally {
-        rmSync(folder, { recursive: true, force: true });
-      }
+      const { all, begun, ended } = await inFolder((folder) => incidentsOf(folder, count, each));
+      const found = all.map(({ causes, first }) => [Object.keys(/** @type {object} */ (causes)).join(), first]);
+      assert.deepEqual(found, WANTED, `killed after ${count} lines`);
+      assert.deepEqual(ended, ENDED, `killed after ${count} lines`);
+      assert.deepEqual(begun.map(({ id }) => id), all.map(({ id }) => id), `killed after ${count} lines`);
     }
   });
 }
@@ -88,9 +81,8 @@ for (const each of [1, 7, 100000]) {
 const known = { usual: ROUND, bad: 0, badFrom: 0, isBad: false, isGone: false, since: null };
 
 /** What a run kept at a second in which all was well, and what it had told; the ring has the bits of a later one on. */
-async function restOf({ at, from, told = [], open = /** @type {any} */ (null) }) {
-  const folder = mkdtempSync(join(tmpdir(), "port1-"));
-  try {
+const restOf = ({ at, from, told = [], open = /** @type {any} */ (null) }) =>
+  inFolder(async (folder) => {
     const journal = new Journal(join(folder, "log"), () => {}, assert.fail);
     told.forEach((entry) => journal.log(entry));
     const rows = rowsOf(LINES);
@@ -105,13 +97,9 @@ async function restOf({ at, from, told = [], open = /** @type {any} */ (null) })
     };
     const asked = /** @type {any} */ ({ lines, form: PAIRS, dictionary: "", limits, gaps: new Map() });
     const found = await judgedRest(old, ringIn(folder, from), asked, journal);
-    await DISK.idle;
     const begun = journal.told().filter(({ event }) => event === "begun").map(({ id, place }) => [id, place]);
     return { begun, all: untold(found.incidents, []).map(({ id, first, causes }) => [id, first, Object.keys(causes)]) };
-  } finally {
-    rmSync(folder, { recursive: true, force: true });
-  }
-}
+  });
 
 const [CAUSE, PLACE] = WANTED[1];
 

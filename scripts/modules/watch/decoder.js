@@ -49,8 +49,18 @@ export class ListProgram {
     this.status.then(() => (this.hasEnded = true));
   }
 
-  begin() {
-    return this.account.begin();
+  async begin() {
+    try {
+      await this.account.begin();
+    } catch (fault) {
+      const status = this.child.exitCode ?? this.child.signalCode;
+      throw status === null ? fault : this.endedBy(status);
+    }
+  }
+
+  /** @param {number|string} status */
+  endedBy(status) {
+    return new Fault(`port1 ended with ${status}${this.said && `: ${this.said.trim()}`}`);
   }
 
   /** The place up to which all is decided and heard. */
@@ -82,6 +92,6 @@ export class ListProgram {
   async end() {
     this.child.stdin.end();
     const status = await this.status;
-    if (status !== 0) throw new Fault(`port1 ended with ${status}${this.said && `: ${this.said.trim()}`}`);
+    if (status !== 0) throw this.endedBy(status);
   }
 }

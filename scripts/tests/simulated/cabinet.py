@@ -10,11 +10,10 @@ from dataclasses import dataclass, field
 from typing import Iterator, List, NamedTuple, Sequence, Tuple
 
 import numpy as np
+from table.captures import FLAG, sent
 
 # Bits a second.
 RATE = 153600
-
-FLAG = "01111110"
 
 # The shortest recording.
 LEAST_BITS = 4
@@ -53,23 +52,6 @@ length = 20
 LENGTHS = {0: (2, 6), 1: (0, 20)}
 
 
-def check_of(octets: Sequence[int]) -> int:
-    """The frame check: ISO/IEC 13239, 16-bit frame checking sequence."""
-    register = 0xFFFF
-    for octet in octets:
-        for place in range(8):
-            mixed = (register ^ octet >> place) & 1
-            register = register >> 1 ^ (0x8408 if mixed else 0)
-    return register ^ 0xFFFF
-
-
-def body_of(octets: Sequence[int]) -> str:
-    """The bits of a frame between its flags: the lowest of each octet first, a 0 put after five ones."""
-    check = check_of(octets)
-    bits = "".join(f"{octet:08b}"[::-1] for octet in [*octets, check & 0xFF, check >> 8])
-    return bits.replace("11111", "111110")
-
-
 def damaged(bits: str, generator: random.Random) -> str:
     """Bits, one of which was inverted on the way."""
     place = generator.randrange(len(bits))
@@ -77,7 +59,7 @@ def damaged(bits: str, generator: random.Random) -> str:
 
 
 # A frame that a station sends right after an answer.
-OTHER = body_of([3, 0x83, 129, *range(20)])
+OTHER = sent(bytes([3, 0x83, 129, *range(20)]))
 
 
 # A bit before which a clock stands still, and for how long.
@@ -162,14 +144,14 @@ class Bus:
         station = generator.randrange(1, 20)
         command, answer = LENGTHS[kind]
         data = [generator.randrange(256) for _ in range(command)]
-        body = body_of([station, 0x83, kind, *data])
+        body = sent(bytes([station, 0x83, kind, *data]))
         fate = self.fate()
         self.fates.append((fate, station, kind))
         self.send(FLAG + (damaged(body, generator) if fate == "command" else body) + FLAG)
         if fate == "notice":
-            self.send(body_of([255, 0x83, 9, 1, 2, 3, 4]) + FLAG)
+            self.send(sent(bytes([255, 0x83, 9, 1, 2, 3, 4])) + FLAG)
         if fate not in ("missing", "command", "notice"):
-            reply = body_of([station, 0x83, kind + 128, *(generator.randrange(256) for _ in range(answer))])
+            reply = sent(bytes([station, 0x83, kind + 128, *(generator.randrange(256) for _ in range(answer))]))
             delay = generator.uniform(300, 400) if fate == "late" else generator.uniform(9, 150)
             self.answer(damaged(reply, generator) if fate == "answer" else reply, delay)
         self.fill(generator.randrange(900, 1100))
@@ -211,8 +193,8 @@ class HealthyBus(Bus):
         station, kind = [1, 2, 16][number % 3], number % 2
         self.fates.append(("answered", station, kind))
         command, answer = ([generator.randrange(256) for _ in range(count)] for count in LENGTHS[kind])
-        self.send(FLAG + body_of([station, 0x83, kind, *command]) + FLAG)
-        reply = FLAG + body_of([station, 0x83, kind + 128, *answer]) + FLAG
+        self.send(FLAG + sent(bytes([station, 0x83, kind, *command])) + FLAG)
+        reply = FLAG + sent(bytes([station, 0x83, kind + 128, *answer])) + FLAG
         self.answers.append(Answer(self.count + generator.uniform(9, 150), reply))
         self.fill(generator.randrange(900, 1100))
 

@@ -9,7 +9,12 @@ a row are destroyed on the way. Station 1 never answers. Station 2 answers some 
 
 import random
 import sys
+from pathlib import Path
 from typing import List, NamedTuple, Tuple
+
+sys.path.append(str(Path(__file__).resolve().parents[3] / "tests"))
+
+from table.captures import FLAG, sent
 
 RATE = 153600
 
@@ -30,8 +35,6 @@ LATE = (2, 5, 6, 11, 15, 16, 20, 23)
 IN_TIME_AFTER = (150, 440)
 LATE_AFTER = (500, 1100)
 
-FLAG = "01111110"
-
 CONTROL = 0x83
 
 
@@ -42,29 +45,6 @@ class Told(NamedTuple):
     first: int
     fate: str
     reply_bits: int = 0
-
-
-def frame_check(octets: bytes) -> bytes:
-    """The frame checking sequence of ISO/IEC 13239 for 16 bits, bit by bit."""
-    register = 0xFFFF
-    for octet in octets:
-        for place in range(8):
-            lowest = (register ^ octet >> place) & 1
-            register = register >> 1 ^ (0x8408 if lowest else 0)
-    return (register ^ 0xFFFF).to_bytes(2, "little")
-
-
-def frame_bits(*octets: int) -> str:
-    """The bits of a frame between its flags, with the check and the inserted zeros."""
-    whole = bytes(octets) + frame_check(bytes(octets))
-    bits = "".join(str(octet >> place & 1) for octet in whole for place in range(8))
-    sent, ones = "", 0
-    for bit in bits:
-        ones = ones + 1 if bit == "1" else 0
-        sent += bit
-        if ones == 5:
-            sent, ones = sent + "0", 0
-    return sent
 
 
 class Line:
@@ -97,12 +77,12 @@ class Bus:
 
     def answer(self, station: int, first: int, past: int, after: Tuple[int, int], frame_type: int) -> None:
         reply_bits = self.generator.randrange(*after)
-        self.answers.send(past + reply_bits, frame_bits(station, CONTROL, frame_type, self.octet(), self.octet()))
+        self.answers.send(past + reply_bits, sent(bytes([station, CONTROL, frame_type, self.octet(), self.octet()])))
         fate = "late" if after == LATE_AFTER else "answered"
         self.told.append(Told(station, first, fate, reply_bits))
 
     def to_monitor(self, first: int, destroyed: bool) -> None:
-        past = self.commands.send(first, frame_bits(16, CONTROL, 0, self.octet(), self.octet()))
+        past = self.commands.send(first, sent(bytes([16, CONTROL, 0, self.octet(), self.octet()])))
         if not destroyed:
             self.answer(16, first, past, IN_TIME_AFTER, 128)
             return
@@ -114,9 +94,9 @@ class Bus:
     def round(self, number: int) -> None:
         starts = [number * ROUND + start + self.generator.randrange(JITTER) for start in STARTS]
         self.to_monitor(starts[0], number in DESTROYED)
-        self.commands.send(starts[1], frame_bits(1, CONTROL, 1))
+        self.commands.send(starts[1], sent(bytes([1, CONTROL, 1])))
         self.told.append(Told(1, starts[1], "missing"))
-        past = self.commands.send(starts[2], frame_bits(2, CONTROL, 1))
+        past = self.commands.send(starts[2], sent(bytes([2, CONTROL, 1])))
         self.answer(2, starts[2], past, LATE_AFTER if number in LATE else IN_TIME_AFTER, 129)
 
     def text(self) -> str:

@@ -5,6 +5,7 @@ import random
 import subprocess
 from typing import List, NamedTuple, Sequence, Tuple
 
+from table.captures import FLAG
 from tests.case import SECONDS, random_bits
 
 # Samples a second of the recordings: a sample is a microsecond. What the rate of the line is does not matter.
@@ -71,8 +72,6 @@ TEXTS = [
     "flag",
     "idle",
 ]
-
-FLAG = "01111110"
 
 
 def damaged(generator: random.Random, bits: str) -> str:
