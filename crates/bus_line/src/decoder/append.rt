@@ -41,7 +41,7 @@ impl DecoderWords {
             return;
         }
         self.begin(check, frame);
-        self.folded += self.store(check, frame, joined);
+        self.store(check, frame, joined);
         self.data_bits += more.count;
         self.partial = more.bits >> (64 - held);
     }
@@ -62,27 +62,24 @@ impl DecoderWords {
         *check = C::fresh();
     }
 
-    /// Stores and folds the eight octets of a word, if there is room for all of them. Returns the units of work of the
-    /// check.
+    /// Stores and folds the eight octets of a word, if there is room for all of them. They are counted where the piece
+    /// ends.
     #[inline(always)]
-    fn store<C: Check, F: FrameBuffer>(&self, check: &mut C, frame: &mut F, word: u64) -> u64
+    fn store<C: Check, F: FrameBuffer>(&self, check: &mut C, frame: &mut F, word: u64)
         requires sound { IsDecoder self.now (F.octets frame.old) }
-        ensures stores { StoresWord C.check (state self.now check.old (F.octets frame.old)) word result
+        ensures stores { StoresWord C.check.folded (state self.now check.old (F.octets frame.old)) word
             (state self.now check.new (F.octets frame.new)) }
-        ensures few { result ≤ 64 }
         ensures sound { IsDecoder self.now (F.octets frame.new) }
     {
         if frame.len() as u64 + 8 > self.longest + 2 {
-            return 0;
+            return;
         }
         let octets = word.to_le_bytes();
-        let mut spent = Spent::zero();
         frame.push_eight(&octets);
-        check.fold_eight(&octets, &mut spent);
-        spent.folded
+        check.fold_eight(&octets, &mut Spent::zero());
     }
 
-    /// Stores and folds the last octets of the piece, which fill no word. They are counted where it ends.
+    /// Stores and folds the last octets of the piece, which fill no word.
     #[inline(always)]
     pub(crate) fn store_last<C: Check, F: FrameBuffer>(&self, check: &mut C, frame: &mut F)
         requires sound { IsDecoder self.now (F.octets frame.old) }
