@@ -19,7 +19,8 @@ use Rattle.bus_line.specs.Words.{state}
 use Rattle.bus_line.specs.declared.decoder_words.DecoderWords.{DecoderWords}
 use Rattle.bus_line.specs.Internal.LineView.{settles_from}
 use Rattle.bus_line.specs.Internal.Tracks.{Holds, in_words, after_words, words_room}
-use Rattle.bus_line.specs.Internal.Settled.{AppendsBits, HoldsOctets, StoresWord, low_octets}
+use Rattle.bus_line.specs.Internal.Settled.{AppendsBits, HoldsOctets, StoresLow, StoresWord}
+use Rattle.bus_line.specs.Internal.Settled.{low_octets}
 use Rattle.bus_line.proofs.WholeLemmas.{octets-short, octets-here, length-octets}
 use Rattle.bus_line.proofs.WordLemmas.{number-drop, number-take}
 
@@ -50,13 +51,28 @@ length-octets_of zero n = refl
 length-octets_of (suc k) n = length-append (low_octets k n) (n / 2 ^ (8 * k) % 256 ∷ [])
     ∙ omega (arith, length-octets_of k n)
 
--- one octet more
-pub octets-next : (k n rest octet : ℕ) → rest ≡ n / 2 ^ (8 * k) → octet ≡ rest % 256 →
-    low_octets (k + 1) n ≡ low_octets k n ++ octet ∷ []
-octets-next k n rest octet left lowest =
-    let next : k + 1 ≡ suc k = omega arith in
-    ap (λ (m : ℕ). low_octets m n) next
-    ∙ ap (λ (o : ℕ). low_octets k n ++ o ∷ []) (sym (lowest ∙ ap (λ (r : ℕ). r % 256) left))
+-- some, and others after them
+octets-both : (k j n : ℕ) → low_octets (k + j) n ≡ low_octets k n ++ low_octets j (n / 2 ^ (8 * k))
+octets-both k zero n =
+    let all : k + 0 ≡ k = omega arith in rw all (sym (append-nil (low_octets k n)))
+octets-both k (suc j) n =
+    let all : k + suc j ≡ suc (k + j) = omega arith in
+    let place : 8 * k + 8 * j ≡ 8 * (k + j) = omega arith in
+    rw (all, shr-shr n (8 * k) (8 * j), place, octets-both k j n)
+    (append_assoc (low_octets k n) (low_octets j (n / 2 ^ (8 * k))) (n / 2 ^ (8 * (k + j)) % 256 ∷ []))
+
+pub stores-both : {C : Type 0} {folded : C → List ℕ → Type 0} {old mid new : C} {held some all : List ℕ} (k j n m : ℕ)
+    → k + j ≡ m → StoresLow folded k n old held mid some → StoresLow folded j (n / 2 ^ (8 * k)) mid some new all
+    → StoresLow folded m n old held new all
+stores-both {C} {folded} {old} {mid} {new} {held} {some} {all} k j n m count first more =
+    let joined : (os : List ℕ) → (os ++ low_octets k n) ++ low_octets j (n / 2 ^ (8 * k)) ≡ os ++ low_octets m n =
+    λ os. append_assoc os (low_octets k n) (low_octets j (n / 2 ^ (8 * k)))
+    ∙ ap (λ (z : List ℕ). os ++ z) (sym (octets-both k j n) ∙ ap (λ (i : ℕ). low_octets i n) count) in
+    record {
+      stored = more.stored ∙ (ap (λ (z : List ℕ). z ++ low_octets j (n / 2 ^ (8 * k))) first.stored ∙ joined held);
+      checked = λ before is.
+          subst (folded new) (joined before) (more.checked (before ++ low_octets k n) (first.checked before is));
+    }
 
 -- the machine's eight
 pub eight-octets : (n : ℕ) → to_le_bytes w64 n ≡ low_octets 8 n

@@ -49,6 +49,12 @@ abbrev pub low_octets : ℕ → ℕ → List ℕ
 low_octets zero n = []
 low_octets (suc k) n = low_octets k n ++ (n / 2 ^ (8 * k) % 256) ∷ []
 
+-- these octets of a number were put after those that were there, and folded
+pub record StoresLow {C : Type 0} (folded : C → List ℕ → Type 0) (k n : ℕ) (old : C) (held : List ℕ) (new : C)
+    (all : List ℕ) : Type 0 where
+  pub stored : all ≡ held ++ low_octets k n
+  pub checked : (before : List ℕ) → folded old before → folded new (before ++ low_octets k n)
+
 -- the buffer has the first of these octets, and their check
 pub record HoldsOctets {C : Type 0} (folded : C → List ℕ → Type 0) (limit : ℕ) (d : LineState C) (os : List ℕ) : Type 0
   where
