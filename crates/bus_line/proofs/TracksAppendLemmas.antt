@@ -4,7 +4,7 @@ use Rattle.std.proofs.Common.{length, take, drop, min, refl, sym, ap, ◌∙◌,
 use Rattle.std.specs.Prelude.{bit_or}
 use Rattle.std.specs.Int.{w32, w64, to_le_bytes}
 use Rattle.std.specs.Int.Bits.{or_shifted_r, or_zero_r}
-use Rattle.std.proofs.Math.Nat.{add-zero, mod-eq_of_lt, mul-add, pow-le-pow_right}
+use Rattle.std.proofs.Math.Nat.{add-zero, mod-eq_of_lt, pow-le-pow_right}
 use Rattle.std.proofs.Math.Seq.{take-add, take-append-add, take-nil, drop-append-add}
 use Rattle.std.proofs.lemmas.Bool.{cases_lt}
 use Rattle.std.proofs.lemmas.Nat.{div-mul-add, mod_low, mod-pow-add, shr-shr}
