@@ -14,9 +14,6 @@ MOST_COLUMNS = 120
 # An import of one name can't be broken.
 ONE_IMPORT = re.compile(r"(ghost )?use [^ ,]+\{[^ ,]+\};?")
 
-# An attribute, which the formatter writes on one line.
-ATTRIBUTE = re.compile(r" *#\[[^\]]*\]")
-
 # Where a link goes, which does not count.
 TARGET = re.compile(r"(?<=\])\([^)\s]*\)")
 
@@ -110,7 +107,7 @@ def problems_of_source(crate: Path) -> List[str]:
         f"{path.relative_to(crate)}, line {number} has {len(line)} columns: break it at {MOST_COLUMNS}"
         for path in sources(crate)
         for number, line in enumerate(path.read_text(encoding="utf-8").splitlines(), 1)
-        if len(line) > MOST_COLUMNS and not (ONE_IMPORT.fullmatch(line) or ATTRIBUTE.fullmatch(line))
+        if len(line) > MOST_COLUMNS and not ONE_IMPORT.fullmatch(line)
     ]
 
 

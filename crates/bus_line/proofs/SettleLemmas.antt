@@ -3,7 +3,7 @@ use Rattle.std.proofs.Common.{◌≡◌, ℕ, zero, suc, ◌+◌, ◌-◌, ◌*�
 use Rattle.std.proofs.Common.{cond, List, [], ◌∷◌, ◌++◌, length, take, get_or, Option, Some, None, refl, sym, ap, ◌∙◌}
 use Rattle.std.proofs.Common.{subst, arith, if◌then◌else◌, inl, inr, length-append, min}
 use Rattle.std.specs.Prelude.{nat_le}
-use Rattle.std.proofs.Math.Nat.{mul-add, mul-zero}
+use Rattle.std.proofs.Math.Nat.{mul-add}
 use Rattle.std.proofs.lemmas.Nat.{shr-shr}
 use Rattle.std.proofs.Math.Seq.{take-suc}
 use Rattle.std.proofs.lemmas.List.{length_push, append_assoc, append-nil}
@@ -13,7 +13,7 @@ use Rattle.bus_bits.specs.Octet.{bits_of}
 use Rattle.bus_fcs.specs.Check.{CheckView}
 use Rattle.bus_line.specs.Due.{FlagAt, current, first_of}
 use Rattle.bus_line.specs.Ledger.{is_settled, is_inserted, assembled, stored}
-use Rattle.bus_line.specs.LineState.{LineState}
+use Rattle.bus_line.specs.LineState.{LineState, waiting}
 use Rattle.bus_line.specs.Internal.LineView.{settles_from}
 use Rattle.bus_line.specs.Internal.Tracks.{settled_data, HoldsFor, Counts, Tracks}
 use Rattle.bus_line.specs.After.{After}
@@ -211,9 +211,15 @@ tracks-settled {C} {view} {p} {d} {e} {b} {bits} {gained} lags mark settles appe
       counts = rw longest (record {
         settled = appends.settled ∙ omega (arith, lags.counts.settled, settles.settled);
         filled = appends.filled ∙ (ap (λ (m : ℕ). m + n) lags.counts.filled ∙ sym full);
-        paid = appends.paid (settled_data b p) held
-            ∙ (ap (λ (m : ℕ). m + view.cost * n) lags.counts.paid
-            ∙ (sym (mul-add view.cost (stored d.longest b) n) ∙ ap (λ (m : ℕ). view.cost * m) (sym full)));
+        paid = omega (
+          arith,
+          ap (λ (x : LineState C). x.spent.folded) kept,
+          ap (λ (m : ℕ). view.cost * m) appends.waits,
+          ap (λ (m : ℕ). view.cost * m) full,
+          mul-add view.cost (waiting d.longest d.data_bits) n,
+          mul-add view.cost (stored d.longest b) n,
+          lags.counts.paid,
+        );
         copied = ap (λ (x : LineState C). x.spent.copied) kept ∙ lags.counts.copied;
         handled = ap (λ (x : LineState C). x.spent.handled) kept ∙ lags.counts.handled;
       });
@@ -226,9 +232,7 @@ appends-none {C} {view} d = record {
   holds = λ bits held. rw (append-nil bits) held;
   settled = omega arith;
   filled = omega arith;
-  paid = λ bits held.
-      let none : octets_more d.longest d.data_bits 0 ≡ 0 = omega arith in
-      rw none (omega (arith, mul-zero view.cost));
+  waits = omega arith;
   kept = refl;
 }
 

@@ -14,7 +14,7 @@ use Rattle.bus_fcs.specs.Check.{CheckView}
 use Rattle.bus_line.specs.Run.{ones_at_end, data_so_far, ones_after}
 use Rattle.bus_line.specs.Due.{Mark, NoMark, FlagAt, AbortAt, current, piece_report, first_of}
 use Rattle.bus_line.specs.Ledger.{is_settled, belongs, is_inserted, assembled, stored}
-use Rattle.bus_line.specs.LineState.{LineState, stored_of, held_of, waiting}
+use Rattle.bus_line.specs.LineState.{LineState, stored_of, waiting}
 use Rattle.bus_line.specs.Words.{first_in, fresh_words, state}
 use Rattle.bus_line.specs.declared.decoder_words.DecoderWords.{DecoderWords}
 use Rattle.bus_line.specs.Internal.AdvancesTo.{closed_piece}
@@ -166,10 +166,9 @@ none_last_bits = refl
 -- before the first bit
 pub fresh-tracks : {C : Type 0} (view : CheckView C) (longest origin : ℕ) (check : C) (octets : List ℕ) →
     Tracks view (state (fresh_words longest origin) check octets) [] NoMark
-unfolding stored_of held_of waiting
+unfolding stored_of
 fresh-tracks view longest origin check octets =
     let none : stored_of longest 0 ≡ 0 = omega arith in
-    let nothing : waiting longest 0 ≡ 0 = omega arith in
     record {
       has_taken = record { place = omega arith; last_bits = sym none_last_bits };
       first = refl;
@@ -177,7 +176,7 @@ fresh-tracks view longest origin check octets =
       counts = record {
         settled = refl;
         filled = rw none refl;
-        paid = rw nothing (omega (arith, mul-zero view.cost));
+        paid = rw none (omega (arith, mul-zero view.cost));
         copied = refl;
         handled = refl;
       };
@@ -236,11 +235,10 @@ pub tracks-flag : {C : Type 0} {view : CheckView C} (w v : DecoderWords) (check 
       data_bits = 0;
       partial = 0;
     } → first_in v.settles_at ≡ Some w.place → Tracks view (state v e os) c (FlagAt p)
-unfolding stored_of held_of waiting
+unfolding stored_of
 tracks-flag {C} {view} w v check e octets os {c} {mark} {p} tracks end is begins =
     let empty : settled_data c p ≡ [] = data-start c p (omega (arith, end)) in
     let none : stored_of w.longest 0 ≡ 0 = omega arith in
-    let nothing : waiting w.longest 0 ≡ 0 = omega arith in
     let counts = tracks.counts in
     rw is (record {
       has_taken = record { place = tracks.has_taken.place; last_bits = tracks.has_taken.last_bits };
@@ -249,7 +247,7 @@ tracks-flag {C} {view} w v check e octets os {c} {mark} {p} tracks end is begins
       counts = record {
         settled = omega (arith, counts.settled);
         filled = rw none (omega (arith, counts.filled));
-        paid = rw nothing (omega (arith, mul-zero view.cost, counts.paid));
+        paid = rw none (omega (arith, mul-zero view.cost, counts.paid));
         copied = refl;
         handled = refl;
       };

@@ -4,7 +4,7 @@ use Rattle.std.proofs.Common.{length, take, drop, min, refl, sym, ap, ◌∙◌,
 use Rattle.std.specs.Prelude.{bit_or}
 use Rattle.std.specs.Int.{w32, w64, to_le_bytes}
 use Rattle.std.specs.Int.Bits.{or_shifted_r, or_zero_r}
-use Rattle.std.proofs.Math.Nat.{add-zero, mod-eq_of_lt, mul-add, pow-le-pow_right}
+use Rattle.std.proofs.Math.Nat.{add-zero, mod-eq_of_lt, pow-le-pow_right}
 use Rattle.std.proofs.Math.Seq.{take-add, take-append-add, take-nil, drop-append-add}
 use Rattle.std.proofs.lemmas.Bool.{cases_lt}
 use Rattle.std.proofs.lemmas.Nat.{div-mul-add, mod_low, mod-pow-add, shr-shr}
@@ -14,12 +14,13 @@ use Rattle.bus_bits.specs.Octet.{number, bits_of, octets}
 use Rattle.bus_bits.proofs.OctetLemmas.{number-append, number-bits, number-lt, length-bits, octets-push, octets-append}
 use Rattle.bus_bits.proofs.ListLemmas.{take_past}
 use Rattle.bus_fcs.specs.Check.{CheckView}
-use Rattle.bus_line.specs.LineState.{LineState, stored_of, held_of, waiting}
+use Rattle.bus_line.specs.LineState.{LineState, stored_of}
 use Rattle.bus_line.specs.Words.{state}
 use Rattle.bus_line.specs.declared.decoder_words.DecoderWords.{DecoderWords}
 use Rattle.bus_line.specs.Internal.LineView.{settles_from}
 use Rattle.bus_line.specs.Internal.Tracks.{Holds, in_words, after_words, words_room}
-use Rattle.bus_line.specs.Internal.Settled.{AppendsBits, HoldsOctets, StoresWord, low_octets, more_within, octets_more}
+use Rattle.bus_line.specs.Internal.Settled.{AppendsBits, HoldsOctets, StoresLow, StoresWord}
+use Rattle.bus_line.specs.Internal.Settled.{low_octets}
 use Rattle.bus_line.proofs.WholeLemmas.{octets-short, octets-here, length-octets}
 use Rattle.bus_line.proofs.WordLemmas.{number-drop, number-take}
 
@@ -50,13 +51,28 @@ length-octets_of zero n = refl
 length-octets_of (suc k) n = length-append (low_octets k n) (n / 2 ^ (8 * k) % 256 ∷ [])
     ∙ omega (arith, length-octets_of k n)
 
--- one octet more
-pub octets-next : (k n rest octet : ℕ) → rest ≡ n / 2 ^ (8 * k) → octet ≡ rest % 256 →
-    low_octets (k + 1) n ≡ low_octets k n ++ octet ∷ []
-octets-next k n rest octet left lowest =
-    let next : k + 1 ≡ suc k = omega arith in
-    ap (λ (m : ℕ). low_octets m n) next
-    ∙ ap (λ (o : ℕ). low_octets k n ++ o ∷ []) (sym (lowest ∙ ap (λ (r : ℕ). r % 256) left))
+-- some, and others after them
+octets-both : (k j n : ℕ) → low_octets (k + j) n ≡ low_octets k n ++ low_octets j (n / 2 ^ (8 * k))
+octets-both k zero n =
+    let all : k + 0 ≡ k = omega arith in rw all (sym (append-nil (low_octets k n)))
+octets-both k (suc j) n =
+    let all : k + suc j ≡ suc (k + j) = omega arith in
+    let place : 8 * k + 8 * j ≡ 8 * (k + j) = omega arith in
+    rw (all, shr-shr n (8 * k) (8 * j), place, octets-both k j n)
+    (append_assoc (low_octets k n) (low_octets j (n / 2 ^ (8 * k))) (n / 2 ^ (8 * (k + j)) % 256 ∷ []))
+
+pub stores-both : {C : Type 0} {folded : C → List ℕ → Type 0} {old mid new : C} {held some all : List ℕ} (k j n m : ℕ)
+    → k + j ≡ m → StoresLow folded k n old held mid some → StoresLow folded j (n / 2 ^ (8 * k)) mid some new all
+    → StoresLow folded m n old held new all
+stores-both {C} {folded} {old} {mid} {new} {held} {some} {all} k j n m count first more =
+    let joined : (os : List ℕ) → (os ++ low_octets k n) ++ low_octets j (n / 2 ^ (8 * k)) ≡ os ++ low_octets m n =
+    λ os. append_assoc os (low_octets k n) (low_octets j (n / 2 ^ (8 * k)))
+    ∙ ap (λ (z : List ℕ). os ++ z) (sym (octets-both k j n) ∙ ap (λ (i : ℕ). low_octets i n) count) in
+    record {
+      stored = more.stored ∙ (ap (λ (z : List ℕ). z ++ low_octets j (n / 2 ^ (8 * k))) first.stored ∙ joined held);
+      checked = λ before is.
+          subst (folded new) (joined before) (more.checked (before ++ low_octets k n) (first.checked before is));
+    }
 
 -- the machine's eight
 pub eight-octets : (n : ℕ) → to_le_bytes w64 n ≡ low_octets 8 n
@@ -286,25 +302,14 @@ holds-all {C} {folded} {limit} {other} {d} {os} kept within fits =
 -- ---- a word
 
 -- it is stored where there is room for all of it
-pub stores-word : {C : Type 0} (view : CheckView C) (d e : LineState C) (word m cost : ℕ) →
+pub stores-word : {C : Type 0} (folded : C → List ℕ → Type 0) (d e : LineState C) (word m : ℕ) →
     ((a : ℕ) → length d.octets ≡ 8 * a → m ≡ min 8 (words_room d.longest - length d.octets)) →
     e.octets ≡ d.octets ++ low_octets m word
-    → ((xs : List ℕ) → view.folded d.check xs → view.folded e.check (xs ++ low_octets m word))
-    → cost ≡ view.cost * m → StoresWord view d word cost e
-stores-word view d e word m cost count same-octets checks paid =
-    let limit = words_room d.longest in
-    let eighth : (os : List ℕ) → length os % 8 ≡ 0 → HoldsOctets view.folded limit d os →
-    length d.octets ≡ 8 * (length d.octets / 8) =
-    λ os whole kept. omega (arith, length-held kept, whole) in
-    record {
-      keeps = λ os whole kept.
-          keeps-more view.folded limit d e 8 m word os kept (count (length d.octets / 8) (eighth os whole kept))
-          same-octets checks;
-      paid = λ os whole kept.
-          let same : m ≡ more_within limit (length os) 8 =
-          omega (arith, count (length d.octets / 8) (eighth os whole kept), length-held kept) in
-          paid ∙ ap (λ (n : ℕ). view.cost * n) same;
-    }
+    → ((xs : List ℕ) → folded d.check xs → folded e.check (xs ++ low_octets m word))
+    → StoresWord folded d word e
+stores-word folded d e word m count same-octets checks = λ os whole kept.
+    keeps-more folded (words_room d.longest) d e 8 m word os kept
+    (count (length d.octets / 8) (omega (arith, length-held kept, whole))) same-octets checks
 
 -- ---- the last octets
 
@@ -324,44 +329,12 @@ holds-last folded d e m bits kept within count same-octets checks =
 
 -- ---- all together
 
-held-within : (longest n : ℕ) → held_of longest n ≤ stored_of longest n
-unfolding held_of stored_of
-held-within longest n = omega arith
-
-stored-more : (longest n k : ℕ) → stored_of longest (n + k) ≡ stored_of longest n + octets_more longest n k
-unfolding stored_of
-stored-more longest n k = omega arith
-
-held-more : (room q : ℕ) → more_within (8 * room) (8 * q) 8 + 8 * min q room ≡ 8 * min (q + 1) room
-held-more room q = omega arith
-
-differ : (m before after held next more : ℕ) → m + held ≡ next → held ≤ before → next ≤ after → after ≡ before + more →
-    m + (after - next) ≡ (before - held) + more
-differ m before after held next more all within fits grown = omega (arith, all, within, fits, grown)
-
--- what waits, where a word more is full
-waits-less : (longest n k : ℕ) → k ≤ 56 → 64 ≤ n % 64 + k
-    → more_within (words_room longest) (8 * (n / 64)) 8 + waiting longest (n + k)
-    ≡ waiting longest n + octets_more longest n k
-unfolding held_of waiting
-waits-less longest n k few full =
-    let next : (n + k) / 64 ≡ n / 64 + 1 = omega (arith, few, full) in
-    differ (more_within (words_room longest) (8 * (n / 64)) 8) (stored_of longest n) (stored_of longest (n + k))
-    (held_of longest n) (held_of longest (n + k)) (octets_more longest n k)
-    (held-more ((longest + 2) / 8) (n / 64) ∙ ap (λ (q : ℕ). 8 * min q ((longest + 2) / 8)) (sym next))
-    (held-within longest n) (held-within longest (n + k)) (stored-more longest n k)
-
-paid-more : (folded cost m after before more units : ℕ) → units ≡ cost * m → m + after ≡ before + more →
-    folded + units + cost * after ≡ folded + cost * before + cost * more
-paid-more folded cost m after before more units paid same =
-    omega (arith, paid, mul-add cost m after, ap (λ (k : ℕ). cost * k) same, mul-add cost before more)
-
 module _ {C : Type 0} (view : CheckView C) (w : DecoderWords) (check : C) (os : List ℕ) (n bits : ℕ) (few : n ≤ 56)
     (small : bits < 2 ^ n) (early : w.place ≤ settles_from (state w check os).first → n ≡ 0) where
   -- no word is full
   pub appended-few : w.data_bits % 64 + n < 64 → AppendsBits view (state w check os) (bits_of n bits)
       (state (record w { data_bits = w.data_bits + n; partial = joined w.partial (w.data_bits % 64) bits }) check os)
-  unfolding bits_of stored_of held_of waiting
+  unfolding bits_of stored_of
   appended-few short =
       let d = state w check os in
       record {
@@ -386,31 +359,21 @@ module _ {C : Type 0} (view : CheckView C) (w : DecoderWords) (check : C) (os : 
             };
         settled = omega (arith, length-bits n bits);
         filled = omega (arith, length-bits n bits);
-        paid = λ got holds.
-            let more : waiting w.longest (w.data_bits + n) ≡ waiting w.longest w.data_bits
-            + octets_more w.longest w.data_bits (length (bits_of n bits)) =
-            omega (arith, length-bits n bits, short) in
-            ap (λ (k : ℕ). w.folded + view.cost * k) more
-            ∙ omega (
-              arith,
-              mul-add view.cost (waiting w.longest w.data_bits)
-                  (octets_more w.longest w.data_bits (length (bits_of n bits))),
-            );
+        waits = omega (arith, length-bits n bits);
         kept = refl;
       }
 
   -- a word is full, and stored where there is room for it
-  pub appended-word : (begun new : C) (before after : List ℕ) (cost : ℕ) → 64 ≤ w.data_bits % 64 + n →
+  pub appended-word : (begun new : C) (before after : List ℕ) → 64 ≤ w.data_bits % 64 + n →
       ((got : List Bool) → Holds view.folded (state w check os) got →
       HoldsOctets view.folded (words_room w.longest) (state w begun before) (octets (in_words got))) →
-      StoresWord view (state w begun before) (joined w.partial (w.data_bits % 64) bits) cost (state w new after)
+      StoresWord view.folded (state w begun before) (joined w.partial (w.data_bits % 64) bits) (state w new after)
       → AppendsBits view (state w check os) (bits_of n bits) (state (record w {
-        folded = w.folded + cost;
         data_bits = w.data_bits + n;
         partial = bits / 2 ^ (64 - w.data_bits % 64);
       }) new after)
   unfolding stored_of
-  appended-word begun new before after cost full begins stores =
+  appended-word begun new before after full begins stores =
       let whole : (got : List Bool) → length (octets (in_words got)) % 8 ≡ 0 =
       λ got. omega (arith, words-octets got) in
       record {
@@ -420,7 +383,7 @@ module _ {C : Type 0} (view : CheckView C) (w : DecoderWords) (check : C) (os : 
             let more : 64 ≤ length got % 64 + n = omega (arith, size, full) in
             let long : length (got ++ bits_of n bits) ≡ length got + n =
             length-append got (bits_of n bits) ∙ omega (arith, length-bits n bits) in
-            let kept = stores.keeps (octets (in_words got)) (whole got) (begins got holds) in
+            let kept = stores (octets (in_words got)) (whole got) (begins got holds) in
             let next = word-more got n bits small few more in
             record {
               count = omega (arith, holds.count, long);
@@ -430,16 +393,6 @@ module _ {C : Type 0} (view : CheckView C) (w : DecoderWords) (check : C) (os : 
             };
         settled = omega (arith, length-bits n bits);
         filled = omega (arith, length-bits n bits);
-        paid = λ got holds.
-            let size = words-octets got in
-            let paid = stores.paid (octets (in_words got)) (whole got) (begins got holds) in
-            let words : 8 * (w.data_bits / 64) ≡ length (octets (in_words got)) = omega (arith, size, holds.count) in
-            let more : more_within (words_room w.longest) (length (octets (in_words got))) 8
-            + waiting w.longest (w.data_bits + n) ≡ waiting w.longest w.data_bits
-            + octets_more w.longest w.data_bits (length (bits_of n bits)) =
-            rw (← words, length-bits n bits) (waits-less w.longest w.data_bits n few full) in
-            paid-more w.folded view.cost (more_within (words_room w.longest) (length (octets (in_words got))) 8)
-            (waiting w.longest (w.data_bits + n)) (waiting w.longest w.data_bits)
-            (octets_more w.longest w.data_bits (length (bits_of n bits))) cost paid more;
+        waits = omega (arith, length-bits n bits);
         kept = refl;
       }

@@ -198,7 +198,7 @@ impl<C: Check> LineDecoder<C> {
     }
 
     /// The steps so far.
-    #[tactic(auto, unfolding(crate::specs::LineState::stored_of, crate::specs::LineState::held_of, crate::specs::LineState::waiting))]
+    #[tactic(auto, unfolding(crate::specs::LineState::stored_of))]
     pub fn spent(&self) -> Spent
         ensures value { result ≡ record self.now.spent {
           folded = self.now.spent.folded + C.check.cost * waiting self.now.longest self.now.data_bits;
@@ -206,11 +206,12 @@ impl<C: Check> LineDecoder<C> {
         ensures ledger { (b : List Bool) → After C.check self.now b →
             IsLedger C.check.cost self.now.longest b result }
     {
+        let stored = self.words.stored_of_piece();
         Spent {
             shifted: self.words.place - self.words.origin,
             assembled: self.words.assembled + self.words.data_bits,
-            folded: self.words.folded + C::COST * self.words.waiting(),
-            stored: self.words.stored + self.words.stored_of_piece(),
+            folded: self.words.folded + C::COST * stored,
+            stored: self.words.stored + stored,
             ..Spent::zero()
         }
     }

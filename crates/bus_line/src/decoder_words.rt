@@ -31,7 +31,7 @@ pub struct DecoderWords {
     /// From the first place after this one on, each bit settles one bit of the open piece: eight past its
     /// beginning, or a place that is never reached where no piece is open.
     pub settles_at: u64,
-    /// Units of work of the frame check, without those of octets of the newest piece that fill no word of eight.
+    /// Units of work of the frame check, of the pieces before the newest.
     pub folded: u64,
     /// Octets stored, of the pieces before the newest.
     pub stored: u64,
@@ -103,19 +103,9 @@ impl DecoderWords {
         min(self.data_bits / 8, self.longest + 2)
     }
 
-    /// Those of them that wait.
-    #[inline(always)]
-    #[tactic(auto, unfolding(crate::specs::LineState::stored_of, crate::specs::LineState::held_of, crate::specs::LineState::waiting))]
-    pub(crate) fn waiting(&self) -> u64
-        requires { AreDecoderWords self.now }
-        ensures { result ≡ waiting self.now.longest self.now.data_bits }
-    {
-        self.stored_of_piece() - 8 * min(self.data_bits / 64, (self.longest + 2) / 8)
-    }
-
     /// Counts the octets of the newest piece, which has ended, among those of earlier ones.
     #[inline(always)]
-    #[tactic(auto, unfolding(crate::specs::LineState::stored_of, crate::specs::LineState::held_of, crate::specs::LineState::waiting))]
+    #[tactic(auto, unfolding(crate::specs::LineState::stored_of))]
     pub(crate) fn count_piece<C: Check>(&mut self)
         requires { AreDecoderWords self.old }
         ensures counts { self.new ≡ record self.old {
@@ -127,9 +117,8 @@ impl DecoderWords {
         } }
         ensures within { AreDecoderWords self.new }
     {
-        let units = C::COST * self.waiting();
         let stored = self.stored_of_piece();
-        self.folded += units;
+        self.folded += C::COST * stored;
         self.stored += stored;
         self.assembled += self.data_bits;
         self.data_bits = 0;

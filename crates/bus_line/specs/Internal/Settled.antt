@@ -40,10 +40,6 @@ pub record LagsBy {C : Type 0} (view : CheckView C) (d : LineState C)
   pub piece : HoldsFor view.folded d b (current b)
   pub counts : Counts view.cost d b
 
--- how many more of the first `limit` there are where `k` come after `n`
-abbrev pub more_within : ℕ → ℕ → ℕ → ℕ
-more_within limit n k = min (n + k) limit - min n limit
-
 -- how many octets more of a piece of `n` data bits are stored, where `k` come after them
 abbrev pub octets_more : ℕ → ℕ → ℕ → ℕ
 octets_more longest n k = min ((n + k) / 8) (longest + 2) - min (n / 8) (longest + 2)
@@ -53,19 +49,23 @@ abbrev pub low_octets : ℕ → ℕ → List ℕ
 low_octets zero n = []
 low_octets (suc k) n = low_octets k n ++ (n / 2 ^ (8 * k) % 256) ∷ []
 
+-- these octets of a number were put after those that were there, and folded
+pub record StoresLow {C : Type 0} (folded : C → List ℕ → Type 0) (k n : ℕ) (old : C) (held : List ℕ) (new : C)
+    (all : List ℕ) : Type 0 where
+  pub stored : all ≡ held ++ low_octets k n
+  pub checked : (before : List ℕ) → folded old before → folded new (before ++ low_octets k n)
+
 -- the buffer has the first of these octets, and their check
 pub record HoldsOctets {C : Type 0} (folded : C → List ℕ → Type 0) (limit : ℕ) (d : LineState C) (os : List ℕ) : Type 0
   where
     pub held : d.octets ≡ take limit os
     pub checked : folded d.check (take limit os)
 
--- eight octets of a piece were stored and folded, at this cost, if there is room for all of them
-pub record StoresWord {C : Type 0} (view : CheckView C) (old : LineState C) (word cost : ℕ) (new : LineState C) : Type 0
-  where
-    pub keeps : (os : List ℕ) → length os % 8 ≡ 0 → HoldsOctets view.folded (words_room old.longest) old os
-        → HoldsOctets view.folded (words_room old.longest) new (os ++ low_octets 8 word)
-    pub paid : (os : List ℕ) → length os % 8 ≡ 0 → HoldsOctets view.folded (words_room old.longest) old os
-        → cost ≡ view.cost * more_within (words_room old.longest) (length os) 8
+-- eight octets of a piece were stored and folded, if there is room for all of them
+abbrev pub StoresWord : {C : Type 0} → (C → List ℕ → Type 0) → LineState C → ℕ → LineState C → Type 0
+StoresWord folded old word new =
+    (os : List ℕ) → length os % 8 ≡ 0 → HoldsOctets folded (words_room old.longest) old os
+    → HoldsOctets folded (words_room old.longest) new (os ++ low_octets 8 word)
 
 -- data bits were appended to the piece, and counted; before one is settled nothing changed
 pub record AppendsBits {C : Type 0} (view : CheckView C) (old : LineState C) (more : List Bool)
@@ -74,19 +74,13 @@ pub record AppendsBits {C : Type 0} (view : CheckView C) (old : LineState C) (mo
   pub holds : (bits : List Bool) → Holds view.folded old bits → Holds view.folded new (bits ++ more)
   pub settled : new.spent.assembled ≡ old.spent.assembled + length more
   pub filled : new.spent.stored ≡ old.spent.stored + octets_more old.longest old.data_bits (length more)
-  pub paid : (bits : List Bool) → Holds view.folded old bits
-      → new.spent.folded + view.cost * waiting old.longest new.data_bits
-      ≡ old.spent.folded + view.cost * waiting old.longest old.data_bits
-      + view.cost * octets_more old.longest old.data_bits (length more)
+  pub waits : waiting old.longest new.data_bits
+      ≡ waiting old.longest old.data_bits + octets_more old.longest old.data_bits (length more)
   pub kept : new
       ≡ record old {
         data_bits = new.data_bits;
         partial = new.partial;
         octets = new.octets;
         check = new.check;
-        spent = record old.spent {
-          assembled = new.spent.assembled;
-          folded = new.spent.folded;
-          stored = new.spent.stored;
-        };
+        spent = record old.spent { assembled = new.spent.assembled; stored = new.spent.stored };
       }

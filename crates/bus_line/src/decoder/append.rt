@@ -3,7 +3,7 @@
 ghost use Rattle.std.specs.Prelude.{◌≡◌, ◌+◌, ◌-◌, ◌*◌, ◌/◌, ◌≤◌, ◌<◌, ◌^◌, List, Bool, ◌++◌, length, ℕ};
 ghost use Rattle.bus_bits.specs.Octet.{bits_of, octets};
 ghost use Rattle.bus_line.specs.Limits.{most_octets};
-ghost use Rattle.bus_line.specs.Internal.Settled.{low_octets};
+ghost use Rattle.bus_line.specs.Internal.Settled.{StoresLow};
 
 use crate::decoder::marked::Bits;
 use crate::decoder_words::DecoderWords;
@@ -41,7 +41,7 @@ impl DecoderWords {
             return;
         }
         self.begin(check, frame);
-        self.folded += self.store(check, frame, joined);
+        self.store(check, frame, joined);
         self.data_bits += more.count;
         self.partial = more.bits >> (64 - held);
     }
@@ -62,27 +62,24 @@ impl DecoderWords {
         *check = C::fresh();
     }
 
-    /// Stores and folds the eight octets of a word, if there is room for all of them. Returns the units of work of the
-    /// check.
+    /// Stores and folds the eight octets of a word, if there is room for all of them. They are counted where the piece
+    /// ends.
     #[inline(always)]
-    fn store<C: Check, F: FrameBuffer>(&self, check: &mut C, frame: &mut F, word: u64) -> u64
+    fn store<C: Check, F: FrameBuffer>(&self, check: &mut C, frame: &mut F, word: u64)
         requires sound { IsDecoder self.now (F.octets frame.old) }
-        ensures stores { StoresWord C.check (state self.now check.old (F.octets frame.old)) word result
+        ensures stores { StoresWord C.check.folded (state self.now check.old (F.octets frame.old)) word
             (state self.now check.new (F.octets frame.new)) }
-        ensures few { result ≤ 64 }
         ensures sound { IsDecoder self.now (F.octets frame.new) }
     {
         if frame.len() as u64 + 8 > self.longest + 2 {
-            return 0;
+            return;
         }
         let octets = word.to_le_bytes();
-        let mut spent = Spent::zero();
         frame.push_eight(&octets);
-        check.fold_eight(&octets, &mut spent);
-        spent.folded
+        check.fold_eight(&octets, &mut Spent::zero());
     }
 
-    /// Stores and folds the last octets of the piece, which fill no word. They are counted where it ends.
+    /// Stores and folds the last octets of the piece, which fill no word.
     #[inline(always)]
     pub(crate) fn store_last<C: Check, F: FrameBuffer>(&self, check: &mut C, frame: &mut F)
         requires sound { IsDecoder self.now (F.octets frame.old) }
@@ -95,36 +92,52 @@ impl DecoderWords {
         self.begin(check, frame);
         let room = self.longest + 2 - frame.len() as u64;
         let stored = min(self.data_bits / 8 % 8, room);
-        let first = store_four(check, frame, self.partial, stored);
-        let mut rest = self.partial >> (8 * first);
-        for _ in first..stored {
-            let octet = (rest & 0xff) as u8;
-            frame.push(octet);
-            check.fold(octet, &mut Spent::zero());
-            rest >>= 8;
-        }
+        store_few(check, frame, self.partial, stored);
     }
 }
 
-/// Stores and folds the four lowest octets of a number, if `count` is as many. Returns how many it stored.
+/// Stores and folds so many of the lowest octets of a number, at most seven: four together, then two, then one.
 #[inline(always)]
-fn store_four<C: Check, F: FrameBuffer>(
-    check: &mut C,
-    frame: &mut F,
-    octets: u64,
-    count: u64,
-) -> u64
-    requires { length (F.octets frame.old) + count ≤ most_octets }
-    ensures few { (result ≤ count) × (result ≤ 4) }
-    ensures stored { F.octets frame.new ≡ F.octets frame.old ++ low_octets result octets }
-    ensures folded { (before : List ℕ) → C.check.folded check.old before →
-        C.check.folded check.new (before ++ low_octets result octets) }
+fn store_few<C: Check, F: FrameBuffer>(check: &mut C, frame: &mut F, octets: u64, count: u64)
+    requires few { count ≤ 7 }
+    requires room { length (F.octets frame.old) + count ≤ most_octets }
+    ensures { StoresLow C.check.folded count octets check.old (F.octets frame.old) check.new (F.octets frame.new) }
 {
     if count < 4 {
-        return 0;
+        return store_three(check, frame, octets, count);
     }
     let four = ((octets & 0xffff_ffff) as u32).to_le_bytes();
     frame.push_four(&four);
     check.fold_four(&four, &mut Spent::zero());
-    4
+    store_three(check, frame, octets >> 32, count - 4);
+}
+
+/// The same of at most three.
+#[inline(always)]
+fn store_three<C: Check, F: FrameBuffer>(check: &mut C, frame: &mut F, octets: u64, count: u64)
+    requires few { count ≤ 3 }
+    requires room { length (F.octets frame.old) + count ≤ most_octets }
+    ensures { StoresLow C.check.folded count octets check.old (F.octets frame.old) check.new (F.octets frame.new) }
+{
+    if count < 2 {
+        return store_one(check, frame, octets, count);
+    }
+    store_one(check, frame, octets, 1);
+    store_one(check, frame, octets >> 8, 1);
+    store_one(check, frame, octets >> 16, count - 2);
+}
+
+/// The same of one or none.
+#[inline(always)]
+fn store_one<C: Check, F: FrameBuffer>(check: &mut C, frame: &mut F, octets: u64, count: u64)
+    requires few { count ≤ 1 }
+    requires room { length (F.octets frame.old) + count ≤ most_octets }
+    ensures { StoresLow C.check.folded count octets check.old (F.octets frame.old) check.new (F.octets frame.new) }
+{
+    if count == 0 {
+        return;
+    }
+    let octet = (octets & 0xff) as u8;
+    frame.push(octet);
+    check.fold(octet, &mut Spent::zero());
 }

@@ -25,14 +25,14 @@ pub(crate) fn ended_mark(last_bits: u64, count: u64) -> EndedMark
         last_bits ≡ number (drop (length (b ++ bit ∷ [])) (padded (b ++ bit ∷ []))) → count ≡ length b →
         HasEnded bit (ones_at_end b) count result }
 {
+    if last_bits >> 8 == 0x7e && count > 6 {
+        return EndedMark::FlagMark;
+    }
     if last_bits >> 8 == 0xfe {
         return EndedMark::AbortMark;
     }
     if last_bits == 0xfffe {
         return EndedMark::IdleMark;
-    }
-    if last_bits >> 8 == 0x7e && count > 6 {
-        return EndedMark::FlagMark;
     }
     EndedMark::Other
 }

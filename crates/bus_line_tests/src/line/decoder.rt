@@ -121,6 +121,8 @@ const FRAMES: &str = "\
         00001000 11001000 00110011 00011101 => 8 40 frame 1013ccb8\n\
     three octets and their check: 0: \
         00001000 11000001 10000000 00101110 00101111 => 8 48 frame 10830174f4\n\
+    five octets and their check, two inserted 0s: 0: \
+        00001000 11000001 10000000 101111100 10100100 11011010 111110000 => 8 66 frame 1083017d255b1f\n\
     five 1 bits before the closing flag: 0: \
         00011111 => 8 16 damaged unstuffed";
 

@@ -1,5 +1,4 @@
-use Rattle.std.proofs.Common.{◌≡◌, ◌+◌, ◌-◌, true, replicate, arith}
-use Rattle.bus_bits.specs.Bits.{bits_from}
+use Rattle.std.proofs.Common.{arith}
 use Rattle.bus_line.proofs.TimeFillLemmas.{ones-none, ones-front, ones-octets}
 use Rattle.bus_line.proofs.decoder.time_fill.ones_end.Goals as goal
 

@@ -18,5 +18,5 @@ returns-clause-appends g c =
     let told = settles-told w.settles_at c.requires.sound.within.settles_late in
     appended-word g.C.Check.check w c.args.check.now (octets c.args.frame.now) c.args.more.count c.args.more.bits
     c.args.more.few c.args.more.small (λ soon. c.requires.early (omega (arith, told, soon)))
-    c.begin.new.check c.store.new.check (octets c.begin.new.frame) (octets c.store.new.frame) c.store.result
+    c.begin.new.check c.store.new.check (octets c.begin.new.frame) (octets c.store.new.frame)
     c.if-held-more-lt64.false c.begin.ensures.keeps c.store.ensures.stores

@@ -1,7 +1,6 @@
-use Rattle.std.proofs.Common.{◌+◌, ◌-◌, Bool, None, refl, ap, ◌∙◌, subst, arith}
+use Rattle.std.proofs.Common.{◌+◌, ◌-◌, Bool, subst, arith}
 use Rattle.bus_bits.specs.Bits.{bits_from}
-use Rattle.bus_line.specs.Words.{IsDecoder, state}
-use Rattle.bus_line.specs.declared.decoder_words.DecoderWords.{DecoderWords}
+use Rattle.bus_line.specs.Words.{state}
 use Rattle.bus_line.specs.Internal.AdvancesTo.{AdvancesToStop}
 use Rattle.bus_line.proofs.AdvancesToLemmas.{stops-on}
 use Rattle.bus_line.proofs.DecidesLemmas.{decides-from, decides-on, place-on}

@@ -1,7 +1,5 @@
 use Rattle.std.proofs.Common.{◌++◌, List, ℕ, sym, ap, ◌∙◌, subst, arith, append-nil}
-use Rattle.bus_bits.specs.declared.spent.Spent.{Spent}
 use Rattle.bus_line.specs.Words.{state}
-use Rattle.std.proofs.Math.Nat.{mul-zero}
 use Rattle.bus_line.proofs.TracksAppendLemmas.{eight-octets, stores-word}
 use Rattle.bus_line.proofs.decoder_words.DecoderWords.store.Goals as goal
 
@@ -9,10 +7,9 @@ pub returns-then-len-self-clause-stores : goal.returns-then-len-self-clause-stor
 returns-then-len-self-clause-stores g c =
     let held = g.F.FrameBuffer.octets c.args.frame.now in
     let d = state c.args.self.now c.args.check.now held in
-    stores-word g.C.Check.check d d c.args.word 0 0
+    stores-word g.C.Check.check.folded d d c.args.word 0
     (λ a size. omega (arith, size, c.len.ensures, c.if-len-self.true)) (sym (append-nil held))
     (λ xs folded. subst (g.C.Check.check.folded c.args.check.now) (sym (append-nil xs)) folded)
-    (sym (mul-zero g.C.Check.check.cost))
 
 pub returns-clause-stores : goal.returns-clause-stores
 returns-clause-stores g c =
@@ -20,13 +17,8 @@ returns-clause-stores g c =
     let d = state c.args.self.now c.args.check.now held in
     let e = state c.args.self.now c.fold_eight.new.self (g.F.FrameBuffer.octets c.push_eight.new.self) in
     let octets = c.to_le_bytes-octets.ensures ∙ eight-octets c.args.word in
-    stores-word g.C.Check.check d e c.args.word 8 c.fold_eight.new.spent.folded
+    stores-word g.C.Check.check.folded d e c.args.word 8
     (λ a size. omega (arith, size, c.len.ensures, c.if-len-self.false))
     (c.push_eight.ensures ∙ ap (λ (os : List ℕ). held ++ os) octets)
     (λ xs folded. subst (λ (os : List ℕ). g.C.Check.check.folded c.fold_eight.new.self (xs ++ os)) octets
     (c.fold_eight.ensures.folded xs folded))
-    (omega (
-      arith,
-      ap (λ (s : Spent). s.folded) c.fold_eight.ensures.spent,
-      ap (λ (s : Spent). s.folded) c.zero-spent.ensures,
-    ))
