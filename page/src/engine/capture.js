@@ -1,149 +1,93 @@
 import { FORMS, HEAD, SKIPPED, countOf, marksByOctet } from "../../../scripts/modules/capture/forms.js";
 import { Fault } from "../../../scripts/modules/fault.js";
-import { BLOCK } from "./decoder.js";
+import { joined } from "../../../scripts/modules/octets.js";
 
-/** @typedef {Packer|import("./arrivals.js").Arrivals} Sink of marks, and of packed ones */
-/** @typedef {import("../../../scripts/modules/capture/forms.js").Kind} Kind */
+/** @typedef {import("./marks.js").Kind} Kind */
+/** @typedef {import("./marks.js").Packer} Packer that takes the marks */
 
-/** Of each octet its bits 0, 2, 4 and 6, as bits 0 to 3: the bits of the first line in four pairs. */
-const FIRSTS = Uint8Array.from({ length: 256 }, (_, octet) =>
-  [0, 1, 2, 3].reduce((bits, pair) => bits | (((octet >> (2 * pair)) & 1) << pair), 0),
-);
-
-/** Collects marks of one line or of two as packed bits, and hands them on in blocks. */
-export class Packer {
-  /** @param {1|2} lines @param {(octets: Uint8Array[], bits: number) => void} hand */
-  constructor(lines, hand) {
-    this.hand = hand;
-    this.blocks = Array.from({ length: lines }, () => new Uint8Array(BLOCK));
-    this.bits = 0;
-  }
-
-  /**
-   * Takes a mark: the bit of the first line, and twice that of the second.
-   * @param {number} mark
-   */
-  add(mark) {
-    const at = this.bits >> 3;
-    const shift = this.bits & 7;
-    const [first, second] = this.blocks;
-    first[at] = shift === 0 ? mark & 1 : first[at] | ((mark & 1) << shift);
-    if (second) second[at] = shift === 0 ? mark >> 1 : second[at] | ((mark >> 1) << shift);
-    this.bits += 1;
-    if (this.bits === 8 * BLOCK) this.flush();
-  }
-
-  /**
-   * Takes an octet of a packed capture, with so many marks, of which all but the last of the capture has all.
-   * @param {number} octet
-   * @param {number} marks
-   */
-  addOctet(octet, marks) {
-    const at = this.bits >> 3;
-    const [first, second] = this.blocks;
-    if (second) {
-      const shift = this.bits & 7;
-      first[at] = shift === 0 ? FIRSTS[octet] : first[at] | (FIRSTS[octet] << shift);
-      second[at] = shift === 0 ? FIRSTS[octet >> 1] : second[at] | (FIRSTS[octet >> 1] << shift);
-    } else {
-      first[at] = octet;
-    }
-    this.bits += marks;
-    if (this.bits === 8 * BLOCK) this.flush();
-  }
-
-  /** Hands on what has been collected. */
-  flush() {
-    const used = (this.bits + 7) >> 3;
-    if (this.bits > 0) {
-      this.hand(
-        this.blocks.map((block) => block.subarray(0, used)),
-        this.bits,
-      );
-    }
-    this.bits = 0;
-  }
+/**
+ * Refuses a capture whose marks before were taken.
+ * @param {Packer} packer
+ * @param {string} text
+ */
+function refuse(packer, text) {
+  packer.flush();
+  throw new Fault(`capture: ${text}`);
 }
 
 /** A text capture: marks, and spaces between them. */
 export class TextReader {
-  /** @param {Kind} kind @param {Sink} sink */
-  constructor(kind, sink) {
+  /** @param {Kind} kind @param {Packer} packer */
+  constructor(kind, packer) {
     this.marks = marksByOctet(FORMS[kind]);
-    this.sink = sink;
+    this.packer = packer;
     this.read = 0;
   }
 
   /** @param {Uint8Array} octets */
   take(octets) {
-    const { sink, marks } = this;
+    const { packer, marks } = this;
     for (let at = 0; at < octets.length; at++) {
       const mark = marks[octets[at]];
-      if (mark < SKIPPED) sink.add(mark);
-      else if (mark !== SKIPPED) this.refuse(this.read + at);
+      if (mark < SKIPPED) packer.add(mark);
+      else if (mark !== SKIPPED) refuse(packer, `octet ${this.read + at} is no bit`);
     }
     this.read += octets.length;
   }
 
-  /** @param {number} place */
-  refuse(place) {
-    this.sink.flush();
-    throw new Fault(`capture: octet ${place} is no bit`);
-  }
-
   end() {
-    this.sink.flush();
+    this.packer.flush();
   }
 }
 
 /** A packed capture: a head with the number of marks, and as many. */
 export class PackedReader {
-  /** @param {Kind} kind @param {Sink} sink */
-  constructor(kind, sink) {
+  head = new Uint8Array(0);
+  left = 0; // marks that are still to come
+
+  /** @param {Kind} kind @param {Packer} packer */
+  constructor(kind, packer) {
     this.form = FORMS[kind];
-    this.sink = sink;
-    /** @type {number[]} */
-    this.head = [];
-    this.left = 0; // marks that are still to come
+    this.packer = packer;
   }
 
   /** @param {Uint8Array} octets */
   take(octets) {
-    let at = 0;
-    while (this.head.length < HEAD && at < octets.length) {
-      this.head.push(octets[at++]);
-      if (this.head.length === HEAD) this.readHead();
+    const lacking = HEAD - this.head.length;
+    if (lacking > 0) {
+      this.head = joined(this.head, octets.subarray(0, lacking));
+      if (this.head.length === HEAD) this.left = this.countIn(this.head);
     }
-    for (; at < octets.length; at++) this.takeOctet(octets[at]);
+    if (octets.length > lacking) this.takeBody(octets.subarray(Math.max(0, lacking)));
   }
 
-  readHead() {
+  /** @param {Uint8Array} head */
+  countIn(head) {
     try {
-      this.left = countOf(this.form, Uint8Array.from(this.head));
+      return countOf(this.form, head);
     } catch (fault) {
       throw new Fault(`capture: ${/** @type {Fault} */ (fault).message}`);
     }
   }
 
-  /** @param {number} octet */
-  takeOctet(octet) {
-    if (this.left === 0) this.refuse("octets after the end");
-    const { width } = this.form; // bits of a mark
-    const marks = Math.min(this.left, 8 / width);
-    if (octet >> (marks * width) !== 0) this.refuse("spare bits are not 0");
-    this.sink.addOctet(octet, marks);
-    this.left -= marks;
-  }
-
-  /** @param {string} text */
-  refuse(text) {
-    this.sink.flush();
-    throw new Fault(`capture: ${text}`);
+  /** @param {Uint8Array} octets */
+  takeBody(octets) {
+    const { packer, left, form: { width } } = this;
+    const body = octets.subarray(0, Math.ceil((left * width) / 8));
+    const marks = Math.min(left, (8 * body.length) / width);
+    const hasSpare = marks === left && marks > 0 && (left * width) % 8 !== 0;
+    const whole = hasSpare ? body.length - 1 : body.length;
+    packer.addOctets(body.subarray(0, whole), (8 * whole) / width);
+    this.left -= (8 * whole) / width;
+    if (hasSpare && body[whole] >> (this.left * width) !== 0) refuse(packer, "spare bits are not 0");
+    packer.addOctets(body.subarray(whole), this.left);
+    this.left = left - marks;
+    if (octets.length > body.length) refuse(packer, "octets after the end");
   }
 
   end() {
     if (this.head.length < HEAD) throw new Fault("capture: short head");
-    this.sink.flush();
+    this.packer.flush();
     if (this.left > 0) throw new Fault("capture: short body");
   }
 }

@@ -16,10 +16,10 @@ const PAGE = 65536;
  * @property {(pair: Pointer, entries: Pointer, entryCount: bigint, line: number, report: Pointer, octets: Pointer,
  *   count: bigint, seen: Pointer) => number} port1_pair_take
  * @property {(tap: Pointer, wires: Pointer, hold: number, jump: bigint, rest: bigint) => number} port1_tap_init
- * @property {(tap: Pointer, sample: bigint, count: Pointer, arrivals: Pointer, room: bigint,
- *   arrived: Pointer) => number} port1_tap_push
  * @property {(tap: Pointer, octets: Pointer, count: bigint, width: number, at: Pointer, arrivals: Pointer, room: bigint,
  *   arrived: Pointer) => number} port1_tap_feed
+ * @property {(tap: Pointer, runs: Pointer, count: bigint, at: Pointer, arrivals: Pointer, room: bigint,
+ *   arrived: Pointer) => number} port1_tap_feed_runs
  * @property {(rest: Pointer, most: bigint) => number} port1_rest_init
  * @property {(rest: Pointer, arrivals: Pointer, count: bigint, at: Pointer, out: Pointer, room: bigint,
  *   put: Pointer) => number} port1_rest_feed
@@ -59,6 +59,21 @@ export class Library {
       this.octets = new Uint8Array(this.memory.buffer);
     }
     return begin;
+  }
+
+  /**
+   * Takes memory for some things, each by its name and size: where each is, and the same as calls take it.
+   * @template {string} Name
+   * @param {Record<Name, number>} sizes
+   */
+  places(sizes) {
+    const places = /** @type {Record<Name, number>} */ ({});
+    const pointers = /** @type {Record<Name, Pointer>} */ ({});
+    for (const name of /** @type {Name[]} */ (Object.keys(sizes))) {
+      places[name] = this.allocate(sizes[name]);
+      pointers[name] = this.pointer(places[name]);
+    }
+    return { places, pointers };
   }
 
   /**
