@@ -145,7 +145,7 @@ RELEASE = "void (Blob.prototype.arrayBuffer = self.held)"
 
 # What the page has while it reads a file: how far it is, and a button that can be seen.
 PROGRESS = "document.getElementById('progress')"
-IS_HELD = f"!{PROGRESS}.hidden && {PROGRESS}.value > 0.4 && {PROGRESS}.value < 0.6"
+IS_HELD = f"!{PROGRESS}.hidden && {PROGRESS}.value > 0.3 && {PROGRESS}.value < 0.6"
 IS_OFFERED = "getComputedStyle(document.getElementById('stop')).visibility === 'visible'"
 
 

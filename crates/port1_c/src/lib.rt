@@ -3,6 +3,7 @@
 
 mod arrival;
 mod bits;
+mod block;
 mod call_bits;
 mod calls;
 mod clocking;

@@ -9,16 +9,11 @@ import { ARRIVAL, GAP, LINE_FACTS, OCCURRENCES, TAP, WIRE, WIRES } from "./layou
 const OCTETS = 65536;
 const RUN = 8;
 
-/** Bits are handed on where there is room for fewer. */
-const LEAST = 1024;
-
 /** The wires, as a recording and the library have them in order. */
 const NAMES = /** @type {const} */ (["firstClock", "firstData", "secondClock", "secondData"]);
 
 /** Takes bits from samples by a tap of the library. */
 export class Sampler {
-  held = 0; // bits that arrived and were not handed on
-
   /**
    * @param {Library} library
    * @param {import("../../../scripts/modules/recording/recording.js").Recording} recording
@@ -65,13 +60,14 @@ export class Sampler {
 
   /** @param {Uint8Array} octets that a call has room for */
   takeSome(octets) {
-    const { library, places, width } = this;
-    library.octets.set(octets, places.samples);
-    library.view.setBigUint64(places.at, 0n, true);
-    while (library.number(places.at) < octets.length / width) {
-      library.demand(this.feed(octets.length), this.hasRuns ? "port1_tap_feed_runs" : "port1_tap_feed");
-      this.held += library.number(places.arrived);
-      if (this.held > ROOM - LEAST) this.flush();
+    const { library, places } = this;
+    const { view, octets: memory } = library;
+    memory.set(octets, places.samples);
+    view.setBigUint64(places.at, 0n, true);
+    while (library.number(places.at) < octets.length / this.width) {
+      this.feed(octets.length);
+      const count = library.number(places.arrived);
+      this.hand(count, memory.subarray(this.arrivals, this.arrivals + ARRIVAL.size * count));
     }
   }
 
@@ -80,18 +76,13 @@ export class Sampler {
    * @param {number} octets
    */
   feed(octets) {
-    const { library, pointers, held } = this;
-    const { tap, samples, at, arrived } = pointers;
-    const [next, room] = [library.pointer(this.arrivals + ARRIVAL.size * held), BigInt(ROOM - held)];
-    const { port1_tap_feed: feed, port1_tap_feed_runs: feedRuns } = library.calls;
-    if (this.hasRuns) return feedRuns(tap, samples, BigInt(octets / RUN), at, next, room, arrived);
-    return feed(tap, samples, BigInt(octets), this.width, at, next, room, arrived);
-  }
-
-  /** Hands on the bits that are held. */
-  flush() {
-    this.hand(this.held, this.library.octets.subarray(this.arrivals, this.arrivals + ARRIVAL.size * this.held));
-    this.held = 0;
+    const { tap, samples, at, arrived } = this.pointers;
+    const { port1_tap_feed: feed, port1_tap_feed_runs: feedRuns } = this.library.calls;
+    const goal = /** @type {const} */ ([at, this.library.pointer(this.arrivals), BigInt(ROOM), arrived]);
+    const status = this.hasRuns
+      ? feedRuns(tap, samples, BigInt(octets / RUN), ...goal)
+      : feed(tap, samples, BigInt(octets), this.width, ...goal);
+    this.library.demand(status, "port1_tap_feed");
   }
 
   /**

@@ -224,7 +224,6 @@ async function takeRecording(source, library, { packer, goal }, told, heard) {
   try {
     for await (const piece of recording.pieces) sampler.take(piece);
   } finally {
-    sampler.flush();
     packer.flush();
     const when = new Moments(recording.ticks, recording.begin());
     const how = { rising, when, isSampled: !recording.hasRuns, seams: recording.seams() };
