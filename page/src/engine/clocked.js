@@ -49,12 +49,12 @@ export class ClockedDecoder {
    * @param {(count: number) => void} take
    */
   put(octets, marks, place, take) {
-    const { view } = this.library;
+    const { words } = this.library;
     for (let from = 0; from < octets.length; from += ROOM / MARKS) {
       const past = Math.min(octets.length, from + ROOM / MARKS);
-      for (let at = from, to = place; at < past; at++, to += MARKS * ARRIVAL.size) {
-        view.setUint32(to, PAIRS[octets[at] & 15], true);
-        view.setUint32(to + 4, PAIRS[octets[at] >> 4], true);
+      for (let at = from, to = place / 4; at < past; at++) {
+        words[to++] = PAIRS[octets[at] & 15];
+        words[to++] = PAIRS[octets[at] >> 4];
       }
       take(Math.min(ROOM, marks - MARKS * from));
     }

@@ -35,14 +35,25 @@ const PAGE = 65536;
 
 /** The C library, compiled for WebAssembly. Numbers of octets and bits have 64 bits, whatever addresses have. */
 export class Library {
+  // Of its memory octets, numbers of 32 bits, and any numbers.
+  octets = new Uint8Array(0);
+  words = new Uint32Array(0);
+  view = new DataView(new ArrayBuffer(0));
+
   /** @param {WebAssembly.Instance} instance @param {boolean} isWide */
   constructor(instance, isWide) {
     this.isWide = isWide;
     this.calls = /** @type {Calls} */ (/** @type {unknown} */ (instance.exports));
     this.memory = /** @type {WebAssembly.Memory} */ (instance.exports.memory);
     this.used = this.memory.buffer.byteLength;
+    this.look();
+  }
+
+  /** Looks at the memory, which is another buffer once it has grown. */
+  look() {
     this.view = new DataView(this.memory.buffer);
     this.octets = new Uint8Array(this.memory.buffer);
+    this.words = new Uint32Array(this.memory.buffer);
   }
 
   /**
@@ -55,8 +66,7 @@ export class Library {
     const lacking = this.used - this.memory.buffer.byteLength;
     if (lacking > 0) {
       this.grow(Math.ceil(lacking / PAGE));
-      this.view = new DataView(this.memory.buffer);
-      this.octets = new Uint8Array(this.memory.buffer);
+      this.look();
     }
     return begin;
   }

@@ -34,6 +34,17 @@ const ONES = {
   arrivals: [1, 3].map((one) => countsOf((mark) => mark === one)),
 };
 
+/**
+ * The sum of what a table has for some octets.
+ * @param {Uint8Array} octets
+ * @param {Uint8Array} table
+ */
+function sumOf(octets, table) {
+  let sum = 0;
+  for (let at = 0; at < octets.length; at++) sum += table[octets[at]];
+  return sum;
+}
+
 /** Collects marks in octets, as packed captures have them, and hands them on in blocks. */
 export class Packer {
   octets = new Uint8Array(BLOCK);
@@ -130,11 +141,7 @@ export class KeptMarks {
 
   /** How many bits of each line are ones, of those that were kept. */
   get ones() {
-    const sums = [0, 0];
-    ONES[this.kind].forEach((ones, line) => {
-      for (const block of this.blocks) for (let at = 0; at < block.length; at++) sums[line] += ones[block[at]];
-    });
-    return sums;
+    return ONES[this.kind].map((ones) => this.blocks.reduce((sum, block) => sum + sumOf(block, ones), 0));
   }
 
   /** Whether all marks were kept. */
