@@ -155,8 +155,8 @@ fn alike(octets: &[u8], width: usize, at: usize, end: usize, sample: u64) -> usi
     count
 }
 
-/// Takes samples of `width` octets each, from number `at` on and before number `end`: 64, or some that are the same up to
-/// those that bring bits. Puts these behind the first `arrived` arrivals, and returns how many samples.
+/// Takes samples of `width` octets each, from number `at` on and before number `end`: 64, or some that are the same, up
+/// to those that bring bits. Puts these behind the first `arrived` arrivals, and returns how many samples.
 fn take_front(
     tap: &mut Tap,
     stops: &mut StopRule,
@@ -177,7 +177,8 @@ fn take_front(
     ensures long { (length arrivals.new ≡ length arrivals.old) × (arrived.new ≤ length arrivals.old) }
     ensures samples { tap.new.samples ≡ tap.old.samples + result }
     ensures taken { TapsMore tap.old stops.old arrivals.old arrived.old
-        (map (channels wires.now) (samples_from width octets.now at result)) tap.new stops.new arrivals.new arrived.new }
+        (map (channels wires.now) (samples_from width octets.now at result)) tap.new stops.new arrivals.new
+        arrived.new }
 {
     if width == 1 && tap.takes_blocks() && arrivals.len() - *arrived >= MOST_OF_BLOCK {
         if let Some(block) = octets[at..end].first_chunk::<64>() {

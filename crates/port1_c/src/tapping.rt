@@ -144,9 +144,9 @@ pub extern "C" fn port1_tap_feed(
 }
 
 /// Takes runs of samples of an octet each, from number `at` on, while there is room for 32 bits more, and puts the bits
-/// that arrive. The lowest octet of a run is a sample, and the rest of it says in how many this stands. `at` is then the
-/// next run to take, of which are left the samples that were not taken, and `arrived` how many bits were put. No other
-/// run changes.
+/// that arrive. The lowest octet of a run is a sample, and the rest of it says in how many this stands. `at` is then
+/// the next run to take, of which are left the samples that were not taken, and `arrived` how many bits were put. No
+/// other run changes.
 ///
 /// Returns what [`port1_tap_push`] returns; where that is PLACE_LIMIT, the runs before `at` were taken, and with run
 /// `at` there would be more than 2^60 samples.
