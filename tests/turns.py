@@ -132,14 +132,14 @@ def problems_of_faults(page: Path, name: str) -> List[str]:
         return problems
 
 
-# A capture of three reads, of which the second brings nothing while reads are held.
+# A capture of three reads. While reads are held, those after so many bring nothing, but for the head of a file.
 LONG = b"1" * (2 * (1 << 22) + 1000)
 HOLD = """void (() => {
   self.held ??= Blob.prototype.arrayBuffer;
   let reads = 0;
   Blob.prototype.arrayBuffer = function () {
     reads += this.size > 65536 ? 1 : 0;
-    return reads > 1 ? new Promise(() => undefined) : self.held.call(this);
+    return reads > %d ? new Promise(() => undefined) : self.held.call(this);
   };
 })()"""
 RELEASE = "void (Blob.prototype.arrayBuffer = self.held)"
@@ -165,10 +165,12 @@ def invert(session: browser.Session) -> None:
     session.value("document.getElementById('settings').requestSubmit()")
 
 
-def problems_of_stop(session: browser.Session, act: Callable[[], None], stop: Callable[[browser.Session], None]) -> List[str]:
-    """Whether all is as it was before a file was read, and what is said of it."""
+def problems_of_stop(
+    session: browser.Session, act: Callable[[], None], stop: Callable[[browser.Session], None], reads: int = 1
+) -> List[str]:
+    """Whether all is as it was before a file was read, which is held after so many reads, and what is said of it."""
     before = session.value(f"[document.body.dataset.state, ...{SAID}]")
-    session.value(HOLD)
+    session.value(HOLD % reads)
     act()
     session.wait_until("document.body.classList.contains('reading')")
     stop(session)
@@ -203,7 +205,7 @@ def problems_of_stops(page: Path, name: str) -> List[str]:
                 problems += [f"{what}, {stop.__name__}: {each}" for each in told]
         choose_by_hand(session, Path(top))
         session.value(RELEASE)
-        problems += [f"the same file: {each}" for each in problems_of_stop(session, lambda: invert(session), stops[-1])]
+        problems += [f"the same file: {each}" for each in problems_of_stop(session, lambda: invert(session), stops[-1], 0)]
         alone = ("a capture", {"silent.bits": SILENT})
         give(session, Path(top), alone[1])
         said = text_at(session, "#verdict-short")
