@@ -57,14 +57,6 @@ static void tap_runs(void) {
     WANT(tap.samples == LIMIT && tap.first.bits.last == LIMIT - 2 && tap.second.bits.count == 1);
 }
 
-static uint64_t draw(void) {
-    static uint64_t state = 88172645463325252u;
-    state ^= state << 13;
-    state ^= state >> 7;
-    state ^= state << 17;
-    return state;
-}
-
 /* A run: so many samples that are the same. */
 static uint64_t run_of(uint64_t count, uint64_t sample) { return count << 8 | sample; }
 
@@ -94,29 +86,6 @@ static void tap_blocks_of_runs(void) {
             WANT(at == GIVEN || memcmp(runs + at + 1, given + at + 1, (GIVEN - at - 1) * sizeof *runs) == 0);
         }
         WANT(all == count && count > 4 && memcmp(got, wanted, all * sizeof *got) == 0 && memcmp(&tap, &one, sizeof one) == 0);
-    }
-}
-
-/* Samples by blocks of 64, where there is room for all that they may bring, bring what they do one by one. */
-static void tap_blocks_of_samples(void) {
-    enum { SAMPLES = 64 * 40 + 7, ROOM = 64 * PORT1_TAP_ROOM };
-    static uint8_t given[SAMPLES];
-    static struct port1_arrival wanted[3 * ROOM], got[3 * ROOM];
-    for (unsigned round = 0; round < 60; round++) {
-        static struct port1_tap one;
-        const uint32_t hold = round % 3;
-        uint64_t count = 0, all = 0, at = 0, arrived = 9;
-        for (size_t k = 0; k < SAMPLES; k++)
-            given[k] = k == 0 || draw() % (2 + round) == 0 ? (uint8_t)draw() : given[k - 1];
-        WANT(port1_tap_init(&one, &wires, hold, 2, 40) == PORT1_OK && port1_tap_init(&tap, &wires, hold, 2, 40) == PORT1_OK);
-        for (size_t k = 0; k < SAMPLES; k++, count += arrived) {
-            uint64_t left = 1;
-            WANT(port1_tap_push(&one, given[k], &left, wanted + count, PORT1_TAP_ROOM, &arrived) == PORT1_OK);
-        }
-        for (; at < SAMPLES; all += arrived)
-            WANT(port1_tap_feed(&tap, given, SAMPLES, 1, &at, got + all, 3 * ROOM - all, &arrived) == PORT1_OK);
-        WANT(count > 9 && all == count && memcmp(got, wanted, all * sizeof *got) == 0);
-        WANT(memcmp(&tap, &one, sizeof one) == 0);
     }
 }
 
@@ -181,6 +150,14 @@ static int is_tap(void) {
     return tap.samples <= LIMIT && is_within(&tap.first, tap.samples) && is_within(&tap.second, tap.samples)
         && tap.first_clock.others <= tap.hold && tap.first_data.others <= tap.hold
         && tap.second_clock.others <= tap.hold && tap.second_data.others <= tap.hold;
+}
+
+static uint64_t draw(void) {
+    static uint64_t state = 88172645463325252u;
+    state ^= state << 13;
+    state ^= state >> 7;
+    state ^= state << 17;
+    return state;
 }
 
 /* Any octets, in three of four with numbers that a tap may have, but for one of them in one of these. */
@@ -421,7 +398,6 @@ int main(void) {
     tap_facts();
     tap_runs();
     tap_blocks_of_runs();
-    tap_blocks_of_samples();
     tap_runs_refused();
     tap_refusals();
     any_state();

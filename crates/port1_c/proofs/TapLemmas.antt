@@ -1,19 +1,21 @@
 -- Samples that are taken, and bits that are put.
 use Rattle.std.proofs.Common.{◌≡◌, ℕ, zero, suc, ◌+◌, ◌-◌, ◌*◌, ◌/◌, ◌%◌, ◌<◌, ◌≤◌, List, [], ◌∷◌, ◌++◌, length, map}
-use Rattle.std.proofs.Common.{drop, take, replicate, flat_map, length-append}
+use Rattle.std.proofs.Common.{drop, replicate, flat_map, length-append}
 use Rattle.std.proofs.Common.{refl, sym, ap, ◌∙◌, arith, subst, inl, inr, get_or, slice_set, append_assoc, append-nil}
 use Rattle.std.proofs.lemmas.Bool.{cases_lt}
-use Rattle.std.proofs.lemmas.List.{drop-set, drop_more, get_or-drop, length-drop, length-map, map-append, take_more}
+use Rattle.std.proofs.lemmas.List.{drop-set, drop_more, map-append, length-map}
 use Rattle.std.proofs.lemmas.List.Concat.{flat_map-cons}
 use Rattle.std.proofs.Math.Seq.{drop-cons, set-append_seam}
+use Rattle.bus_pairing.specs.declared.line.Line.TheVariants.{First, Second}
 use Rattle.bus_tap.specs.Arrival.{Arrival}
-use Rattle.bus_tap.specs.Sampled.{Timed}
+use Rattle.bus_tap.specs.Sampled.{Timed, bit_on, bits_of_edges, with_sample}
 use Rattle.bus_tap.specs.Stopped.{AdvancesStops}
 use Rattle.bus_tap.specs.declared.stop.StopRule.{StopRule}
 use Rattle.bus_line.specs.Due.{places}
-use Rattle.bus_tap.specs.Recorded.{record_at, record_number}
+use Rattle.bus_tap.specs.Recorded.{record_at}
 use Rattle.bus_tap.specs.Tapped.{TapState, AdvancesTap, channels}
 use Rattle.bus_tap.specs.declared.wires.Wires.{Wires}
+use Rattle.bus_tap.specs.declared.sampler.Edges.{Edges}
 use Rattle.bus_tap.proofs.EachLemmas.{length-more}
 use Rattle.bus_tap.proofs.StopLemmas.{stops-further, stops-nothing}
 use Rattle.bus_tap.proofs.TapLemmas.{advances-further, advances-nothing, replicate-both, replicate-more}
@@ -65,22 +67,37 @@ tapped-none t r start = record {
   rested = stops-nothing r;
 }
 
--- further samples, and the bits that arrive
-module _ (from old new : TapState) (rule one two : StopRule) (start before behind : List Port1Arrival)
-    (ls more : List ℕ) (ts : List Timed) (count next : ℕ) (xs : List Arrival) where
-  pub tapped-more : length start ≡ length before → count + length xs ≤ length before → AdvancesTap old more ts new →
-      next ≡ count + length xs → PutsArrivals count before xs behind → AdvancesStops one ts xs two →
-      HasTapped from rule start ls old one before count → HasTapped from rule start (ls ++ more) new two behind next
-  tapped-more long room advances number puts stops tapped =
+-- further samples, and the bits of the last
+module _ (from old new : TapState) (rule one two three : StopRule) (start before mid behind : List Port1Arrival)
+    (ls more : List ℕ) (sample : ℕ) (e : Edges) (count next past : ℕ) (xs ys : List Arrival) where
+  pub tapped-more : length start ≡ length before → count + 32 ≤ length before →
+      AdvancesTap old more (with_sample sample (bits_of_edges e)) new →
+      length xs ≤ 16 → next ≡ count + length xs → PutsArrivals count before xs mid →
+      AdvancesStops one (with_sample sample (bit_on First e.first)) xs two →
+      length ys ≤ 16 → past ≡ next + length ys → PutsArrivals next mid ys behind →
+      AdvancesStops two (with_sample sample (bit_on Second e.second)) ys three →
+      HasTapped from rule start ls old one before count →
+      HasTapped from rule start (ls ++ more) new three behind past
+  tapped-more long room advances few-first number-first put-first stops-first few-second number-second put-second
+      stops-second tapped =
       let zs : List Arrival = tapped.xs in
-      let count-all : next ≡ length (zs ++ xs) = omega (arith, number, tapped.number, length-append zs xs) in record {
-        ts = tapped.ts ++ ts;
-        xs = zs ++ xs;
+      let puts = puts-further count next before mid behind xs ys number-first put-first put-second in
+      let both : AdvancesStops one (with_sample sample (bits_of_edges e)) (xs ++ ys) three =
+      rw (map-append {B = Timed} (λ x. (sample, x)) (bit_on First e.first) (bit_on Second e.second))
+      (stops-further one two three (with_sample sample (bit_on First e.first))
+      (with_sample sample (bit_on Second e.second)) xs ys stops-first stops-second) in
+      let count-all : past ≡ length (zs ++ (xs ++ ys)) =
+      omega (arith, number-first, number-second, tapped.number, length-append zs (xs ++ ys), length-append xs ys) in
+      record {
+        ts = tapped.ts ++ with_sample sample (bits_of_edges e);
+        xs = zs ++ (xs ++ ys);
         number = count-all;
-        fits = omega (arith, count-all, number, long, room);
+        fits = omega (arith, count-all, number-first, number-second, few-first, few-second, long, room);
         put = puts.put start zs tapped.number long tapped.put;
-        advances = advances-further from old new ls more tapped.ts ts tapped.advances advances;
-        rested = stops-further rule one two tapped.ts ts zs xs tapped.rested stops;
+        advances = advances-further from old new ls more tapped.ts (with_sample sample (bits_of_edges e))
+            tapped.advances advances;
+        rested = stops-further rule one three tapped.ts (with_sample sample (bits_of_edges e)) zs (xs ++ ys)
+            tapped.rested both;
       }
 
 -- what holds below a number, and of it, holds below the next
@@ -96,82 +113,40 @@ samples-next : (width : ℕ) (octets : List ℕ) (from n : ℕ) →
     samples_from width octets from (suc n) ≡ samples_from width octets from n ++ record_at width octets (from + n) ∷ []
 samples-next width octets from n = map-append (λ k. record_at width octets (from + k)) (places n) (n ∷ [])
 
-pub samples-further : (width : ℕ) (octets : List ℕ) (from m n : ℕ) →
-    samples_from width octets from (m + n)
-    ≡ samples_from width octets from m ++ samples_from width octets (from + m) n
-samples-further width octets from m zero =
-    let none : m + 0 ≡ m = omega arith in
-    ap (samples_from width octets from) none ∙ sym (append-nil (samples_from width octets from m))
-samples-further width octets from m (suc n) =
-    let next : m + suc n ≡ suc (m + n) = omega arith in
-    let here : from + (m + n) ≡ (from + m) + n = omega arith in
+samples-more : (width : ℕ) (octets : List ℕ) (from at sample n : ℕ) → from ≤ at →
+    ((k : ℕ) → k < n → record_at width octets (at + k) ≡ sample) →
+    samples_from width octets from (at + n - from) ≡ samples_from width octets from (at - from) ++ replicate n sample
+samples-more width octets from at sample zero order same =
+    let none : at + 0 - from ≡ at - from = omega arith in
+    rw none (sym (append-nil (samples_from width octets from (at - from))))
+samples-more width octets from at sample (suc n) order same =
+    let next : at + suc n - from ≡ suc (at + n - from) = omega (arith, order) in
+    let here : from + (at + n - from) ≡ at + n = omega (arith, order) in
+    let one : suc n ≡ n + 1 = omega arith in
+    let before = samples-more width octets from at sample n order (λ k less. same k (omega (arith, less))) in
     ap (samples_from width octets from) next
-    ∙ samples-next width octets from (m + n)
-    ∙ ap (λ xs. xs ++ record_at width octets (from + (m + n)) ∷ []) (samples-further width octets from m n)
-    ∙ append_assoc (samples_from width octets from m) (samples_from width octets (from + m) n)
-    (record_at width octets (from + (m + n)) ∷ [])
-    ∙ ap (λ xs. samples_from width octets from m ++ xs)
-    (ap (λ k. samples_from width octets (from + m) n ++ record_at width octets k ∷ []) here
-    ∙ sym (samples-next width octets (from + m) n))
-
--- some that are the same
-samples-same : (width : ℕ) (octets : List ℕ) (at sample n : ℕ) →
-    ((k : ℕ) → k < n → record_at width octets (at + k) ≡ sample) → samples_from width octets at n ≡ replicate n sample
-samples-same width octets at sample zero same = refl
-samples-same width octets at sample (suc n) same =
-    let one : suc n ≡ n + 1 = omega arith in
-    samples-next width octets at n
-    ∙ ap (λ xs. xs ++ record_at width octets (at + n) ∷ [])
-    (samples-same width octets at sample n (λ k less. same k (omega (arith, less))))
-    ∙ ap (λ s. replicate n sample ++ s ∷ []) (same n (omega arith))
-    ∙ sym (ap (λ k. replicate k sample) one ∙ replicate-more n sample)
-
-number-one : (x : ℕ) (xs : List ℕ) → record_number (take 1 (x ∷ xs)) ≡ x
-number-one x xs = omega arith
-
--- octets are samples
-pub samples-octets : (octets : List ℕ) (at n : ℕ) → at + n ≤ length octets →
-    samples_from 1 octets at n ≡ take n (drop at octets)
-samples-octets octets at zero within = refl
-samples-octets octets at (suc n) within =
-    let inside : n < length (drop at octets) = rw (length-drop at octets) (omega (arith, within)) in
-    let there : at + n < length octets = omega (arith, within) in
-    let one : suc n ≡ n + 1 = omega arith in
-    let here : (at + n) * 1 ≡ at + n = omega arith in
-    samples-next 1 octets at n
-    ∙ ap (λ xs. xs ++ record_at 1 octets (at + n) ∷ []) (samples-octets octets at n (omega (arith, within)))
-    ∙ ap (λ x. take n (drop at octets) ++ x ∷ [])
-    (ap (λ k. record_number (take 1 (drop k octets))) here
-    ∙ ap (λ l. record_number (take 1 l)) (drop_more octets (at + n) 0 there)
-    ∙ number-one (get_or octets (at + n) 0) (drop (at + n + 1) octets)
-    ∙ sym (get_or-drop at octets n 0))
-    ∙ sym (ap (λ k. take k (drop at octets)) one ∙ take_more (drop at octets) n 0 inside)
+    ∙ samples-next width octets from (at + n - from)
+    ∙ ap (λ xs. xs ++ record_at width octets (from + (at + n - from)) ∷ []) before
+    ∙ ap (λ s. (samples_from width octets from (at - from) ++ replicate n sample) ++ s ∷ [])
+    (ap (record_at width octets) here ∙ same n (omega arith))
+    ∙ append_assoc (samples_from width octets from (at - from)) (replicate n sample) (sample ∷ [])
+    ∙ ap (λ xs. samples_from width octets from (at - from) ++ xs)
+    (sym (ap (λ k. replicate k sample) one ∙ replicate-more n sample))
 
 map-replicate : (f : ℕ → ℕ) (n s : ℕ) → map f (replicate n s) ≡ replicate n (f s)
 map-replicate f zero s = refl
 map-replicate f (suc n) s = ap (λ xs. f s ∷ xs) (map-replicate f n s)
 
 -- and their levels
-pub levels-same : (wires : Wires) (width : ℕ) (octets : List ℕ) (at sample level n : ℕ) →
+pub levels-more : (wires : Wires) (width : ℕ) (octets : List ℕ) (from at sample level n : ℕ) → from ≤ at →
     ((k : ℕ) → k < n → record_at width octets (at + k) ≡ sample) → level ≡ channels wires sample →
-    map (channels wires) (samples_from width octets at n) ≡ replicate n level
-levels-same wires width octets at sample level n same is-level =
-    ap (map (channels wires)) (samples-same width octets at sample n same)
-    ∙ map-replicate (channels wires) n sample ∙ ap (replicate n) (sym is-level)
-
-pub levels-further : (wires : Wires) (width : ℕ) (octets : List ℕ) (from at n : ℕ) → from ≤ at →
     map (channels wires) (samples_from width octets from (at + n - from))
-    ≡ map (channels wires) (samples_from width octets from (at - from))
-    ++ map (channels wires) (samples_from width octets at n)
-levels-further wires width octets from at n order =
-    let all : at + n - from ≡ (at - from) + n = omega (arith, order) in
-    let there : from + (at - from) ≡ at = omega (arith, order) in
-    ap (λ k. map (channels wires) (samples_from width octets from k)) all
-    ∙ ap (map (channels wires)) (samples-further width octets from (at - from) n)
-    ∙ map-append (channels wires) (samples_from width octets from (at - from))
-    (samples_from width octets (from + (at - from)) n)
-    ∙ ap (λ k. map (channels wires) (samples_from width octets from (at - from))
-    ++ map (channels wires) (samples_from width octets k n)) there
+    ≡ map (channels wires) (samples_from width octets from (at - from)) ++ replicate n level
+levels-more wires width octets from at sample level n order same is-level =
+    ap (map (channels wires)) (samples-more width octets from at sample n order same)
+    ∙ map-append (channels wires) (samples_from width octets from (at - from)) (replicate n sample)
+    ∙ ap (λ xs. map (channels wires) (samples_from width octets from (at - from)) ++ xs)
+    (map-replicate (channels wires) n sample ∙ ap (replicate n) (sym is-level))
 
 -- no samples more, and some behind others
 pub taps-none : (t : TapState) (r : StopRule) (arrivals : List Port1Arrival) (count : ℕ) →

@@ -3,7 +3,6 @@
 
 mod arrival;
 mod bits;
-mod block;
 mod call_bits;
 mod calls;
 mod clocking;

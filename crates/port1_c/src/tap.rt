@@ -7,13 +7,16 @@ ghost use Rattle.bus_tap.specs.Recorded.{record_at};
 ghost use Rattle.bus_tap.specs.Tapped.{channels};
 ghost use Rattle.port1_c.specs.Tap.{HasTapped, TapsMore, TapsRuns, samples_from};
 
-use crate::arrival::Port1Arrival;
-use crate::block::{MOST_ARRIVALS, MOST_OF_BLOCK, put_sample, take_block};
+use crate::arrival::{Port1Arrival, put_bit};
 use crate::wires::Port1Wires;
+use bus_pairing::Line;
 use bus_tap::{SampleLimit, StopRule, Tap, TapWords, Wires, number_of};
 
 /// The most samples of a recording.
 pub(crate) const MOST: u64 = 1 << 60;
+
+/// What a sample may bring: a bit of each line, behind fifteen 1s.
+pub(crate) const MOST_ARRIVALS: usize = 32;
 
 /// A tap between two calls. Its layout is that of `c/include/port1.h`.
 #[repr(C)]
@@ -52,7 +55,22 @@ fn take_some(
         Err(SampleLimit) => unreachable!(),
     };
     let last = tap.samples() - 1;
-    put_sample(last, taken.edges, stops, arrivals, arrived);
+    put_bit(
+        Line::First,
+        last,
+        taken.edges.first,
+        stops,
+        arrivals,
+        arrived,
+    );
+    put_bit(
+        Line::Second,
+        last,
+        taken.edges.second,
+        stops,
+        arrivals,
+        arrived,
+    );
     taken.samples
 }
 
@@ -155,43 +173,6 @@ fn alike(octets: &[u8], width: usize, at: usize, end: usize, sample: u64) -> usi
     count
 }
 
-/// Takes samples of `width` octets each, from number `at` on and before number `end`: 64, or some that are the same, up
-/// to those that bring bits. Puts these behind the first `arrived` arrivals, and returns how many samples.
-fn take_front(
-    tap: &mut Tap,
-    stops: &mut StopRule,
-    wires: &Wires,
-    octets: &[u8],
-    width: usize,
-    at: usize,
-    end: usize,
-    arrivals: &mut [Port1Arrival],
-    arrived: &mut usize,
-) -> usize
-    requires room { arrived.old + 32 ≤ length arrivals.old }
-    requires width { (1 ≤ width) × (width ≤ 8) }
-    requires some { at < end }
-    requires within { end * width ≤ length octets.now }
-    requires fits { tap.old.samples + (end - at) ≤ most_places }
-    ensures count { (1 ≤ result) × (at + result ≤ end) }
-    ensures long { (length arrivals.new ≡ length arrivals.old) × (arrived.new ≤ length arrivals.old) }
-    ensures samples { tap.new.samples ≡ tap.old.samples + result }
-    ensures taken { TapsMore tap.old stops.old arrivals.old arrived.old
-        (map (channels wires.now) (samples_from width octets.now at result)) tap.new stops.new arrivals.new
-        arrived.new }
-{
-    if width == 1 && tap.takes_blocks() && arrivals.len() - *arrived >= MOST_OF_BLOCK {
-        if let Some(block) = octets[at..end].first_chunk::<64>() {
-            take_block(tap, stops, wires, block, arrivals, arrived);
-            return 64;
-        }
-    }
-    let sample = sample_at(octets, width, at);
-    let count = alike(octets, width, at, end, sample) as u64;
-    let levels = wires.channels(sample);
-    take_some(tap, stops, levels, count, arrivals, arrived) as usize
-}
-
 /// Takes samples of `width` octets each, from number `at` on and before number `end`, while there is room for what one
 /// may bring, and puts the bits that arrive. `at` is then the next sample to take.
 pub(crate) fn take_samples(
@@ -217,8 +198,9 @@ pub(crate) fn take_samples(
         arrivals.new arrived.new }
 {
     while *at < end && arrivals.len() - *arrived >= MOST_ARRIVALS {
-        *at += take_front(
-            tap, stops, wires, octets, width, *at, end, arrivals, arrived,
-        );
+        let sample = sample_at(octets, width, *at);
+        let count = alike(octets, width, *at, end, sample) as u64;
+        let levels = wires.channels(sample);
+        *at += take_some(tap, stops, levels, count, arrivals, arrived) as usize;
     }
 }

@@ -10,9 +10,8 @@ ghost use Rattle.port1_c.specs.Tap.{IsTap, Taps, TapsRuns, samples_from, wires_t
 ghost use Rattle.port1_c.specs.declared.status.TheConstants.{OK, PLACE_LIMIT, BAD_STATE, BAD_ARGUMENT, NO_ROOM};
 
 use crate::arrival::Port1Arrival;
-use crate::block::MOST_ARRIVALS;
 use crate::status::{BAD_ARGUMENT, BAD_STATE, NO_ROOM, OK, PLACE_LIMIT};
-use crate::tap::{MOST, Port1Tap, take_run, take_runs, take_samples};
+use crate::tap::{MOST, MOST_ARRIVALS, Port1Tap, take_run, take_runs, take_samples};
 use crate::wires::Port1Wires;
 use bus_tap::{StopRule, Tap};
 

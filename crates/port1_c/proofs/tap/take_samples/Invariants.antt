@@ -1,4 +1,4 @@
-use Rattle.std.proofs.Common.{◌≡◌, ◌+◌, ◌-◌, ◌≤◌, length, map}
+use Rattle.std.proofs.Common.{◌+◌, ◌-◌, ◌≤◌, length, map}
 use Rattle.bus_bits.specs.Limits.{most_places}
 use Rattle.bus_tap.specs.Tapped.{channels}
 use Rattle.port1_c.specs.Tap.{HasTapped, samples_from}
@@ -10,7 +10,6 @@ invariant-loop-at l = record {
   order : l.initial.at ≤ l.at;
   within : l.at ≤ l.end;
   fits : l.tap.samples + (l.end - l.at) ≤ most_places;
-  long : length l.arrivals ≡ length l.initial.arrivals;
   arrived : l.arrived ≤ length l.arrivals;
   tapped : HasTapped l.initial.tap l.initial.stops l.initial.arrivals
       (map (channels l.wires) (samples_from l.width l.octets l.initial.at (l.at - l.initial.at))) l.tap l.stops
