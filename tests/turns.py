@@ -1,6 +1,6 @@
 """One file after another: the page says of a file what it says of it alone, whatever was shown before.
 
-A file that cannot be read takes away what was shown, and is named.
+A file that cannot be read takes away what was shown, and is named. Where reading is stopped, all is as it was before.
 """
 
 import json
@@ -54,6 +54,7 @@ def choose_by_hand(session: browser.Session, folder: Path) -> None:
     session.wait_until(IS_READ)
     session.value("page1.navigation.narrow(2)")
     session.value("page1.navigation.timeline.zoomBy(64)")
+    session.wait_until("!/^0\\.0+ to /.test(document.querySelector('#timeline .where').textContent)")
 
 
 def show_incident(session: browser.Session, _: Path) -> None:
@@ -131,7 +132,90 @@ def problems_of_faults(page: Path, name: str) -> List[str]:
         return problems
 
 
+# A capture of three reads. While reads are held, those after so many bring nothing, but for the head of a file.
+LONG = b"1" * (2 * (1 << 22) + 1000)
+HOLD = """void (() => {
+  self.held ??= Blob.prototype.arrayBuffer;
+  let reads = 0;
+  Blob.prototype.arrayBuffer = function () {
+    reads += this.size > 65536 ? 1 : 0;
+    return reads > %d ? new Promise(() => undefined) : self.held.call(this);
+  };
+})()"""
+RELEASE = "void (Blob.prototype.arrayBuffer = self.held)"
+
+# What the page has while it reads a file: how far it is, and a button that can be seen.
+PROGRESS = "document.getElementById('progress')"
+IS_HELD = f"!{PROGRESS}.hidden && {PROGRESS}.value > 0.3 && {PROGRESS}.value < 0.6"
+IS_OFFERED = "getComputedStyle(document.getElementById('stop')).visibility === 'visible'"
+
+
+def by_button(session: browser.Session) -> None:
+    session.wait_until(IS_OFFERED)
+    session.value("document.getElementById('stop').click()")
+
+
+def by_key(session: browser.Session) -> None:
+    session.press("Escape")
+
+
+def invert(session: browser.Session) -> None:
+    """Reads the file that is shown with a line inverted."""
+    session.value("document.getElementById('inverted-2').checked = true")
+    session.value("document.getElementById('settings').requestSubmit()")
+
+
+def problems_of_stop(
+    session: browser.Session, act: Callable[[], None], stop: Callable[[browser.Session], None], reads: int = 1
+) -> List[str]:
+    """Whether all is as it was before a file was read, which is held after so many reads, and what is said of it."""
+    before = session.value(f"[document.body.dataset.state, ...{SAID}]")
+    session.value(HOLD % reads)
+    act()
+    session.wait_until("document.body.classList.contains('reading')")
+    stop(session)
+    session.wait_until("/^Stopped: /.test(document.getElementById('status').textContent)")
+    session.wait_until("!document.body.classList.contains('reading')")
+    session.value(RELEASE)
+    after = session.value(f"[document.body.dataset.state, ...{SAID}]")
+    # A field without a channel offers none, once a file was looked at.
+    problems = [f"{one!r}, before {own!r}" for one, own in zip(after, before) if one != own and (one, own) != ("none", "")]
+    shown = session.value("['reading', 'progress'].filter((id) => !document.getElementById(id).hidden)")
+    is_seen = session.value("document.getElementById('status').offsetHeight > 9")
+    return problems + [f"{each} is still shown" for each in shown] + ([] if is_seen else ["the sentence is not seen"])
+
+
+def problems_of_stops(page: Path, name: str) -> List[str]:
+    """Whether reading can be stopped, and what was shown before stays; and that files are read afterwards."""
+    problems = []
+    with tempfile.TemporaryDirectory(prefix="port1-") as top, opened(name, address_of(page)) as session:
+        long = Path(top, "long.bits")
+        long.write_bytes(LONG)
+
+        def give_long() -> None:
+            session.set_files("#files", [long])
+            session.wait_until(IS_HELD)
+
+        stops = [by_button] if name in browser.WEBKIT else [by_button, by_key]
+        for stop in stops:
+            for what, show in [("nothing", lambda *_: None), *BEFORE]:
+                session.visit(address_of(page))
+                show(session, Path(top))
+                told = problems_of_stop(session, give_long, stop)
+                problems += [f"{what}, {stop.__name__}: {each}" for each in told]
+        choose_by_hand(session, Path(top))
+        session.value(RELEASE)
+        problems += [f"the same file: {each}" for each in problems_of_stop(session, lambda: invert(session), stops[-1], 0)]
+        alone = ("a capture", {"silent.bits": SILENT})
+        give(session, Path(top), alone[1])
+        said = text_at(session, "#verdict-short")
+        problems += [] if "Station 2" in said else [f"afterwards it says {said!r} of {alone[0]}"]
+        return problems + [f"the console says {text}" for text in session.complaints()]
+
+
 def tests_of(page: Path) -> Iterator[Test]:
+    for name in [*browser.BROWSERS, *browser.WEBKIT]:
+        yield Test(f"{name}: reading that is stopped", partial(problems_of_stops, page, name))
     for name in browser.BROWSERS:
         yield Test(f"{name}: one file after another", partial(problems_of_turns, page, name))
         yield Test(f"{name}: a file that cannot be read", partial(problems_of_faults, page, name))

@@ -191,8 +191,8 @@ def problems_of_keys(page: Path, name: str) -> List[str]:
             except browser.Fault:
                 problems.append(f"{' '.join(keys)}: {expression} is not so")
         shown = set(session.value("[...document.querySelectorAll('#help kbd')].map((key) => key.textContent)"))
-        named = {"ArrowLeft": "←", "ArrowRight": "→", "ArrowDown": "↓", "ArrowUp": "↑"}
-        tried = {named.get(key, key) for keys, _ in KEYS for key in keys} - {"Tab", "Escape", "0"}
+        named = {"ArrowLeft": "←", "ArrowRight": "→", "ArrowDown": "↓", "ArrowUp": "↑", "Escape": "Esc"}
+        tried = {named.get(key, key) for keys, _ in KEYS for key in keys} - {"Tab", "0"}
         problems += [f"the help has no {key}" for key in tried - shown]
         return problems + [f"the console says {text}" for text in session.complaints()]
 

@@ -350,6 +350,16 @@ uint32_t port1_tap_push(struct port1_tap *tap, uint64_t sample, uint64_t *count,
 uint32_t port1_tap_feed(struct port1_tap *tap, const uint8_t *octets, uint64_t count, uint32_t width, uint64_t *at,
                         struct port1_arrival *arrivals, uint64_t room, uint64_t *arrived);
 
+/* Takes runs of samples of an octet each, from run `*at` on, until the arrivals have room for fewer than PORT1_TAP_ROOM
+ * more. A run is a number: its lowest octet is a sample, and the rest says how many are the same, as `port1-sample
+ * --runs` reads them. `*at` is then the next run to take, of which those samples are left that were not taken. No other
+ * run changes.
+ *
+ * PORT1_OK: `*at` is `count`, or call again, once the arrivals have been read. PORT1_PLACE_LIMIT: with run `*at` there
+ * would be more than 2^60 samples; those before were taken. PORT1_NO_ROOM, PORT1_BAD_STATE: as port1_tap_push. */
+uint32_t port1_tap_feed_runs(struct port1_tap *tap, uint64_t *runs, uint64_t count, uint64_t *at,
+                             struct port1_arrival *arrivals, uint64_t room, uint64_t *arrived);
+
 /* The rule of rest: 24 octets, for stations that drive their clock only while they send. 0 is one by which the second
  * line never comes to rest. Read it; write nothing into it. */
 struct port1_rest {

@@ -93,6 +93,11 @@ static void tap_feed(void) {
     for (at = 0; at < sizeof samples;)
         port1_tap_feed(&tap, samples, sizeof samples, 1, &at, arrivals, PORT1_TAP_ROOM, &arrived);
 }
+static void tap_feed_runs(void) {
+    uint64_t runs[] = {0x200, 0x20a, 0x20f, 0x80f, 0x200, 0x10a, 0x205, 0x201};
+    for (at = 0; at < sizeof runs / sizeof *runs;)
+        port1_tap_feed_runs(&tap, runs, sizeof runs / sizeof *runs, &at, arrivals, PORT1_TAP_ROOM, &arrived);
+}
 static void rest_init(void) { port1_rest_init(&rest, PORT1_SILENCE); }
 static void rest_push(void) {
     static const struct port1_arrival arrival = {2, 1};
@@ -136,6 +141,7 @@ static const struct {
     {"port1_tap_init", tap_init},
     {"port1_tap_push", tap_push},
     {"port1_tap_feed", tap_feed},
+    {"port1_tap_feed_runs", tap_feed_runs},
     {"port1_rest_init", rest_init},
     {"port1_rest_push", rest_push},
     {"port1_rest_feed", rest_feed},

@@ -57,6 +57,59 @@ static void tap_runs(void) {
     WANT(tap.samples == LIMIT && tap.first.bits.last == LIMIT - 2 && tap.second.bits.count == 1);
 }
 
+/* A run: so many samples that are the same. */
+static uint64_t run_of(uint64_t count, uint64_t sample) { return count << 8 | sample; }
+
+/* The same by blocks of runs, whatever room there is: the run that the room ends in has the rest of its samples. */
+static void tap_blocks_of_runs(void) {
+    static const uint64_t given[] = {0x303, 0x5, 0x402, 0x301, 0x10c, 0x107, 0x200, 0x2ff, 0x306, 0x301, 0x20a, 0x805};
+    enum { GIVEN = sizeof given / sizeof *given };
+    static struct port1_arrival wanted[32 * GIVEN], got[32 * GIVEN];
+    for (uint64_t room = 0; room < 3 * PORT1_TAP_ROOM; room++) {
+        static struct port1_tap one;
+        uint64_t runs[GIVEN], count = 0, all = 0, at = 0, arrived = 9;
+        memcpy(runs, given, sizeof runs);
+        WANT(port1_tap_init(&one, &wires, 1, 2, 3) == PORT1_OK && port1_tap_init(&tap, &wires, 1, 2, 3) == PORT1_OK);
+        for (size_t k = 0; k < GIVEN; k++)
+            for (uint64_t left = given[k] >> 8; left > 0; count += arrived)
+                WANT(port1_tap_push(&one, given[k] & 255, &left, wanted + count, PORT1_TAP_ROOM, &arrived) == PORT1_OK);
+        arrived = 9;
+        if (room < PORT1_TAP_ROOM) {
+            WANT(port1_tap_feed_runs(&tap, runs, GIVEN, &at, got, room, &arrived) == PORT1_NO_ROOM);
+            WANT(at == 0 && arrived == 9 && tap.samples == 0 && memcmp(runs, given, sizeof runs) == 0);
+            continue;
+        }
+        for (; at < GIVEN; all += arrived) {
+            WANT(port1_tap_feed_runs(&tap, runs, GIVEN, &at, got + all, room, &arrived) == PORT1_OK);
+            WANT(at == GIVEN || arrived + PORT1_TAP_ROOM > room);
+            WANT(at == GIVEN || ((runs[at] & 255) == (given[at] & 255) && runs[at] >> 8 > 0 && runs[at] <= given[at]));
+            WANT(at == GIVEN || memcmp(runs + at + 1, given + at + 1, (GIVEN - at - 1) * sizeof *runs) == 0);
+        }
+        WANT(all == count && count > 4 && memcmp(got, wanted, all * sizeof *got) == 0 && memcmp(&tap, &one, sizeof one) == 0);
+    }
+}
+
+/* Runs of more samples than there may be are not begun; those before them are taken. No tap takes any. */
+static void tap_runs_refused(void) {
+    const uint64_t most = ((uint64_t)1 << 56) - 1;
+    uint64_t runs[20], at = 0, arrived = 9;
+    for (size_t k = 0; k < 20; k++)
+        runs[k] = run_of(most, 6);
+    WANT(port1_tap_init(&tap, &wires, 1, 2, 0) == PORT1_OK);
+    WANT(port1_tap_feed_runs(&tap, runs, 20, &at, arrivals, PORT1_TAP_ROOM, &arrived) == PORT1_PLACE_LIMIT);
+    WANT(at == 16 && arrived == 0 && tap.samples == 16 * most && runs[16] == run_of(most, 6));
+    runs[16] = run_of(17, 6);
+    WANT(port1_tap_feed_runs(&tap, runs, 20, &at, arrivals, PORT1_TAP_ROOM, &arrived) == PORT1_PLACE_LIMIT && at == 16);
+    runs[16] = run_of(16, 6), runs[17] = 6, runs[18] = run_of(1, 6);
+    WANT(port1_tap_feed_runs(&tap, runs, 20, &at, arrivals, PORT1_TAP_ROOM, &arrived) == PORT1_PLACE_LIMIT && at == 18);
+    WANT(tap.samples == LIMIT);
+    at = 21;
+    WANT(port1_tap_feed_runs(&tap, runs, 20, &at, arrivals, PORT1_TAP_ROOM, &arrived) == PORT1_OK && at == 21);
+    tap.second_data.others = 2, at = 3, arrived = 9;
+    WANT(port1_tap_feed_runs(&tap, runs, 20, &at, arrivals, PORT1_TAP_ROOM, &arrived) == PORT1_BAD_STATE);
+    WANT(at == 3 && arrived == 9 && runs[3] == run_of(most, 6));
+}
+
 /* What no tap has, and what may not be asked for; nothing changes. */
 static void tap_refusals(void) {
     static const struct {
@@ -344,6 +397,8 @@ int main(void) {
     tap_bits();
     tap_facts();
     tap_runs();
+    tap_blocks_of_runs();
+    tap_runs_refused();
     tap_refusals();
     any_state();
     rest_of_a_line();

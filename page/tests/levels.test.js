@@ -2,16 +2,17 @@
 
 import assert from "node:assert/strict";
 import { test } from "node:test";
-import { KeptBits } from "../src/engine/bits.js";
+import { KeptMarks } from "../src/engine/marks.js";
 import { warningsOfLevels } from "../src/worker/levels.js";
 import { Talk } from "../../scripts/modules/tests/support/bus_traffic.js";
 
 const WIRES = ["TXC", "TXD", "RXC", "RXD"];
 
-/** Bits of lines of which each octet is the same. */
+/** Bits of lines, of each always the same eight; with a clock each, one arrives after the other. */
 function bitsOf(...octets) {
-  const bits = new KeptBits();
-  for (let block = 0; block < 3; block++) bits.take(octets.map((octet) => new Uint8Array(1000).fill(octet)), 8000);
+  const bits = new KeptMarks(octets.length > 1 ? "arrivals" : 1);
+  for (let at = 0; at < 24000; at++) octets.forEach((octet, line) => bits.packer.add(2 * line + ((octet >> (at & 7)) & 1)));
+  bits.end();
   return bits;
 }
 
@@ -19,7 +20,7 @@ const [REST, ZERO, MOSTLY_ONES, MOSTLY_ZEROS] = [0xff, 0, 0x7e, 0x81];
 const NOTHING = new Talk().listing;
 const FRAMES = new Talk().frame(1, 1, 1, 0).frame(2, 3, 1, 128).listing;
 
-/** @type {[string, string[], KeptBits, import("../../scripts/modules/listing/listing.js").Listing, string[]][]} */
+/** @type {[string, string[], KeptMarks, import("../../scripts/modules/listing/listing.js").Listing, string[]][]} */
 const CASES = [
   ["both well", WIRES, bitsOf(MOSTLY_ONES, MOSTLY_ONES), FRAMES, []],
   ["both well, without frames", WIRES, bitsOf(MOSTLY_ONES, MOSTLY_ONES), NOTHING, []],
@@ -29,7 +30,7 @@ const CASES = [
   ["a dead wire at 1, and one at 0", WIRES, bitsOf(REST, ZERO), NOTHING, []],
   ["one clock for both", ["C", "A", "B"], bitsOf(MOSTLY_ONES, MOSTLY_ZEROS), NOTHING, ["2 inverted B"]],
   ["one line", ["C", "A"], bitsOf(MOSTLY_ZEROS), NOTHING, ["1 inverted A"]],
-  ["no bit", WIRES, new KeptBits(), NOTHING, []],
+  ["no bit", WIRES, new KeptMarks("arrivals"), NOTHING, []],
 ];
 
 for (const [name, channels, bits, listing, wanted] of CASES) {

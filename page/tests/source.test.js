@@ -4,7 +4,9 @@
 import assert from "node:assert/strict";
 import { test } from "node:test";
 import { Fault } from "../../scripts/modules/fault.js";
-import { PackedReader, Packer, TextReader } from "../src/engine/capture.js";
+import { FORMS } from "../../scripts/modules/capture/forms.js";
+import { PackedReader, TextReader } from "../src/engine/capture.js";
+import { Packer } from "../src/engine/marks.js";
 import { piecesOf } from "../src/worker/pieces.js";
 import { read } from "../src/worker/source.js";
 
@@ -94,10 +96,9 @@ for (const [name, kind, octets, lines, fault] of CAPTURES) {
   test(`captures in pieces of any size: ${name}`, () => {
     for (let size = 1; size <= octets.length; size++) {
       const bits = lines.map(() => "");
-      const sink = new Packer(kind, (blocks, count) => {
-        blocks.forEach((block, line) => {
-          for (let at = 0; at < count; at++) bits[line] += (block[at >> 3] >> (at & 7)) & 1;
-        });
+      const { width } = FORMS[kind];
+      const sink = new Packer(kind, (octets, count) => {
+        for (let at = 0; at < width * count; at++) bits[at % width] += (octets[at >> 3] >> (at & 7)) & 1;
       });
       const reader = name.startsWith("a text") ? new TextReader(kind, sink) : new PackedReader(kind, sink);
       const readAll = () => {

@@ -2,8 +2,7 @@
 
 import assert from "node:assert/strict";
 import { test } from "node:test";
-import { KeptArrivals } from "../src/engine/arrivals.js";
-import { KeptBits } from "../src/engine/bits.js";
+import { KeptMarks } from "../src/engine/marks.js";
 import { ListingReader } from "../../scripts/modules/listing/read.js";
 import { structureOf } from "../src/worker/structure.js";
 
@@ -14,10 +13,9 @@ const FRAME = "00001000" + "11000001" + "00000000" + "1011111" + "0" + "1" + "10
 
 /** Bits of two lines, of which the first rests. */
 function keptOf(text) {
-  const bits = new KeptBits();
-  const octets = new Uint8Array(Math.ceil(text.length / 8));
-  [...text].forEach((bit, at) => (octets[at >> 3] |= Number(bit) << (at & 7)));
-  bits.take([new Uint8Array(octets.length).fill(255), octets], text.length);
+  const bits = new KeptMarks(2);
+  for (const bit of text) bits.packer.add(1 + 2 * Number(bit));
+  bits.end();
   return bits;
 }
 
@@ -43,13 +41,14 @@ test("where the capture begins or ends at a frame, there is no flag", () => {
 });
 
 test("of a line with a clock of its own, each bit stands where it arrived", () => {
-  const bits = new KeptArrivals();
-  for (let place = 0; place < 100; place++) bits.push(0, 1);
+  const bits = new KeptMarks("arrivals");
+  const from = 100; // the first line's last bit before the second line's first
+  for (let place = 0; place < from; place++) bits.packer.add(1);
   [...(FLAG + FRAME + FLAG)].forEach((bit, at) => {
-    if (at !== 20) bits.push(0, 1); // there are two bits of the second line at one place
-    bits.push(1, Number(bit));
+    if (at !== 20) bits.packer.add(1); // there are two bits of the second line at one place
+    bits.packer.add(2 + Number(bit));
   });
-  const from = bits.places.of(0);
+  bits.end();
   assert.deepEqual(bits.between(1, 0, from + 2).map(({ place, digit }) => [place - from, digit]), [[0, 0], [1, 1]]);
   const { parts, zeros } = structureOf(listed(`2 ${from + 8} ${from + 48} frame 108300fde5`), bits, 0);
   assert.deepEqual(zeros, [from + 8 + 24 + 7 - 1]);

@@ -1,9 +1,10 @@
 -- Samples that are taken, and bits that are put.
-use Rattle.std.proofs.Common.{◌≡◌, ℕ, zero, suc, ◌+◌, ◌-◌, ◌<◌, ◌≤◌, List, [], ◌∷◌, ◌++◌, length, map, drop, replicate}
+use Rattle.std.proofs.Common.{◌≡◌, ℕ, zero, suc, ◌+◌, ◌-◌, ◌*◌, ◌/◌, ◌%◌, ◌<◌, ◌≤◌, List, [], ◌∷◌, ◌++◌, length, map}
+use Rattle.std.proofs.Common.{drop, replicate, flat_map, length-append}
 use Rattle.std.proofs.Common.{refl, sym, ap, ◌∙◌, arith, subst, inl, inr, get_or, slice_set, append_assoc, append-nil}
-use Rattle.std.proofs.Common.{length-append}
 use Rattle.std.proofs.lemmas.Bool.{cases_lt}
-use Rattle.std.proofs.lemmas.List.{map-append, length-map}
+use Rattle.std.proofs.lemmas.List.{drop-set, drop_more, map-append, length-map}
+use Rattle.std.proofs.lemmas.List.Concat.{flat_map-cons}
 use Rattle.std.proofs.Math.Seq.{drop-cons, set-append_seam}
 use Rattle.bus_line.specs.declared.line.Line.TheVariants.{First, Second}
 use Rattle.bus_tap.specs.Arrival.{Arrival}
@@ -17,8 +18,9 @@ use Rattle.bus_tap.specs.declared.wires.Wires.{Wires}
 use Rattle.bus_tap.specs.declared.sampler.Edges.{Edges}
 use Rattle.bus_tap.proofs.EachLemmas.{length-more}
 use Rattle.bus_tap.proofs.StopLemmas.{stops-further, stops-nothing}
-use Rattle.bus_tap.proofs.TapLemmas.{advances-further, advances-nothing, replicate-more}
-use Rattle.port1_c.specs.Tap.{HasTapped, PutsArrivals, coded, put_over, samples_from}
+use Rattle.bus_tap.proofs.TapLemmas.{advances-further, advances-nothing, replicate-both, replicate-more}
+use Rattle.port1_c.specs.Tap.{HasTapped, PutsArrivals, TapsMore, TapsRuns, coded, levels_from, put_over, run_levels}
+use Rattle.port1_c.specs.Tap.{samples_from}
 use Rattle.port1_c.specs.declared.arrival.Port1Arrival.{Port1Arrival}
 
 -- one arrival more
@@ -145,3 +147,90 @@ levels-more wires width octets from at sample level n order same is-level =
     ∙ map-append (channels wires) (samples_from width octets from (at - from)) (replicate n sample)
     ∙ ap (λ xs. map (channels wires) (samples_from width octets from (at - from)) ++ xs)
     (map-replicate (channels wires) n sample ∙ ap (replicate n) (sym is-level))
+
+-- no samples more, and some behind others
+pub taps-none : (t : TapState) (r : StopRule) (arrivals : List Port1Arrival) (count : ℕ) →
+    TapsMore t r arrivals count [] t r arrivals count
+taps-none t r arrivals count = λ from rule start ls long tapped.
+    subst (λ l. HasTapped from rule start l t r arrivals count) (sym (append-nil ls)) tapped
+
+module _ (old mid new : TapState) (one two three : StopRule) (before between behind : List Port1Arrival)
+    (count next past : ℕ) (xs ys : List ℕ) where
+  pub taps-further : length between ≡ length before → TapsMore old one before count xs mid two between next →
+      TapsMore mid two between next ys new three behind past →
+      TapsMore old one before count (xs ++ ys) new three behind past
+  taps-further long first second = λ from rule start ls same tapped.
+      subst (λ l. HasTapped from rule start l new three behind past) (append_assoc ls xs ys)
+      (second from rule start (ls ++ xs) (same ∙ sym long) (first from rule start ls same tapped))
+
+-- the first of some runs
+pub levels-of-run : (wires : Wires) (runs : List ℕ) (i : ℕ) → i < length runs →
+    levels_from wires runs i ≡ run_levels wires (get_or runs i 0) ++ levels_from wires runs (i + 1)
+levels-of-run wires runs i inside =
+    ap (flat_map (run_levels wires)) (drop_more runs i 0 inside)
+    ∙ flat_map-cons (run_levels wires) (get_or runs i 0) (drop (i + 1) runs)
+
+-- what is left of a run
+pub left-of-run : (run left : ℕ) → left ≤ run / 256 →
+    ((run - 256 * (run / 256 - left)) / 256 ≡ left) × ((run - 256 * (run / 256 - left)) % 256 ≡ run % 256)
+left-of-run run left few = (omega (arith, few), omega (arith, few))
+
+run-parts : (wires : Wires) (run left : ℕ) → left ≤ run / 256 →
+    run_levels wires run ≡ replicate (run / 256 - left) (channels wires (run % 256))
+    ++ run_levels wires (run - 256 * (run / 256 - left))
+run-parts wires run left few =
+    let level : ℕ = channels wires (run % 256) in
+    let both : run / 256 ≡ (run / 256 - left) + left = omega (arith, few) in
+    ap (λ k. replicate k level) both
+    ∙ replicate-both (run / 256 - left) left level
+    ∙ ap (λ l. replicate (run / 256 - left) level ++ l)
+    (sym (ap (λ k. replicate k (channels wires ((run - 256 * (run / 256 - left)) % 256))) (left-of-run run left few).0
+    ∙ ap (λ k. replicate left (channels wires k)) (left-of-run run left few).1))
+
+-- runs that are taken
+pub runs-none : (t : TapState) (r : StopRule) (start : List Port1Arrival) (wires : Wires) (runs : List ℕ) (at : ℕ) →
+    TapsRuns t r start wires runs at t r start 0 runs at
+runs-none t r start wires runs at = record { levels = []; taken = refl; tapped = tapped-none t r start }
+
+module _ (from old new : TapState) (rule one two : StopRule) (start before behind : List Port1Arrival) (wires : Wires)
+    (runs : List ℕ) (at i count past left : ℕ) where
+  abbrev pub run-there : ℕ
+  run-there = get_or runs i 0
+
+  abbrev pub levels-taken : List ℕ
+  levels-taken = replicate (run-there / 256 - left) (channels wires (run-there % 256))
+
+  pub runs-part : i < length runs → length start ≡ length before → left ≤ run-there / 256 →
+      TapsRuns from rule start wires runs at old one before count runs i →
+      TapsMore old one before count levels-taken new two behind past →
+      TapsRuns from rule start wires runs at new two behind past
+      (slice_set runs i (run-there - 256 * (run-there / 256 - left))) i
+  runs-part inside long few tapped more =
+      let rest : List ℕ = levels_from wires runs (i + 1) in
+      let next : ℕ = run-there - 256 * (run-there / 256 - left) in
+      let there : levels_from wires (slice_set runs i next) i ≡ run_levels wires next ++ rest =
+      ap (flat_map (run_levels wires)) (drop-set runs i next inside)
+      ∙ flat_map-cons (run_levels wires) next (drop (i + 1) runs) in record {
+        levels = tapped.levels ++ levels-taken;
+        taken = tapped.taken
+            ∙ ap (λ l. tapped.levels ++ l) (levels-of-run wires runs i inside
+            ∙ ap (λ l. l ++ rest) (run-parts wires run-there left few)
+            ∙ append_assoc levels-taken (run_levels wires next) rest
+            ∙ ap (λ l. levels-taken ++ l) (sym there))
+            ∙ sym (append_assoc tapped.levels levels-taken (levels_from wires (slice_set runs i next) i));
+        tapped = more from rule start tapped.levels long tapped.tapped;
+      }
+
+  pub runs-whole : i < length runs → length start ≡ length before → left ≡ 0 →
+      TapsRuns from rule start wires runs at old one before count runs i →
+      TapsMore old one before count levels-taken new two behind past →
+      TapsRuns from rule start wires runs at new two behind past runs (i + 1)
+  runs-whole inside long none tapped more =
+      let all : run-there / 256 - left ≡ run-there / 256 = omega (arith, none) in record {
+        levels = tapped.levels ++ levels-taken;
+        taken = tapped.taken
+            ∙ ap (λ l. tapped.levels ++ l) (levels-of-run wires runs i inside
+            ∙ ap (λ k. replicate k (channels wires (run-there % 256)) ++ levels_from wires runs (i + 1)) (sym all))
+            ∙ sym (append_assoc tapped.levels levels-taken (levels_from wires runs (i + 1)));
+        tapped = more from rule start tapped.levels long tapped.tapped;
+      }

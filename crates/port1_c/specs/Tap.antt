@@ -1,13 +1,14 @@
 -- What a C caller's memory says of a tap, and of the bits that arrive.
-use Rattle.std.specs.Prelude.{◌≡◌, ◌≤◌, ℕ, ◌+◌, ◌==◌, not, List, ◌++◌, length, map, drop, Option, Some, None}
-use Rattle.std.specs.Prelude.{if◌then◌else◌}
+use Rattle.std.specs.Prelude.{◌≡◌, ◌≤◌, ℕ, ◌+◌, ◌/◌, ◌%◌, ◌==◌, not, List, ◌++◌, length, map, drop, replicate}
+use Rattle.std.specs.Prelude.{if◌then◌else◌, Option, Some, None}
+use Rattle.std.specs.List.{flat_map}
 use Rattle.bus_line.specs.Due.{places}
 use Rattle.bus_line.specs.declared.line.Line.TheVariants.{First, Second}
 use Rattle.bus_tap.specs.Arrival.{Arrival}
 use Rattle.bus_tap.specs.Recorded.{record_at}
 use Rattle.bus_tap.specs.Sampled.{Timed}
 use Rattle.bus_tap.specs.Stopped.{AdvancesStops}
-use Rattle.bus_tap.specs.Tapped.{TapState, AdvancesTap}
+use Rattle.bus_tap.specs.Tapped.{TapState, AdvancesTap, channels}
 use Rattle.bus_tap.specs.Words.{AreTapWords, tap_told}
 use Rattle.bus_tap.specs.declared.stop.StopRule.{StopRule}
 use Rattle.bus_tap.specs.declared.wires.Wire.{Wire}
@@ -60,6 +61,13 @@ pub record HasTapped (from : TapState) (rule : StopRule) (start : List Port1Arri
   pub advances : AdvancesTap from levels ts tap
   pub rested : AdvancesStops rule ts xs stops
 
+-- with these levels more, the bits that arrived were put behind those before
+abbrev pub TapsMore : TapState → StopRule → List Port1Arrival → ℕ → List ℕ → TapState → StopRule
+    → List Port1Arrival → ℕ → Type 0
+TapsMore old stops arrivals count more new behind put past =
+    (from : TapState) (rule : StopRule) (start : List Port1Arrival) (ls : List ℕ) → length start ≡ length arrivals
+    → HasTapped from rule start ls old stops arrivals count → HasTapped from rule start (ls ++ more) new behind put past
+
 -- a call took samples of these levels from a tap to the other
 abbrev pub Taps : Port1Tap → List Port1Arrival → List ℕ → Port1Tap → List Port1Arrival → ℕ → Type 0
 Taps old start levels new arrivals count =
@@ -68,3 +76,19 @@ Taps old start levels new arrivals count =
 -- samples of so many octets each, from number `at` on
 abbrev pub samples_from : ℕ → List ℕ → ℕ → ℕ → List ℕ
 samples_from width octets at n = map (λ k. record_at width octets (at + k)) (places n)
+
+-- the levels of a run, whose lowest octet is a sample and the rest how often that stands
+abbrev pub run_levels : Wires → ℕ → List ℕ
+run_levels wires run = replicate (run / 256) (channels wires (run % 256))
+
+-- the levels of runs, from number `at` on
+abbrev pub levels_from : Wires → List ℕ → ℕ → List ℕ
+levels_from wires runs at = flat_map (run_levels wires) (drop at runs)
+
+-- the first samples of these runs were taken, all but those that are left
+pub record TapsRuns (old : TapState) (rule : StopRule) (start : List Port1Arrival) (wires : Wires) (runs : List ℕ)
+    (at : ℕ) (new : TapState) (stops : StopRule) (arrivals : List Port1Arrival) (count : ℕ) (left : List ℕ) (past : ℕ)
+    : Type 0 where
+  pub levels : List ℕ
+  pub taken : levels_from wires runs at ≡ levels ++ levels_from wires left past
+  pub tapped : HasTapped old rule start levels new stops arrivals count

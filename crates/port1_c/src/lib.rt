@@ -43,5 +43,5 @@ pub use send::{
 };
 pub use sender::Port1Sender;
 pub use tap::Port1Tap;
-pub use tapping::{port1_tap_feed, port1_tap_init, port1_tap_push};
+pub use tapping::{port1_tap_feed, port1_tap_feed_runs, port1_tap_init, port1_tap_push};
 pub use wires::{Port1Wire, Port1Wires};

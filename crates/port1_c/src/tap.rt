@@ -1,15 +1,19 @@
 //! A tap in a caller's memory.
 
-ghost use Rattle.std.specs.Prelude.{◌≡◌, ◌+◌, ◌-◌, ◌*◌, ◌≤◌, ◌<◌, ◌++◌, List, ℕ, length, map, replicate};
+ghost use Rattle.std.specs.Prelude.{◌≡◌, ◌≢◌, ◌+◌, ◌-◌, ◌*◌, ◌/◌, ◌≤◌, ◌<◌, ◌++◌, List, ℕ, length, map, replicate};
+ghost use Rattle.std.specs.Prelude.{IsTrue, IsFalse, slice_get, slice_index};
 ghost use Rattle.bus_bits.specs.Limits.{most_places};
 ghost use Rattle.bus_tap.specs.Recorded.{record_at};
-ghost use Rattle.bus_tap.specs.Tapped.{TapState, channels};
-ghost use Rattle.port1_c.specs.Tap.{HasTapped, samples_from};
+ghost use Rattle.bus_tap.specs.Tapped.{channels};
+ghost use Rattle.port1_c.specs.Tap.{HasTapped, TapsMore, TapsRuns, samples_from};
 
 use crate::arrival::{Port1Arrival, put_bit};
 use crate::wires::Port1Wires;
 use bus_line::Line;
 use bus_tap::{SampleLimit, StopRule, Tap, TapWords, Wires, number_of};
+
+/// The most samples of a recording.
+pub(crate) const MOST: u64 = 1 << 60;
 
 /// What a sample may bring: a bit of each line, behind fifteen 1s.
 pub(crate) const MOST_ARRIVALS: usize = 32;
@@ -43,10 +47,8 @@ fn take_some(
     ensures long { length arrivals.new ≡ length arrivals.old }
     ensures few { arrived.new ≤ arrived.old + 32 }
     ensures samples { tap.new.samples ≡ tap.old.samples + result }
-    ensures taken { (from : TapState) (rule : StopRule) (start : List Port1Arrival) (ls : List ℕ)
-        → length start ≡ length arrivals.old
-        → HasTapped from rule start ls tap.old stops.old arrivals.old arrived.old
-        → HasTapped from rule start (ls ++ replicate result levels) tap.new stops.new arrivals.new arrived.new }
+    ensures taken { TapsMore tap.old stops.old arrivals.old arrived.old (replicate result levels) tap.new stops.new
+        arrivals.new arrived.new }
 {
     let taken = match tap.consume(levels, count) {
         Ok(taken) => taken,
@@ -82,18 +84,66 @@ pub(crate) fn take_run(
     arrivals: &mut [Port1Arrival],
     arrived: &mut usize,
 ) -> u64
-    requires none { arrived.old ≡ 0 }
+    requires within { arrived.old ≤ length arrivals.old }
     requires fits { tap.old.samples + count ≤ most_places }
     ensures left { result ≤ count }
+    ensures long { (length arrivals.new ≡ length arrivals.old) × (arrived.new ≤ length arrivals.old) }
+    ensures samples { tap.new.samples + result ≡ tap.old.samples + count }
     ensures all { 0 < result → length arrivals.old < arrived.new + 32 }
-    ensures taken { HasTapped tap.old stops.old arrivals.old (replicate (count - result) levels) tap.new stops.new
-        arrivals.new arrived.new }
+    ensures taken { TapsMore tap.old stops.old arrivals.old arrived.old (replicate (count - result) levels) tap.new
+        stops.new arrivals.new arrived.new }
 {
     let mut left = count;
     while left > 0 && arrivals.len() - *arrived >= MOST_ARRIVALS {
         left -= take_some(tap, stops, levels, left, arrivals, arrived);
     }
     left
+}
+
+/// Takes runs from number `at` on, while there is room for what a sample may bring, and puts the bits that arrive.
+/// `at` is then the next run to take, of which are left the samples that were not taken. Says whether the tap has room
+/// for them all; if not, this run was not begun.
+pub(crate) fn take_runs(
+    tap: &mut Tap,
+    stops: &mut StopRule,
+    wires: &Wires,
+    runs: &mut [u64],
+    at: &mut usize,
+    arrivals: &mut [Port1Arrival],
+    arrived: &mut usize,
+) -> bool
+    requires none { arrived.old ≡ 0 }
+    requires fits { tap.old.samples ≤ most_places }
+    ensures bound { (at.old ≤ at.new) × (at.old ≤ length runs.old → at.new ≤ length runs.old) }
+    ensures others { (length runs.new ≡ length runs.old)
+        × ((k : ℕ) → k ≢ at.new → slice_get runs.new k ≡ slice_get runs.old k) }
+    ensures limit { IsFalse result → (at.new < length runs.old)
+        × (most_places < tap.new.samples + slice_index runs.new at.new / 256) }
+    ensures all { IsTrue result → at.new < length runs.old → length arrivals.old < arrived.new + 32 }
+    ensures taken { TapsRuns tap.old stops.old arrivals.old wires.now runs.old at.old tap.new stops.new arrivals.new
+        arrived.new runs.new at.new }
+{
+    while *at < runs.len() {
+        let run = runs[*at];
+        let count = run / 256;
+        if count > MOST - tap.samples() {
+            return false;
+        }
+        let left = take_run(
+            tap,
+            stops,
+            wires.channels(run % 256),
+            count,
+            arrivals,
+            arrived,
+        );
+        if left > 0 {
+            runs[*at] = run - 256 * (count - left);
+            return true;
+        }
+        *at += 1;
+    }
+    true
 }
 
 /// A sample of `width` octets.

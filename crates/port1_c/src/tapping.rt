@@ -1,21 +1,19 @@
 //! What C calls to sample a recording.
 
-ghost use Rattle.std.specs.Prelude.{◌≡◌, ◌≢◌, ◌+◌, ◌-◌, ◌/◌, ◌≤◌, ◌<◌, ◌↔◌, ◌⊎◌, [], length, map, replicate};
+ghost use Rattle.std.specs.Prelude.{◌≡◌, ◌≢◌, ◌+◌, ◌-◌, ◌/◌, ◌≤◌, ◌<◌, ◌↔◌, ◌⊎◌, [], ℕ, length, map, replicate};
+ghost use Rattle.std.specs.Prelude.{slice_get, slice_index};
 ghost use Rattle.bus_bits.specs.Limits.{most_places};
 ghost use Rattle.bus_tap.specs.Stopped.{IsStopAfter};
 ghost use Rattle.bus_tap.specs.Tapped.{IsTapAfter, channels};
 ghost use Rattle.bus_tap.specs.Words.{tap_told};
-ghost use Rattle.port1_c.specs.Tap.{IsTap, Taps, samples_from, wires_told};
+ghost use Rattle.port1_c.specs.Tap.{IsTap, Taps, TapsRuns, samples_from, wires_told};
 ghost use Rattle.port1_c.specs.declared.status.TheConstants.{OK, PLACE_LIMIT, BAD_STATE, BAD_ARGUMENT, NO_ROOM};
 
 use crate::arrival::Port1Arrival;
 use crate::status::{BAD_ARGUMENT, BAD_STATE, NO_ROOM, OK, PLACE_LIMIT};
-use crate::tap::{MOST_ARRIVALS, Port1Tap, take_run, take_samples};
+use crate::tap::{MOST, MOST_ARRIVALS, Port1Tap, take_run, take_runs, take_samples};
 use crate::wires::Port1Wires;
 use bus_tap::{StopRule, Tap};
-
-/// The most samples of a recording.
-const MOST: u64 = 1 << 60;
 
 /// Makes a tap that took no sample, whatever the memory holds. A level counts once it stood in `hold` + 1 samples in a
 /// row; where the distance of two bits differs by more than `jump` samples from the one before, that is a jump. A bit
@@ -142,4 +140,57 @@ pub extern "C" fn port1_tap_feed(
     );
     tap.words = held.words();
     OK
+}
+
+/// Takes runs of samples of an octet each, from number `at` on, while there is room for 32 bits more, and puts the bits
+/// that arrive. The lowest octet of a run is a sample, and the rest of it says in how many this stands. `at` is then
+/// the next run to take, of which are left the samples that were not taken, and `arrived` how many bits were put. No
+/// other run changes.
+///
+/// Returns what [`port1_tap_push`] returns; where that is PLACE_LIMIT, the runs before `at` were taken, and with run
+/// `at` there would be more than 2^60 samples.
+#[unsafe(no_mangle)]
+pub extern "C" fn port1_tap_feed_runs(
+    tap: &mut Port1Tap,
+    runs: &mut [u64],
+    at: &mut usize,
+    arrivals: &mut [Port1Arrival],
+    arrived: &mut usize,
+) -> u32
+    ensures status { (result ≡ OK) ⊎ (result ≡ PLACE_LIMIT) ⊎ (result ≡ BAD_STATE) ⊎ (result ≡ NO_ROOM) }
+    ensures room { result ≡ NO_ROOM ↔ (length arrivals.old < 32) }
+    ensures state { result ≡ BAD_STATE ↔ (32 ≤ length arrivals.old) × (IsTap tap.old → ⊥) }
+    ensures limit { result ≡ PLACE_LIMIT → (at.new < length runs.old)
+        × (most_places < tap.new.words.samples + slice_index runs.new at.new / 256) }
+    ensures kept { BAD_STATE ≤ result → (tap.new ≡ tap.old) × (runs.new ≡ runs.old) × (at.new ≡ at.old)
+        × (arrivals.new ≡ arrivals.old) × (arrived.new ≡ arrived.old) }
+    ensures sound { result < BAD_STATE → IsTap tap.new }
+    ensures wires { tap.new.wires ≡ tap.old.wires }
+    ensures bound { (at.old ≤ at.new) × (at.old ≤ length runs.old → at.new ≤ length runs.old) }
+    ensures others { (length runs.new ≡ length runs.old)
+        × ((k : ℕ) → k ≢ at.new → slice_get runs.new k ≡ slice_get runs.old k) }
+    ensures all { result ≡ OK → at.new < length runs.old → length arrivals.old < arrived.new + 32 }
+    ensures taps { result < BAD_STATE → TapsRuns (tap_told tap.old.words) tap.old.stops arrivals.old
+        (wires_told tap.old.wires) runs.old at.old (tap_told tap.new.words) tap.new.stops arrivals.new arrived.new
+        runs.new at.new }
+{
+    if arrivals.len() < MOST_ARRIVALS {
+        return NO_ROOM;
+    }
+    let Some(mut held) = tap.words.tap() else {
+        return BAD_STATE;
+    };
+    *arrived = 0;
+    let wires = tap.wires.wires();
+    let fits = take_runs(
+        &mut held,
+        &mut tap.stops,
+        &wires,
+        runs,
+        at,
+        arrivals,
+        arrived,
+    );
+    tap.words = held.words();
+    if fits { OK } else { PLACE_LIMIT }
 }

@@ -7,29 +7,34 @@ import { Reporter } from "./reporter.js";
 /** @typedef {import("../../../scripts/modules/dictionary/dictionary.js").Entry} Entry */
 /** @typedef {import("./library.js").Library} Library */
 
-/** How many bits that arrive a call has room for. */
+/** How many bits that arrive a call has room for, and how many of them an octet of marks has. */
 export const ROOM = 65536;
+const MARKS = 4;
+
+/** Of each octet of marks the arrivals, of which two are a number of 32 bits: a line and a bit for each. */
+const PAIRS = Uint32Array.from({ length: 16 }, (_, pair) =>
+  [pair & 3, pair >> 2].reduce((all, mark, at) => all | (((mark >> 1) + 1 + 256 * (mark & 1)) << (16 * at)), 0),
+);
 
 /** Decodes two lines with a clock each, whose bits come in the order of arrival, in blocks. */
 export class ClockedDecoder {
-  held = 0; // bits in `rested` that are not decoded yet
-
-  /** @param {Library} library @param {Entry[]|null} entries of a dictionary @param {number} silence that brings rest */
+  /**
+   * @param {Library} library
+   * @param {Entry[]|null} entries of a dictionary
+   * @param {number} silence that brings the second line to rest
+   */
   constructor(library, entries, silence = SILENCE) {
     this.library = library;
     this.reporter = new Reporter(library, entries);
-    const sizes = [CLOCKS.size, REST.size, ROOM * ARRIVAL.size, ROOM * ARRIVAL.size, REPORT.size, 8, 8, 1, 8, 8];
-    const memory = sizes.map((size) => library.allocate(size));
-    const [clocks, rest, arrived, rested, report, at, put, flag, first, past] = memory;
-    /** Where in memory each stands. */
-    this.places = { clocks, rest, arrived, rested, report, at, put, flag, first, past };
-    const named = Object.entries(this.places).map(([name, place]) => [name, library.pointer(place)]);
-    this.pointers = /** @type {Record<keyof ClockedDecoder["places"], import("./library.js").Pointer>} */ (
-      Object.fromEntries(named)
-    );
+    const [room, word] = [ROOM * ARRIVAL.size, 8];
+    const words = { at: word, next: word, put: word, flag: word, first: word, past: word };
+    const sizes = { clocks: CLOCKS.size, rest: REST.size, arrived: room, rested: room, report: REPORT.size, ...words };
+    const { places, pointers } = library.places(sizes);
+    this.places = places;
+    this.pointers = pointers;
     const { port1_clocks_init: makeClocks, port1_rest_init: makeRest } = library.calls;
-    library.demand(makeClocks(this.pointers.clocks, BigInt(longestOf(entries)), 0n), "port1_clocks_init");
-    library.demand(makeRest(this.pointers.rest, BigInt(silence)), "port1_rest_init");
+    library.demand(makeClocks(pointers.clocks, BigInt(longestOf(entries)), 0n), "port1_clocks_init");
+    library.demand(makeRest(pointers.rest, BigInt(silence)), "port1_rest_init");
   }
 
   get listing() {
@@ -37,53 +42,77 @@ export class ClockedDecoder {
   }
 
   /**
-   * Takes bits that arrived, which stand in memory, and has them kept with the ones that bring the second line to rest.
-   * @param {number} count
-   * @param {(octets: Uint8Array) => void} keep a line and a bit for each
+   * Puts the arrivals that octets of marks are into memory, as many as a call has room for, and has them taken.
+   * @param {Uint8Array} octets
+   * @param {number} marks
+   * @param {number} place where they are put
+   * @param {(count: number) => void} take
    */
-  take(count, keep) {
-    const { library, places, pointers } = this;
-    const { rest, arrived, rested, at, put } = pointers;
-    library.view.setBigUint64(places.at, 0n, true);
-    for (let next = 0; next < count; ) {
-      const status = library.calls.port1_rest_feed(rest, arrived, BigInt(count), at, rested, BigInt(ROOM), put);
-      library.demand(status, "port1_rest_feed");
-      next = library.number(places.at);
-      this.held = library.number(places.put);
-      keep(library.octets.subarray(places.rested, places.rested + ARRIVAL.size * this.held));
-      this.flush();
-      library.view.setBigUint64(places.at, BigInt(next), true);
+  put(octets, marks, place, take) {
+    const { words } = this.library;
+    for (let from = 0; from < octets.length; from += ROOM / MARKS) {
+      const past = Math.min(octets.length, from + ROOM / MARKS);
+      for (let at = from, to = place / 4; at < past; at++) {
+        words[to++] = PAIRS[octets[at] & 15];
+        words[to++] = PAIRS[octets[at] >> 4];
+      }
+      take(Math.min(ROOM, marks - MARKS * from));
     }
   }
 
   /**
-   * Takes a bit behind those that came to rest, and decodes it with others.
-   * @param {number} line 0 or 1
-   * @param {number} bit
+   * Takes marks of bits as they arrived, and has them kept with the ones that bring the second line to rest.
+   * @param {Uint8Array} octets
+   * @param {number} marks
+   * @param {(octets: Uint8Array) => void} keep a line and a bit for each
    */
-  push(line, bit) {
-    const place = this.places.rested + ARRIVAL.size * this.held;
-    this.library.octets[place + ARRIVAL.line] = line + 1;
-    this.library.octets[place + ARRIVAL.bit] = bit;
-    this.held += 1;
-    if (this.held === ROOM) this.flush();
+  arrive(octets, marks, keep) {
+    this.put(octets, marks, this.places.arrived, (count) => this.rest(count, keep));
   }
 
-  /** Decodes the bits that are held. */
-  flush() {
-    const { library, places, pointers, held } = this;
+  /**
+   * Takes marks among which these ones are.
+   * @param {Uint8Array} octets
+   * @param {number} marks
+   */
+  take(octets, marks) {
+    this.put(octets, marks, this.places.rested, (count) => this.decode(count));
+  }
+
+  /**
+   * Takes so many arrivals that stand in memory, and has them kept with the ones that bring the second line to rest.
+   * @param {number} count
+   * @param {(octets: Uint8Array) => void} keep
+   */
+  rest(count, keep) {
+    const { library, places, pointers } = this;
+    const { rest, arrived, rested, next, put } = pointers;
+    library.view.setBigUint64(places.next, 0n, true);
+    while (library.number(places.next) < count) {
+      const status = library.calls.port1_rest_feed(rest, arrived, BigInt(count), next, rested, BigInt(ROOM), put);
+      library.demand(status, "port1_rest_feed");
+      const all = library.number(places.put);
+      keep(library.octets.subarray(places.rested, places.rested + ARRIVAL.size * all));
+      this.decode(all);
+    }
+  }
+
+  /**
+   * Decodes so many arrivals behind those that came to rest.
+   * @param {number} count
+   */
+  decode(count) {
+    const { library, places, pointers } = this;
     const { clocks, rested, at, report } = pointers;
     library.view.setBigUint64(places.at, 0n, true);
-    for (let kind = 1; kind !== 0; ) {
-      const status = library.calls.port1_clocks_feed(clocks, rested, BigInt(held), at, report);
+    for (;;) {
+      const status = library.calls.port1_clocks_feed(clocks, rested, BigInt(count), at, report);
       library.demand(status, "port1_clocks_feed");
-      kind = library.view.getUint32(places.report + REPORT.kind, true);
-      if (kind === 0) break;
+      if (library.view.getUint32(places.report + REPORT.kind, true) === 0) return;
       const last = places.rested + ARRIVAL.size * (library.number(places.at) - 1);
       const line = library.octets[last + ARRIVAL.line];
       this.reporter.tell(line, places.clocks + (line === 1 ? CLOCKS.first : CLOCKS.second), places.report);
     }
-    this.held = 0;
   }
 
   /** Writes down what is open at the end of the capture. */

@@ -1,12 +1,15 @@
 import { OPEN } from "../../../scripts/modules/listing/kinds.js";
 import { BEFORE_LENGTH, LINE, MOST_OCTETS, REPORT } from "./layout.js";
+import { BLOCK } from "./marks.js";
 import { Reporter } from "./reporter.js";
 
 /** @typedef {import("../../../scripts/modules/dictionary/dictionary.js").Entry} Entry */
 /** @typedef {import("./library.js").Library} Library */
 
-/** How many octets of bits a line is given at once, at most. */
-export const BLOCK = 65536;
+/** Of each octet its bits 0, 2, 4 and 6, as bits 0 to 3: the bits of the first line in four pairs. */
+const FIRSTS = Uint8Array.from({ length: 256 }, (_, octet) =>
+  [0, 1, 2, 3].reduce((bits, pair) => bits | (((octet >> (2 * pair)) & 1) << pair), 0),
+);
 
 /**
  * The longest frame of a dictionary in octets, address, control and type among them; without one, any may come.
@@ -18,66 +21,52 @@ export function longestOf(entries) {
 
 /** A line of the bus: its decoder, its bits, and its report that is not yet told. */
 class BusLine {
-  // Where in memory each stands.
-  line = 0;
-  bits = 0;
-  atPlace = 0;
-  report = 0;
-  // How many octets and bits were given.
-  bigCount = 0n;
-  bigEnd = 0n;
+  at = 0;
+  end = 0;
+  hasReport = false;
 
   /** @param {Library} library @param {number} longest */
   constructor(library, longest) {
     this.library = library;
-    const memory = /** @type {const} */ (["line", "bits", "at", "report"]).map((part) => {
-      const size = { line: LINE.size, bits: BLOCK, at: 8, report: REPORT.size }[part];
-      return library.allocate(size);
-    });
-    [this.line, this.bits, this.atPlace, this.report] = memory;
-    this.pointers = memory.map((at) => library.pointer(at));
-    this.at = 0;
-    this.end = 0;
-    this.hasReport = false;
-    library.demand(library.calls.port1_line_init(this.pointers[0], BigInt(longest), 0n), "port1_line_init");
+    const sizes = { line: LINE.size, bits: BLOCK, at: 8, report: REPORT.size, flag: 8, first: 8 };
+    const { places, pointers } = library.places(sizes);
+    this.places = places;
+    this.pointers = pointers;
+    library.demand(library.calls.port1_line_init(pointers.line, BigInt(longest), 0n), "port1_line_init");
   }
 
   /**
-   * Takes new bits, packed, and looks for the first report.
-   * @param {Uint8Array} octets
+   * Takes so many new bits, packed in memory, and looks for the first report.
    * @param {number} end
    */
-  give(octets, end) {
-    this.library.octets.set(octets, this.bits);
-    this.library.view.setBigUint64(this.atPlace, 0n, true);
-    this.bigCount = BigInt(octets.length);
+  begin(end) {
+    this.library.view.setBigUint64(this.places.at, 0n, true);
     this.end = end;
-    this.bigEnd = BigInt(end);
     this.at = 0;
     this.advance();
   }
 
   /** Looks for the next report. */
   advance() {
-    const { library, pointers } = this;
+    const { library, places, end } = this;
+    const { line, bits, at, report } = this.pointers;
     this.hasReport = false;
-    if (this.at >= this.end) return;
-    const [line, bits, at, report] = pointers;
-    library.demand(library.calls.port1_line_feed(line, bits, this.bigCount, at, this.bigEnd, report), "port1_line_feed");
-    this.at = library.view.getUint32(this.atPlace, true);
-    this.hasReport = library.view.getUint32(this.report, true) !== 0;
+    if (this.at >= end) return;
+    const status = library.calls.port1_line_feed(line, bits, BigInt((end + 7) >> 3), at, BigInt(end), report);
+    library.demand(status, "port1_line_feed");
+    this.at = library.view.getUint32(places.at, true);
+    this.hasReport = library.view.getUint32(places.report, true) !== 0;
   }
 
   /** The place of the first bit of a piece that nothing has ended yet, or null. */
   open() {
-    const { library } = this;
-    const [line, , first, begun] = this.pointers;
-    library.demand(library.calls.port1_line_open(line, begun, first), "port1_line_open");
-    return library.view.getUint8(this.report) === 0 ? null : library.number(this.atPlace);
+    const { library, places, pointers } = this;
+    library.demand(library.calls.port1_line_open(pointers.line, pointers.flag, pointers.first), "port1_line_open");
+    return library.octets[places.flag] === 0 ? null : library.number(places.first);
   }
 
   get place() {
-    return this.library.number(this.line + LINE.place);
+    return this.library.number(this.places.line + LINE.place);
   }
 }
 
@@ -99,15 +88,28 @@ export class Decoder {
   }
 
   /**
-   * Takes the next bits: for each line the same number, packed in octets, the first bit lowest.
-   * @param {Uint8Array[]} octets
-   * @param {number} bits
+   * Takes the next marks.
+   * @param {Uint8Array} octets
+   * @param {number} marks
    */
-  take(octets, bits) {
-    this.lines.forEach((line, at) => line.give(octets[at], bits));
+  take(octets, marks) {
+    const { octets: memory } = this.library;
+    const [first, second] = this.lines.map(({ places }) => places.bits);
+    if (second === undefined) memory.set(octets, first);
+    for (let at = 0; second !== undefined && at < octets.length; at++) {
+      const [to, shift] = [at >> 1, 4 * (at & 1)];
+      memory[first + to] = (shift === 0 ? 0 : memory[first + to]) | (FIRSTS[octets[at]] << shift);
+      memory[second + to] = (shift === 0 ? 0 : memory[second + to]) | (FIRSTS[octets[at] >> 1] << shift);
+    }
+    this.decode(marks);
+  }
+
+  /** @param {number} bits that stand in memory, of each line */
+  decode(bits) {
+    for (const line of this.lines) line.begin(bits);
     for (let next = this.next(); next >= 0; next = this.next()) {
-      const { line, report } = this.lines[next];
-      this.reporter.tell(this.numberOf(next), line, report);
+      const { places } = this.lines[next];
+      this.reporter.tell(this.numberOf(next), places.line, places.report);
       this.lines[next].advance();
     }
   }

@@ -16,10 +16,10 @@ const PAGE = 65536;
  * @property {(pair: Pointer, entries: Pointer, entryCount: bigint, line: number, report: Pointer, octets: Pointer,
  *   count: bigint, seen: Pointer) => number} port1_pair_take
  * @property {(tap: Pointer, wires: Pointer, hold: number, jump: bigint, rest: bigint) => number} port1_tap_init
- * @property {(tap: Pointer, sample: bigint, count: Pointer, arrivals: Pointer, room: bigint,
- *   arrived: Pointer) => number} port1_tap_push
  * @property {(tap: Pointer, octets: Pointer, count: bigint, width: number, at: Pointer, arrivals: Pointer, room: bigint,
  *   arrived: Pointer) => number} port1_tap_feed
+ * @property {(tap: Pointer, runs: Pointer, count: bigint, at: Pointer, arrivals: Pointer, room: bigint,
+ *   arrived: Pointer) => number} port1_tap_feed_runs
  * @property {(rest: Pointer, most: bigint) => number} port1_rest_init
  * @property {(rest: Pointer, arrivals: Pointer, count: bigint, at: Pointer, out: Pointer, room: bigint,
  *   put: Pointer) => number} port1_rest_feed
@@ -35,14 +35,25 @@ const PAGE = 65536;
 
 /** The C library, compiled for WebAssembly. Numbers of octets and bits have 64 bits, whatever addresses have. */
 export class Library {
+  // Of its memory octets, numbers of 32 bits, and any numbers.
+  octets = new Uint8Array(0);
+  words = new Uint32Array(0);
+  view = new DataView(new ArrayBuffer(0));
+
   /** @param {WebAssembly.Instance} instance @param {boolean} isWide */
   constructor(instance, isWide) {
     this.isWide = isWide;
     this.calls = /** @type {Calls} */ (/** @type {unknown} */ (instance.exports));
     this.memory = /** @type {WebAssembly.Memory} */ (instance.exports.memory);
     this.used = this.memory.buffer.byteLength;
+    this.look();
+  }
+
+  /** Looks at the memory, which is another buffer once it has grown. */
+  look() {
     this.view = new DataView(this.memory.buffer);
     this.octets = new Uint8Array(this.memory.buffer);
+    this.words = new Uint32Array(this.memory.buffer);
   }
 
   /**
@@ -55,10 +66,24 @@ export class Library {
     const lacking = this.used - this.memory.buffer.byteLength;
     if (lacking > 0) {
       this.grow(Math.ceil(lacking / PAGE));
-      this.view = new DataView(this.memory.buffer);
-      this.octets = new Uint8Array(this.memory.buffer);
+      this.look();
     }
     return begin;
+  }
+
+  /**
+   * Takes memory for some things, each by its name and size: where each is, and the same as calls take it.
+   * @template {string} Name
+   * @param {Record<Name, number>} sizes
+   */
+  places(sizes) {
+    const places = /** @type {Record<Name, number>} */ ({});
+    const pointers = /** @type {Record<Name, Pointer>} */ ({});
+    for (const name of /** @type {Name[]} */ (Object.keys(sizes))) {
+      places[name] = this.allocate(sizes[name]);
+      pointers[name] = this.pointer(places[name]);
+    }
+    return { places, pointers };
   }
 
   /**

@@ -13,18 +13,17 @@ class Pairing {
   /** @param {Library} library @param {Entry[]} entries */
   constructor(library, entries) {
     this.library = library;
-    this.pair = library.allocate(PAIR.size);
-    this.seen = library.allocate(SEEN.size);
-    this.table = library.allocate(TYPES * ENTRY.size);
-    this.pointers = [this.pair, this.table, this.seen].map((at) => library.pointer(at));
+    const { places, pointers } = library.places({ pair: PAIR.size, seen: SEEN.size, table: TYPES * ENTRY.size });
+    this.places = places;
+    this.pointers = pointers;
     for (const entry of entries) this.enter(entry);
-    library.demand(library.calls.port1_pair_init(this.pointers[0]), "port1_pair_init");
+    library.demand(library.calls.port1_pair_init(pointers.pair), "port1_pair_init");
   }
 
   /** @param {Entry} entry */
   enter({ type, length, answered, window }) {
     const { view } = this.library;
-    const at = this.table + type * ENTRY.size;
+    const at = this.places.table + type * ENTRY.size;
     view.setUint8(at + ENTRY.known, 1);
     view.setUint8(at + ENTRY.length, length);
     view.setUint8(at + ENTRY.answered, answered ? 1 : 0);
@@ -39,8 +38,8 @@ class Pairing {
    * @param {number} count
    */
   take(number, line, report, count) {
-    const [pair, table, seen] = this.pointers;
     const { library } = this;
+    const { pair, table, seen } = this.pointers;
     const [told, octets] = [library.pointer(report), library.pointer(line + LINE.octets)];
     library.demand(
       library.calls.port1_pair_take(pair, table, BigInt(TYPES), number, told, octets, BigInt(count), seen),
@@ -84,8 +83,8 @@ export class Reporter {
   headOf() {
     if (!this.pairing) return 0;
     const { view } = this.library;
-    const standing = view.getUint32(this.pairing.seen + SEEN.standing, true);
-    return standing <= WRONG_LENGTH ? standing : this.heads[view.getUint8(this.pairing.seen + SEEN.type)];
+    const standing = view.getUint32(this.pairing.places.seen + SEEN.standing, true);
+    return standing <= WRONG_LENGTH ? standing : this.heads[view.getUint8(this.pairing.places.seen + SEEN.type)];
   }
 
   /**
@@ -96,7 +95,7 @@ export class Reporter {
    */
   tellSeen(number, first, past) {
     const { view } = this.library;
-    const { seen } = /** @type {Pairing} */ (this.pairing);
+    const { seen } = /** @type {Pairing} */ (this.pairing).places;
     const verdict = view.getUint32(seen + SEEN.verdict, true);
     if (verdict !== 0) {
       const station = view.getUint8(seen + SEEN.commandStation);
@@ -117,7 +116,7 @@ export class Reporter {
   tellPending(number) {
     if (!this.pairing) return;
     const { library } = this;
-    const { pair } = this.pairing;
+    const { pair } = this.pairing.places;
     if (library.view.getUint32(pair + PAIR.waits, true) === 0) return;
     const [first, past] = [library.number(pair + PAIR.first), library.number(pair + PAIR.past)];
     const station = library.view.getUint8(pair + PAIR.station);

@@ -5,27 +5,15 @@ import { ARRIVAL, GAP, LINE_FACTS, OCCURRENCES, TAP, WIRE, WIRES } from "./layou
 /** @typedef {import("../../../scripts/modules/recording/doubts.js").Seen} Seen */
 /** @typedef {import("./library.js").Library} Library */
 
-/** How many octets of samples, and how many arrivals, a call has room for. */
+/** How many octets of samples, or of runs of samples, a call has room for, and how many a run has. */
 const OCTETS = 65536;
-
-/** Bits are handed on where there is room for fewer. */
-const LEAST = 1024;
-
-/** A run of samples that are the same: so many octets, the levels in the lowest. */
 const RUN = 8;
-
-/** Levels as the library takes them. */
-const LEVELS = Array.from({ length: 256 }, (_, levels) => BigInt(levels));
 
 /** The wires, as a recording and the library have them in order. */
 const NAMES = /** @type {const} */ (["firstClock", "firstData", "secondClock", "secondData"]);
 
 /** Takes bits from samples by a tap of the library. */
 export class Sampler {
-  held = 0; // bits that arrived and were not handed on
-  next = /** @type {import("./library.js").Pointer} */ (0);
-  room = 0n;
-
   /**
    * @param {Library} library
    * @param {import("../../../scripts/modules/recording/recording.js").Recording} recording
@@ -37,19 +25,16 @@ export class Sampler {
   constructor(library, { hasRuns, width, wires }, { hold, jump, rest }, turned, { arrivals, take }) {
     this.library = library;
     this.hasRuns = hasRuns;
-    this.width = width;
+    this.width = width; // octets of a sample, or of a run
     this.hand = take;
-    this.samples = library.allocate(OCTETS);
     this.arrivals = arrivals ?? library.allocate(ROOM * ARRIVAL.size);
-    this.at = library.allocate(8);
-    this.arrived = library.allocate(8);
-    this.tap = library.allocate(TAP.size);
-    const memory = [this.tap, this.samples, this.at, this.arrived];
-    this.pointers = memory.map((at) => library.pointer(at));
-    this.makeRoom();
-    const named = this.nameWires(wires, turned);
-    const [tap] = this.pointers;
-    library.demand(library.calls.port1_tap_init(tap, named, hold, BigInt(jump), BigInt(rest)), "port1_tap_init");
+    const sizes = { tap: TAP.size, samples: OCTETS, at: 8, arrived: 8, wires: WIRES.size };
+    const { places, pointers } = library.places(sizes);
+    this.places = places;
+    this.pointers = pointers;
+    this.nameWires(wires, turned);
+    const status = library.calls.port1_tap_init(pointers.tap, pointers.wires, hold, BigInt(jump), BigInt(rest));
+    library.demand(status, "port1_tap_init");
   }
 
   /**
@@ -59,76 +44,45 @@ export class Sampler {
    */
   nameWires(wires, turned) {
     const { view } = this.library;
-    const at = this.library.allocate(WIRES.size);
     for (const [wire, bit] of wires.entries()) {
-      const place = at + WIRES[NAMES[wire]];
+      const place = this.places.wires + WIRES[NAMES[wire]];
       view.setUint8(place + WIRE.used, 1);
       view.setUint8(place + WIRE.number, bit);
       view.setUint8(place + WIRE.inverted, (turned >> wire) & 1);
     }
-    return this.library.pointer(at);
   }
 
   /** @param {Uint8Array} piece whole samples, or whole runs */
   take(piece) {
-    if (this.hasRuns) return this.takeRuns(piece);
     const most = OCTETS - (OCTETS % this.width);
-    for (let from = 0; from < piece.length; from += most) this.takeSamples(piece.subarray(from, from + most));
+    for (let from = 0; from < piece.length; from += most) this.takeSome(piece.subarray(from, from + most));
   }
 
   /** @param {Uint8Array} octets that a call has room for */
-  takeSamples(octets) {
-    const { library, width } = this;
-    const [tap, samples, at, arrived] = this.pointers;
-    const count = BigInt(octets.length);
-    library.octets.set(octets, this.samples);
-    library.view.setBigUint64(this.at, 0n, true);
-    while (library.number(this.at) < octets.length / width) {
-      const { next, room } = this;
-      const status = library.calls.port1_tap_feed(tap, samples, count, width, at, next, room, arrived);
-      library.demand(status, "port1_tap_feed");
-      this.hold();
+  takeSome(octets) {
+    const { library, places } = this;
+    const { view, octets: memory } = library;
+    memory.set(octets, places.samples);
+    view.setBigUint64(places.at, 0n, true);
+    while (library.number(places.at) < octets.length / this.width) {
+      this.feed(octets.length);
+      const count = library.number(places.arrived);
+      this.hand(count, memory.subarray(this.arrivals, this.arrivals + ARRIVAL.size * count));
     }
   }
 
-  /** @param {Uint8Array} piece */
-  takeRuns(piece) {
-    const { library } = this;
-    const [tap, , at, arrived] = this.pointers;
-    const records = new DataView(piece.buffer, piece.byteOffset, piece.length);
-    for (let from = 0; from < piece.length; from += RUN) {
-      const [low, high] = [records.getUint32(from, true), records.getUint32(from + 4, true)];
-      library.view.setUint32(this.at, (low >>> 8) | (high << 24), true);
-      library.view.setUint32(this.at + 4, high >>> 8, true);
-      const levels = LEVELS[low & 255];
-      while (library.number(this.at) > 0) {
-        const status = library.calls.port1_tap_push(tap, levels, at, this.next, this.room, arrived);
-        library.demand(status, "port1_tap_push");
-        this.hold();
-      }
-    }
-  }
-
-  /** Holds the bits that arrived at a call, and hands them on where there is little room for more. */
-  hold() {
-    const count = this.library.number(this.arrived);
-    if (count === 0) return;
-    this.held += count;
-    if (this.held > ROOM - LEAST) this.flush();
-    else this.makeRoom();
-  }
-
-  /** Hands on the bits that are held. */
-  flush() {
-    this.hand(this.held, this.library.octets.subarray(this.arrivals, this.arrivals + ARRIVAL.size * this.held));
-    this.held = 0;
-    this.makeRoom();
-  }
-
-  /** Where the next bit is put, and for how many there is room. */
-  makeRoom() {
-    this.next = this.library.pointer(this.arrivals + ARRIVAL.size * this.held);
-    this.room = BigInt(ROOM - this.held);
+  /**
+   * Has the library take samples or runs that stand in memory.
+   * @param {number} octets
+   */
+  feed(octets) {
+    const { tap, samples, at, arrived } = this.pointers;
+    const { port1_tap_feed: feed, port1_tap_feed_runs: feedRuns } = this.library.calls;
+    const goal = /** @type {const} */ ([at, this.library.pointer(this.arrivals), BigInt(ROOM), arrived]);
+    const status = this.hasRuns
+      ? feedRuns(tap, samples, BigInt(octets / RUN), ...goal)
+      : feed(tap, samples, BigInt(octets), this.width, ...goal);
+    this.library.demand(status, "port1_tap_feed");
   }
 
   /**
@@ -143,7 +97,7 @@ export class Sampler {
 
   /** @returns {Facts} */
   get facts() {
-    const { library, tap } = this;
+    const { library, places: { tap } } = this;
     const [first, second] = [tap + TAP.first, tap + TAP.second];
     /** @param {number} facts @param {"clockChanges"|"dataChanges"} field @param {typeof NAMES[number]} wire */
     const wire = (facts, field, wire) => ({

@@ -4,12 +4,12 @@
 
 /**
  * Some bits of a line, and what those of its frames are.
- * @typedef {{ name: string, bits: import("../engine/bits.js").Bit[], structures: Structure[] }} Digits
+ * @typedef {{ name: string, bits: import("../engine/marks.js").Bit[], structures: Structure[] }} Digits
  */
 
 /**
  * A bit, and where it is in the picture.
- * @typedef {import("../engine/bits.js").Bit & { x: number }} Bit
+ * @typedef {import("../engine/marks.js").Bit & { x: number }} Bit
  */
 
 /** The heights of a row of digits, and of the row with their octets. */

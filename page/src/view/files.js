@@ -14,6 +14,26 @@ export const NOT_ALL_CHOSEN = "Say which channels are TXC and TXD.";
  */
 export const textOf = async (file) => plainText(await octetsOf(file), file.name);
 
+/** @returns {NodeListOf<HTMLInputElement & HTMLSelectElement>} the fields of how a file is read */
+const fields = () => element("settings").querySelectorAll("input, select");
+
+/** What is in the fields of how a file is read. */
+export function fieldsOf() {
+  return [...fields()].map(({ value, checked, selectedIndex }) => ({ value, checked, selectedIndex }));
+}
+
+/**
+ * Fills these fields, which offer what they did.
+ * @param {ReturnType<typeof fieldsOf>} values
+ */
+export function fill(values) {
+  fields().forEach((field, at) => {
+    const { value, checked, selectedIndex } = values[at];
+    if (selectedIndex === undefined) Object.assign(field, { value, checked });
+    else field.selectedIndex = selectedIndex;
+  });
+}
+
 /** The choice of files, and of how each is read. */
 export class Files {
   /** @param {(files: Given[]|Promise<Given[]>) => void} take what to do with files that were dropped or chosen */

@@ -3,7 +3,7 @@ import { element, make } from "./dom.js";
 import { act } from "./keys.js";
 import { latest } from "./latest.js";
 
-/** @typedef {import("../worker/desk.js").FarDesk} Desk */
+/** @typedef {import("../worker/lent.js").Desks} Desk */
 /** @typedef {import("../worker/desk.js").Line} Line */
 
 /** The height of a line, which the style sheet has, too, and the most that browsers take for the height of a list. */

@@ -7,7 +7,7 @@ import { Tabs } from "./tabs.js";
 import { Timeline } from "./timeline.js";
 import { duration, grouped } from "./units.js";
 
-/** @typedef {import("../worker/desk.js").FarDesk} Desk */
+/** @typedef {import("../worker/lent.js").Desks} Desk */
 /** @typedef {import("../worker/summary.js").Summary} Summary */
 
 const NOTHING_CHOSEN = "Nothing is chosen: choose a mark, a line, or a time of a sentence.";

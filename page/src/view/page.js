@@ -9,7 +9,7 @@ import { restOf } from "./command.js";
 import { DictionaryPane } from "./dictionary.js";
 import { element, fillList, make, save } from "./dom.js";
 import { engineOf, unpacked } from "./embedded.js";
-import { Files, NOT_ALL_CHOSEN, textOf } from "./files.js";
+import { fieldsOf, Files, fill, NOT_ALL_CHOSEN, textOf } from "./files.js";
 import { Heading } from "./heading.js";
 import { Incidents, incidentsAmong, shownOf } from "./incidents.js";
 import { FORMS } from "./job.js";
@@ -24,7 +24,7 @@ import { Verdict } from "./verdict.js";
 import { isOfDictionary, placeOf, whyNot } from "./words.js";
 
 /** @typedef {import("../../../scripts/modules/recording/doubts.js").Warning} Warning */
-/** @typedef {import("../worker/desk.js").FarDesk} Desk */
+/** @typedef {import("../worker/lent.js").Desks} Desk */
 /** @typedef {import("../worker/desk.js").Found} Found */
 /** @typedef {import("../worker/summary.js").Summary} Summary */
 /** @typedef {import("./given.js").Given} Given */
@@ -62,6 +62,7 @@ const KEYS = [
  * @type {PageKey[]}
  */
 const KEYS_ALWAYS = [
+  { keys: ["Escape"], shown: "Esc", words: "stop reading a file", act: (page) => page.desk.stop() },
   { keys: ["o"], shown: "o", words: "open a file", act: (page) => page.files.choose() },
   { keys: ["?"], shown: "?", words: "these keys", act: (page) => page.help.open() },
 ];
@@ -88,6 +89,8 @@ class Page {
     this.job = null; // of what is shown
     /** @type {Incident|null} */
     this.incident = null; // that is shown
+    /** @type {ReturnType<Page["choice"]>|null} */
+    this.kept = null; // what was chosen for what is shown
     this.files = new Files((given) => this.takeAll(given).catch((fault) => this.refuse(fault, true)));
     this.incidents = new Incidents((incident) => this.open(incident).catch((fault) => this.refuse(fault, true)));
     this.navigation = new Navigation(desk);
@@ -112,6 +115,7 @@ class Page {
       this.read();
     });
     document.addEventListener("keydown", (event) => this.pressed(event));
+    this.onClick("stop", () => this.desk.stop());
     this.onClick("draft", () => this.begin());
     this.onClick("example", () => this.showExample());
     this.onClick("choose-files", () => this.files.choose());
@@ -134,7 +138,7 @@ class Page {
 
   /** Shows no file. */
   clear() {
-    Object.assign(this, { job: null, asked: null });
+    Object.assign(this, { job: null, asked: null, kept: null });
     element("result").hidden = true;
     element("facts").replaceChildren();
     element("title").textContent = document.title = "Port 1 analyser";
@@ -170,7 +174,8 @@ class Page {
    */
   pressed(event) {
     const keys = element("result").hidden ? KEYS_ALWAYS : [...KEYS, ...KEYS_ALWAYS];
-    const found = isOther(event) ? undefined : keys.find((some) => some.keys.includes(event.key));
+    const isStop = event.key === "Escape" && this.isReading && !this.help.dialog.open; // also from within a field
+    const found = isOther(event) && !isStop ? undefined : keys.find((some) => some.keys.includes(event.key));
     if (!found) return;
     event.preventDefault();
     found.act(this, event.key);
@@ -195,9 +200,10 @@ class Page {
    * Tells how things are.
    * @param {string} text
    */
-  say(text, isFault = false) {
+  say(text, isFault = false, isSeen = isFault) {
     element("status").textContent = text;
     element("status").classList.toggle("fault", isFault);
+    element("status").classList.toggle("seen", isSeen);
   }
 
   /**
@@ -206,6 +212,18 @@ class Page {
    */
   hear(progress) {
     element("progress").value = progress;
+  }
+
+  get isReading() {
+    return document.body.classList.contains("reading");
+  }
+
+  /** @param {boolean} isReading */
+  setReading(isReading) {
+    document.body.classList.toggle("reading", isReading);
+    this.hear(0);
+    element("reading").hidden = element("progress").hidden = !isReading;
+    element("read").disabled = isReading;
   }
 
   /**
@@ -367,22 +385,56 @@ class Page {
   /** Reads the chosen file and shows what is in it. */
   async read() {
     const { file } = this;
-    element("progress").hidden = false;
-    element("read").disabled = true;
+    this.setReading(true);
+    element("reading-name").textContent = `Reading ${file.name}`;
     this.say(`Reading ${file.name} ..`);
-    document.body.classList.add("reading");
     try {
-      await this.load(this.jobOf(file), file.name);
-      this.toggleSettings(false);
+      const job = this.jobOf(file);
+      const isRead = await this.load(job, file.name);
+      if (this.asked !== job) return; // another file, or another way to read it, was chosen meanwhile
+      if (isRead) this.toggleSettings(false);
+      else await this.goBack(file);
     } catch (fault) {
       const { message } = /** @type {Error} */ (fault);
       const isNamed = message !== NOT_ALL_CHOSEN && !isOfDictionary(message);
       this.refuse(isNamed ? new Error(`${file.name}: ${whyNot(message)}`) : new Error(message), this.job?.file !== file);
       if (this.job === null) this.state("asking");
     }
-    document.body.classList.remove("reading");
-    element("progress").hidden = true;
-    element("read").disabled = false;
+    this.setReading(false);
+  }
+
+  /**
+   * What is chosen now: the file, how it is read, and the dictionary.
+   * @param {string} name of the file
+   */
+  choice(name) {
+    const { chosen, found, guessed, zero, incident } = this;
+    const [incidents, dictionary, fields] = [this.incidents.all, this.dictionary.shown, fieldsOf()];
+    return { name, whole: { chosen, found, guessed, zero, incident }, incidents, dictionary, fields };
+  }
+
+  /**
+   * Goes back to what is shown, where reading was stopped; where nothing is, to what was asked.
+   * @param {File} file that was not read
+   */
+  async goBack(file) {
+    const { kept } = this;
+    const shown = kept === null ? "" : ` ${kept.name} is shown as it was read before.`;
+    this.say(`Stopped: ${file.name} was not read.${shown}`, false, true);
+    this.asked = this.job;
+    if (kept === null) {
+      if (document.body.dataset.state === "empty") Object.assign(this, { chosen: [], zero: null });
+      return;
+    }
+    const isOther = this.file !== this.job?.file;
+    Object.assign(this, kept.whole);
+    this.incidents.show(kept.incidents);
+    if (this.incident) this.incidents.choose(this.incident);
+    this.files.offer(this.chosen);
+    this.files.offerChannels(this.found.channels);
+    fill(kept.fields);
+    if (isOther) await this.dictionary.take(kept.dictionary);
+    this.state("result");
   }
 
   /** Reads again with an edited dictionary, where there is a file. */
@@ -390,12 +442,16 @@ class Page {
     if (this.file && !element("result").hidden) await this.read();
   }
 
-  /** @param {Asked|Embedded} job @param {string} name */
+  /**
+   * @param {Asked|Embedded} job
+   * @param {string} name
+   * @returns {Promise<boolean>} whether it was read, and nothing else is meanwhile
+   */
   async load(job, name) {
     const began = performance.now();
     this.asked = job;
     const summary = await this.desk.load(job);
-    if (this.asked !== job) return; // another file, or another way to read it, was chosen meanwhile
+    if (summary === null || this.asked !== job) return false;
     const isSame = this.job !== null && waysOf(this.job) === waysOf(job) && this.job.file === job.file;
     Object.assign(this, { job, clock: new Clock(job.rate, job.begin, summary.first) });
     if (!element("listing-data")) await this.dictionary.showDraft(summary.draft);
@@ -407,6 +463,8 @@ class Page {
     await this.navigation.reset(summary, this.clock, isSame);
     const lasted = ((performance.now() - began) / 1000).toFixed(1);
     this.say(`${name}: ${element("verdict-word").textContent}. ${grouped(summary.count)} lines in ${lasted} s.`);
+    this.kept = this.choice(name);
+    return true;
   }
 
   /**
@@ -503,8 +561,8 @@ function waysOf(job) {
 /** How a warning begins among the notes of a recording. */
 const WARNING = "warning: ";
 
-const worker = new Worker(URL.createObjectURL(new Blob([element("worker").textContent], { type: "text/javascript" })));
-const desk = deskIn(worker, (progress) => page.hear(progress));
+const script = URL.createObjectURL(new Blob([element("worker").textContent], { type: "text/javascript" }));
+const desk = deskIn(() => new Worker(script), (progress) => page.hear(progress));
 const page = new Page(desk);
 /** @type {{ page1?: Page }} */ (self).page1 = page; // for tests and for the console
 page.showEmbedded().catch((fault) => page.say(fault.message, true));

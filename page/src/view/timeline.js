@@ -11,7 +11,7 @@ import { duration, grouped } from "./units.js";
 
 /** @typedef {import("d3-scale").Scale} Scale */
 /** @typedef {import("./digits.js").Digits} Digits */
-/** @typedef {import("../worker/desk.js").FarDesk} Desk */
+/** @typedef {import("../worker/lent.js").Desks} Desk */
 /** @typedef {import("../worker/summary.js").Summary} Summary */
 /** @typedef {import("../worker/lanes.js").Lane} Lane */
 /** @typedef {import("./picture.js").Part} Part */

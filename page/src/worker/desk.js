@@ -74,6 +74,9 @@ import { clocklessOf, countsOf, namesOf, timesOf } from "./summary.js";
  * @typedef {{ text: string, late: number }} Begin
  */
 
+/** Where a draft judges, so much of the work is done once the file is read; then its bits are decoded again. */
+const READ = 0.7;
+
 /** How many lines of text are made at once. */
 const STRIDE = 50000;
 
@@ -99,8 +102,6 @@ export class Desk {
     this.tell = tell;
     /** @type {Uint32Array|null} */
     this.rows = null; // of the listing, where a query chose some
-    /** @type {Promise<unknown>} */
-    this.loading = Promise.resolve(); // until the last file is read
   }
 
   /**
@@ -120,24 +121,18 @@ export class Desk {
   }
 
   /**
-   * Reads a file, when those before it are read, and answers what is known of it.
+   * Reads a file, and answers what is known of it.
    * @param {Job} job
+   * @returns {Promise<Summary>}
    */
-  load(job) {
-    const read = () => this.readNow(job);
-    this.loading = this.loading.then(read, read);
-    return /** @type {Promise<Summary>} */ (this.loading);
-  }
-
-  /** @param {Job} job @returns {Promise<Summary>} */
-  async readNow(job) {
+  async load(job) {
     const own = entriesOf(job);
-    const { bits, fault, notes, warnings, recorded = null, ...found } = await read({ ...job, entries: own }, (done, size) =>
-      this.tell(size === 0 ? 1 : done / size),
-    );
+    const most = own === null && job.form !== "listing" ? READ : 1;
+    const heard = (/** @type {number} */ done, /** @type {number} */ size) => this.tell(size === 0 ? most : (most * done) / size);
+    const { bits, fault, notes, warnings, recorded = null, ...found } = await read({ ...job, entries: own }, heard);
     const draft = own === null && found.again !== null ? draftIn(found.listing) : null;
     const entries = draft === null ? own : readDictionary(draft);
-    const listing = draft === null || found.again === null ? found.listing : found.again(entries);
+    const listing = this.listingBy(draft === null ? null : entries, found);
     Object.assign(this, { listing, bits, rows: null, rate: job.rate, end: bits ? bits.length : job.end ?? null });
     const told = (job.told ?? []).map(warningOf);
     const dayTime = job.begin && new DayTime(job.begin.text, job.begin.late);
@@ -151,6 +146,16 @@ export class Desk {
     const all = [...ofLevels.filter(isNew), ...warnings, ...told];
     const lacking = clocklessOf(all, { recorded, bits, rate: job.rate });
     return { ...this.summary(entries, all, fault), fault, notes, draft, lacking };
+  }
+
+  /**
+   * The listing of what was read, by the entries of a draft if there is one.
+   * @param {Entry[]|null} entries
+   * @param {Pick<import("./source.js").Read, "listing"|"again">} found
+   */
+  listingBy(entries, { listing, again }) {
+    if (entries === null || again === null) return listing;
+    return again(entries, (share) => this.tell(READ + (1 - READ) * share));
   }
 
   /** @param {Entry[]|null} entries @param {Warning[]} warnings @param {string|null} fault */

@@ -1,10 +1,9 @@
-import { Arrivals, KeptArrivals } from "../engine/arrivals.js";
-import { KeptBits } from "../engine/bits.js";
-import { PackedReader, Packer, TextReader } from "../engine/capture.js";
+import { PackedReader, TextReader } from "../engine/capture.js";
 import { ClockedDecoder } from "../engine/clocked.js";
 import { Decoder } from "../engine/decoder.js";
 import { ARRIVAL } from "../engine/layout.js";
 import { libraryOf } from "../engine/library.js";
+import { KeptMarks, Packer } from "../engine/marks.js";
 import { Sampler } from "../engine/sampler.js";
 import { Fault } from "../../../scripts/modules/fault.js";
 import { ListingReader } from "../../../scripts/modules/listing/read.js";
@@ -18,7 +17,6 @@ import { plainPieces } from "../../../scripts/modules/text.js";
 import { inWholeLines, piecesOf } from "./pieces.js";
 
 /** @typedef {import("../../../scripts/modules/recording/doubts.js").Warning} Warning */
-/** @typedef {import("../engine/capture.js").Sink} Sink */
 /** @typedef {import("./forms.js").Kind} Kind */
 
 /**
@@ -48,7 +46,8 @@ import { inWholeLines, piecesOf } from "./pieces.js";
 /** @typedef {Source & { entries: Entries }} Job with the entries of the dictionary, if there is one */
 
 /** @typedef {(read: number, size: number) => void} Heard */
-/** @typedef {KeptBits|KeptArrivals} Bits */
+/** @typedef {(share: number) => void} Share of what is done */
+/** @typedef {KeptMarks} Bits */
 /** @typedef {import("../../../scripts/modules/listing/listing.js").Listing} Listing */
 /** @typedef {import("../engine/library.js").Engine} Engine */
 /** @typedef {import("../engine/library.js").Library} Library */
@@ -60,7 +59,8 @@ import { inWholeLines, piecesOf } from "./pieces.js";
  * @typedef {object} Read
  * @property {Listing} listing
  * @property {Bits|null} bits
- * @property {((entries: Entries) => Listing)|null} again lists the bits by another dictionary, where all were kept
+ * @property {((entries: Entries, heard: Share) => Listing)|null} again lists the bits by another dictionary, where all
+ *   were kept
  * @property {string|null} fault at which reading stopped
  * @property {string[]} notes on a recording, its warnings among them
  * @property {Warning[]} warnings
@@ -99,30 +99,46 @@ export async function read(job, heard) {
 }
 
 /**
- * What takes the marks of a capture, keeps their bits and decodes them; and what decodes those bits again.
+ * What takes the marks of a capture, or bits that arrived in memory, keeps and decodes them; and what decodes them again.
+ *
+ * @typedef {object} Road
+ * @property {KeptMarks} bits
+ * @property {Decoder|ClockedDecoder} decoder
+ * @property {Packer} packer
+ * @property {ConstructorParameters<typeof Sampler>[4]} goal
+ * @property {(library: Library, entries: Entries, heard: Share) => Decoder|ClockedDecoder} again
+ */
+
+/**
  * @param {Kind} kind
  * @param {Library} library
  * @param {Entries} entries
  * @param {number} [rest]
+ * @returns {Road}
  */
 function roadOf(kind, library, entries, rest) {
+  const bits = new KeptMarks(kind);
   if (kind === "arrivals") {
-    const bits = new KeptArrivals();
     const decoder = new ClockedDecoder(library, entries, rest);
-    /** @param {Library} other @param {Entries} some */
-    const again = (other, some) => bits.replay(new ClockedDecoder(other, some));
-    return { bits, decoder, again, sink: new Arrivals(bits, decoder) };
+    const keep = (/** @type {Uint8Array} */ octets) => bits.keep(octets);
+    const goal = { arrivals: decoder.places.arrived, take: (/** @type {number} */ count) => decoder.rest(count, keep) };
+    const packer = new Packer(kind, (octets, marks) => decoder.arrive(octets, marks, keep));
+    /** @type {Road["again"]} */
+    const again = (other, some, heard) => bits.replay(new ClockedDecoder(other, some), heard);
+    return { bits, decoder, packer, goal, again };
   }
-  const bits = new KeptBits();
   const decoder = new Decoder(library, kind, entries);
-  /** @param {Library} other @param {Entries} some */
-  const again = (other, some) => bits.replay(new Decoder(other, kind, some));
-  /** @param {Uint8Array[]} octets @param {number} count */
-  const hand = (octets, count) => {
-    bits.take(octets, count);
-    decoder.take(octets, count);
+  const packer = new Packer(kind, (octets, marks) => {
+    bits.take(octets, marks);
+    decoder.take(octets, marks);
+  });
+  /** @param {number} count @param {Uint8Array} octets */
+  const take = (count, octets) => {
+    for (let at = 0; at < count; at++) packer.add(octets[ARRIVAL.size * at + ARRIVAL.bit]);
   };
-  return { bits, decoder, again, sink: new Packer(kind, hand) };
+  /** @type {Road["again"]} */
+  const again = (other, some, heard) => bits.replay(new Decoder(other, kind, some), heard);
+  return { bits, decoder, packer, goal: { arrivals: null, take }, again };
 }
 
 /**
@@ -137,19 +153,23 @@ async function readOnce(job, heard) {
   const { engine } = job;
   const kind = kindOf(job);
   const library = libraryOf(engine);
-  const { bits, decoder, again, sink } = roadOf(kind, library, job.entries, job.rest);
-  /** @type {Pick<Read, "notes"|"warnings"|"recorded">} */
-  const told = { notes: [], warnings: [], recorded: null };
+  const road = roadOf(kind, library, job.entries, job.rest);
+  const { bits, decoder, again } = road;
+  /** @type {Pick<Read, "notes"|"warnings"|"recorded"|"fault">} */
+  const told = { notes: [], warnings: [], recorded: null, fault: null };
   try {
-    if (isRecording(job.form)) await takeRecording(/** @type {RecordingSource} */ (job), library, sink, told, heard);
-    else await takeCapture(job, kind, sink, heard);
+    if (isRecording(job.form)) await takeRecording(/** @type {RecordingSource} */ (job), library, road, told, heard);
+    else await takeCapture(job, kind, road, heard);
+    bits.end();
   } catch (fault) {
     if (!(fault instanceof Fault)) throw fault;
-    const listed = bits.isWhole ? (/** @type {Entries} */ some) => again(libraryOf(engine), some).listing : null;
-    return { listing: decoder.listing, bits, again: listed, fault: fault.message, ...told };
+    bits.end();
+    told.fault = fault.message;
   }
-  const ended = bits.isWhole ? (/** @type {Entries} */ some) => again(libraryOf(engine), some).end() : null;
-  return { listing: decoder.end(), bits, again: ended, fault: null, ...told };
+  const listed = (/** @type {Decoder|ClockedDecoder} */ by) => (told.fault === null ? by.end() : by.listing);
+  /** @type {NonNullable<Read["again"]>} */
+  const listAgain = (entries, heard) => listed(again(libraryOf(engine), entries, heard));
+  return { listing: listed(decoder), bits, again: bits.isWhole ? listAgain : null, ...told };
 }
 
 /**
@@ -168,27 +188,12 @@ async function readListing(job, heard) {
   return { listing: reader.end(), bits: null, again: null, fault: null, notes: [], warnings: [] };
 }
 
-/** @param {BitsSource} job @param {Kind} kind @param {Sink} sink @param {Heard} heard */
-async function takeCapture(job, kind, sink, heard) {
-  const reader = job.form === "packed" ? new PackedReader(kind, sink) : new TextReader(kind, sink);
+/** @param {BitsSource} job @param {Kind} kind @param {Road} road @param {Heard} heard */
+async function takeCapture(job, kind, { packer }, heard) {
+  const reader = job.form === "packed" ? new PackedReader(kind, packer) : new TextReader(kind, packer);
   const pieces = piecesOf(job.file, heard);
   for await (const piece of job.form === "text" ? plainPieces(pieces) : pieces) reader.take(piece);
   reader.end();
-}
-
-/**
- * Where a sampler puts the bits for a sink, and what takes them.
- * @param {Sink} sink
- */
-function goalOf(sink) {
-  if (sink instanceof Arrivals) {
-    return { arrivals: sink.decoder.places.arrived, take: (/** @type {number} */ count) => sink.taken(count) };
-  }
-  /** @param {number} count @param {Uint8Array} octets */
-  const take = (count, octets) => {
-    for (let at = 0; at < count; at++) sink.add(octets[ARRIVAL.size * at + ARRIVAL.bit]);
-  };
-  return { arrivals: null, take };
 }
 
 /** Wires of clocks and of the data of either line, as the sampler has them. */
@@ -198,22 +203,21 @@ const [CLOCKS, FIRST, SECOND] = [0b0101, 0b0010, 0b1000];
  * Takes the bits of a recording; those before a fault are taken, too.
  * @param {RecordingSource} source
  * @param {Library} library
- * @param {Sink} sink
+ * @param {Road} road
  * @param {Pick<Read, "notes"|"warnings"|"recorded">} told
  * @param {Heard} heard
  */
-async function takeRecording(source, library, sink, told, heard) {
+async function takeRecording(source, library, { packer, goal }, told, heard) {
   const { file, form, channels, rising, inverted = 0, rest } = source;
   const samples = form === "session" ? await sessionOf(file) : undefined;
   const pieces = samples ? samples.pieces(heard) : piecesOf(file, heard);
   const recording = await recordingOf(pieces, { form, channels, samples });
   const turned = (rising ? 0 : CLOCKS) | (inverted & 1 ? FIRST : 0) | (inverted & 2 ? SECOND : 0);
-  const sampler = new Sampler(library, recording, samplingOf(recording, rest), turned, goalOf(sink));
+  const sampler = new Sampler(library, recording, samplingOf(recording, rest), turned, goal);
   try {
     for await (const piece of recording.pieces) sampler.take(piece);
   } finally {
-    sampler.flush();
-    sink.flush();
+    packer.flush();
     const when = new Moments(recording.ticks, recording.begin());
     const how = { rising, when, isSampled: !recording.hasRuns, seams: recording.seams() };
     told.warnings.push(...doubtsOf(sampler.facts, recording.names, how));

@@ -5,7 +5,7 @@ const ONES = 5;
 
 /** @typedef {{ first: number, past: number, text: string }} Part of a frame: an octet, or a flag about it */
 
-/** @typedef {import("../engine/bits.js").Bit} Bit */
+/** @typedef {import("../engine/marks.js").Bit} Bit */
 
 /**
  * What the bits of a frame are.
