@@ -13,7 +13,7 @@ use Rattle.bus_bits.specs.Octet.{bits_of}
 use Rattle.bus_fcs.specs.Check.{CheckView}
 use Rattle.bus_line.specs.Due.{FlagAt, current, first_of}
 use Rattle.bus_line.specs.Ledger.{is_settled, is_inserted, assembled, stored}
-use Rattle.bus_line.specs.LineState.{LineState, waiting}
+use Rattle.bus_line.specs.LineState.{LineState, stored_of}
 use Rattle.bus_line.specs.Internal.LineView.{settles_from}
 use Rattle.bus_line.specs.Internal.Tracks.{settled_data, HoldsFor, Counts, Tracks}
 use Rattle.bus_line.specs.After.{After}
@@ -216,7 +216,7 @@ tracks-settled {C} {view} {p} {d} {e} {b} {bits} {gained} lags mark settles appe
           ap (λ (x : LineState C). x.spent.folded) kept,
           ap (λ (m : ℕ). view.cost * m) appends.waits,
           ap (λ (m : ℕ). view.cost * m) full,
-          mul-add view.cost (waiting d.longest d.data_bits) n,
+          mul-add view.cost (stored_of d.longest d.data_bits) n,
           mul-add view.cost (stored d.longest b) n,
           lags.counts.paid,
         );

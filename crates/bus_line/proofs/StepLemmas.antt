@@ -14,7 +14,7 @@ use Rattle.bus_fcs.specs.Check.{CheckView}
 use Rattle.bus_line.specs.Run.{ones_at_end, data_so_far, ones_after}
 use Rattle.bus_line.specs.Due.{Mark, NoMark, FlagAt, AbortAt, current, piece_report, first_of}
 use Rattle.bus_line.specs.Ledger.{is_settled, belongs, is_inserted, assembled, stored}
-use Rattle.bus_line.specs.LineState.{LineState, stored_of, waiting}
+use Rattle.bus_line.specs.LineState.{LineState, stored_of}
 use Rattle.bus_line.specs.Words.{first_in, fresh_words, state}
 use Rattle.bus_line.specs.declared.decoder_words.DecoderWords.{DecoderWords}
 use Rattle.bus_line.specs.Internal.AdvancesTo.{closed_piece}
@@ -229,7 +229,7 @@ pub tracks-flag : {C : Type 0} {view : CheckView C} (w v : DecoderWords) (check 
     {c : List Bool} {mark : Mark} {p : ℕ} → Tracks view (state w check octets) c mark → p + 8 ≡ length c
     → v ≡ record w {
       settles_at = v.settles_at;
-      folded = w.folded + view.cost * waiting w.longest w.data_bits;
+      folded = w.folded + view.cost * stored_of w.longest w.data_bits;
       stored = w.stored + stored_of w.longest w.data_bits;
       assembled = w.assembled + w.data_bits;
       data_bits = 0;

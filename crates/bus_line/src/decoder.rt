@@ -62,7 +62,7 @@ impl<C: Check> Model for LineDecoder<C> {
 
 impl<C: Check> LineDecoder<C> {
     ghost use Rattle.bus_line.specs.contracts.decoder.LineDecoder.{the_row};
-    ghost use Rattle.bus_line.specs.LineState.{LineState, waiting};
+    ghost use Rattle.bus_line.specs.LineState.{LineState, stored_of};
     ghost use Rattle.bus_line.specs.After.{AddsReport, AdvancesWith, After, Pushed, ShowsHeld, FitsFrame, due_of};
     ghost use Rattle.bus_line.specs.Shown.{report_option, reported};
 
@@ -201,7 +201,7 @@ impl<C: Check> LineDecoder<C> {
     #[tactic(auto, unfolding(crate::specs::LineState::stored_of))]
     pub fn spent(&self) -> Spent
         ensures value { result ≡ record self.now.spent {
-          folded = self.now.spent.folded + C.check.cost * waiting self.now.longest self.now.data_bits;
+          folded = self.now.spent.folded + C.check.cost * stored_of self.now.longest self.now.data_bits;
         } }
         ensures ledger { (b : List Bool) → After C.check self.now b →
             IsLedger C.check.cost self.now.longest b result }

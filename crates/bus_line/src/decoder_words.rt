@@ -4,7 +4,7 @@ ghost use Rattle.std.specs.Prelude.{◌≡◌, ◌+◌, ◌-◌, ◌*◌, ◌≤
 ghost use Rattle.std.specs.Option.{option_map};
 ghost use Rattle.bus_bits.specs.Limits.{most_places};
 ghost use Rattle.bus_line.specs.Due.{begun, current, first_of};
-ghost use Rattle.bus_line.specs.LineState.{stored_of, waiting};
+ghost use Rattle.bus_line.specs.LineState.{stored_of};
 ghost use Rattle.bus_line.specs.Words.{first_in, fresh_words, AreDecoderWords};
 
 use crate::fault::LineFault;
@@ -109,7 +109,7 @@ impl DecoderWords {
     pub(crate) fn count_piece<C: Check>(&mut self)
         requires { AreDecoderWords self.old }
         ensures counts { self.new ≡ record self.old {
-          folded = self.old.folded + C.check.cost * waiting self.old.longest self.old.data_bits;
+          folded = self.old.folded + C.check.cost * stored_of self.old.longest self.old.data_bits;
           stored = self.old.stored + stored_of self.old.longest self.old.data_bits;
           assembled = self.old.assembled + self.old.data_bits;
           data_bits = 0;

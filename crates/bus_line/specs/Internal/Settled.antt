@@ -5,7 +5,7 @@ use Rattle.bus_bits.specs.Octet.{number}
 use Rattle.bus_fcs.specs.Check.{CheckView}
 use Rattle.bus_line.specs.Run.{ones_at_end}
 use Rattle.bus_line.specs.Due.{current, first_of}
-use Rattle.bus_line.specs.LineState.{LineState, waiting}
+use Rattle.bus_line.specs.LineState.{LineState, stored_of}
 use Rattle.bus_line.specs.Internal.LineView.{settles_from}
 use Rattle.bus_line.specs.Internal.Tracks.{HasTaken, Holds, HoldsFor, Counts, padded, words_room}
 
@@ -74,8 +74,8 @@ pub record AppendsBits {C : Type 0} (view : CheckView C) (old : LineState C) (mo
   pub holds : (bits : List Bool) → Holds view.folded old bits → Holds view.folded new (bits ++ more)
   pub settled : new.spent.assembled ≡ old.spent.assembled + length more
   pub filled : new.spent.stored ≡ old.spent.stored + octets_more old.longest old.data_bits (length more)
-  pub waits : waiting old.longest new.data_bits
-      ≡ waiting old.longest old.data_bits + octets_more old.longest old.data_bits (length more)
+  pub waits : stored_of old.longest new.data_bits
+      ≡ stored_of old.longest old.data_bits + octets_more old.longest old.data_bits (length more)
   pub kept : new
       ≡ record old {
         data_bits = new.data_bits;

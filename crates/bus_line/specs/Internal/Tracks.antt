@@ -6,7 +6,7 @@ use Rattle.bus_fcs.specs.Check.{CheckView}
 use Rattle.bus_line.specs.Run.{data_so_far}
 use Rattle.bus_line.specs.Due.{Mark, NoMark, FlagAt, AbortAt, first_of}
 use Rattle.bus_line.specs.Ledger.{assembled, stored}
-use Rattle.bus_line.specs.LineState.{LineState, waiting}
+use Rattle.bus_line.specs.LineState.{LineState, stored_of}
 
 -- the data of the raw bits after the flag at p, up to eight bits before the end
 abbrev pub settled_data : List Bool → ℕ → List Bool
@@ -39,7 +39,7 @@ HoldsFor folded d b (AbortAt a) = Unit {0}
 pub record Counts {C : Type 0} (cost : ℕ) (d : LineState C) (b : List Bool) : Type 0 where
   pub settled : d.spent.assembled ≡ assembled b
   pub filled : d.spent.stored ≡ stored d.longest b
-  pub paid : d.spent.folded + cost * waiting d.longest d.data_bits ≡ cost * stored d.longest b
+  pub paid : d.spent.folded + cost * stored_of d.longest d.data_bits ≡ cost * stored d.longest b
   pub copied : d.spent.copied ≡ 0
   pub handled : d.spent.handled ≡ 0
 
