@@ -4,7 +4,7 @@ ghost use Rattle.std.specs.Prelude.{◌≡◌, ◌≢◌, ◌≤◌, ◌==◌, n
 ghost use Rattle.port1_c.specs.Pair.{IsCodedSeen, outcome_told, standing_told, standing_by, verdict_told};
 
 use bus_dictionary::Standing;
-use bus_pairing::{SeenEvent, Outcome};
+use bus_pairing::{Outcome, SeenEvent};
 
 /// How a frame stands to the table, or 0 for a piece that is no frame. The numbers are those of
 /// `c/include/port1.h`, with PORT1_ before each name.
