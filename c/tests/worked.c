@@ -243,7 +243,7 @@ static void no_decoder(void) {
 }
 
 /* A decoder of frames up to 256 octets from place 1000 on, after a flag and a hundred 0s. The piece begins at place
- * 1008, and 92 bits of it are settled, of which 64 are a word that is stored and folded. */
+ * 1008, and 92 bits of it are settled, of which 64 are a word that is stored. What folds it is counted at its end. */
 static void within_piece(void) {
     static const uint8_t octets[14] = {0x7e};
     struct port1_report report = untold;
@@ -268,7 +268,7 @@ static void one_number_wrong(void) {
                 {3, 7, PORT1_BAD_STATE},    {4, 64, PORT1_OK},               {4, 65, PORT1_BAD_STATE},
                 {5, 0, PORT1_OK},           {5, 1, PORT1_BAD_STATE},         {6, 16, PORT1_OK},
                 {6, 17, PORT1_BAD_STATE},   {7, 108, PORT1_OK},              {7, 109, PORT1_BAD_STATE},
-                {7, 63, PORT1_BAD_STATE},   {8, 258, PORT1_OK},              {8, 259, PORT1_BAD_STATE}};
+                {7, 63, PORT1_OK},          {8, 258, PORT1_OK},              {8, 259, PORT1_BAD_STATE}};
     for (size_t k = 0; k < sizeof rows / sizeof *rows; k++) {
         uint8_t has_begun = 9;
         uint64_t first = 5;
