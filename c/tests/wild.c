@@ -52,7 +52,7 @@ static uint64_t up_to(uint64_t most) {
     return end == 0 ? 0 : end == 1 ? most : most == UINT64_MAX ? draw() : draw() % (most + 1);
 }
 
-/* Numbers that a decoder may have; its last bits, register, bits of an octet and octets may be any. */
+/* Numbers that a decoder may have; its register, bits of an octet and octets may be any. */
 static void fill_consistent(struct port1_line *line) {
     line->longest = 3 + up_to(253);
     line->count = (uint32_t)up_to(line->longest + 2);
@@ -62,8 +62,9 @@ static void fill_consistent(struct port1_line *line) {
     line->data_bits = up_to(bits < 5000 ? bits : 5000);
     line->assembled = up_to(bits - line->data_bits);
     line->stored = up_to(line->assembled);
-    line->folded = up_to(8 * line->assembled + line->data_bits / 64 * 64);
+    line->folded = up_to(8 * line->assembled);
     line->settles_at = draw() % 2 ? NEVER : line->place + 8 - up_to(line->place < 3000 ? line->place : 3000);
+    line->last_bits = up_to(0xffff);
 }
 
 /* Numbers near those of a decoder. */
@@ -77,6 +78,7 @@ static void fill_near(struct port1_line *line) {
     line->stored = draw() % 700;
     line->folded = draw() % 5600;
     line->settles_at = draw() % 2 ? NEVER : line->place + 8 - draw() % 3000;
+    line->last_bits = draw() % 0x11000;
 }
 
 /* Any octets, and numbers as the way says, which is returned. Five lines of eight are consistent. */
@@ -101,7 +103,7 @@ static int is_alive(const struct port1_line *line) {
         && (line->settles_at == NEVER || line->settles_at <= line->place + 8)
         && line->data_bits <= line->place - line->origin
         && line->assembled <= line->place - line->origin - line->data_bits && line->stored <= line->assembled
-        && line->folded <= 8 * line->assembled + line->data_bits / 64 * 64;
+        && line->folded <= 8 * line->assembled && line->last_bits <= 0xffff;
 }
 
 static void fill_octets(uint8_t *octets) {

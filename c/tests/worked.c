@@ -257,23 +257,24 @@ static void within_piece(void) {
 /* One number that no decoder has beside the others is refused by every call, and changes nothing. */
 static void one_number_wrong(void) {
     uint64_t *const numbers[] = {&line.longest, &line.origin, &line.place,     &line.settles_at,
-                                 &line.folded,  &line.stored, &line.assembled, &line.data_bits};
+                                 &line.folded,  &line.stored, &line.assembled, &line.data_bits, &line.last_bits};
     static const struct {
-        size_t at; /* in these numbers; 8 is the count of the octets */
+        size_t at; /* in these numbers; 9 is the count of the octets */
         uint64_t number;
         uint32_t status;
     } rows[] = {{0, 6, PORT1_OK},           {0, 5, PORT1_BAD_STATE},         {0, 257, PORT1_BAD_STATE},
                 {1, 1016, PORT1_OK},        {1, 1017, PORT1_BAD_STATE},      {2, LIMIT, PORT1_OK},
                 {2, LIMIT + 1, PORT1_BAD_STATE}, {3, 1116, PORT1_OK},        {3, 1117, PORT1_BAD_STATE},
-                {3, 7, PORT1_BAD_STATE},    {4, 64, PORT1_OK},               {4, 65, PORT1_BAD_STATE},
+                {3, 7, PORT1_BAD_STATE},    {4, 0, PORT1_OK},                {4, 1, PORT1_BAD_STATE},
                 {5, 0, PORT1_OK},           {5, 1, PORT1_BAD_STATE},         {6, 16, PORT1_OK},
                 {6, 17, PORT1_BAD_STATE},   {7, 108, PORT1_OK},              {7, 109, PORT1_BAD_STATE},
-                {7, 63, PORT1_OK},          {8, 258, PORT1_OK},              {8, 259, PORT1_BAD_STATE}};
+                {8, 65535, PORT1_OK},       {8, 65536, PORT1_BAD_STATE},
+                {9, 258, PORT1_OK},         {9, 259, PORT1_BAD_STATE}};
     for (size_t k = 0; k < sizeof rows / sizeof *rows; k++) {
         uint8_t has_begun = 9;
         uint64_t first = 5;
         within_piece();
-        if (rows[k].at < 8)
+        if (rows[k].at < 9)
             *numbers[rows[k].at] = rows[k].number;
         else
             line.count = (uint32_t)rows[k].number;

@@ -56,7 +56,8 @@ pub record AreDecoderWords (w : DecoderWords) : Type 0 where
   pub settles : w.settles_at ≢ 2 ^ 62 → w.settles_at ≤ w.place + 8
   pub settled : w.assembled + w.data_bits ≤ w.place - w.origin
   pub filled : w.stored ≤ w.assembled
-  pub paid : w.folded ≤ 8 * w.assembled + 64 * (w.data_bits / 64)
+  pub paid : w.folded ≤ 8 * w.assembled
+  pub sixteen : w.last_bits < 65536
 
 -- and there is room for these octets of a piece
 pub record IsDecoder (w : DecoderWords) (octets : List ℕ) : Type 0 where

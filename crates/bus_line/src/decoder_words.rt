@@ -90,7 +90,8 @@ impl DecoderWords {
             && self.data_bits <= self.place - self.origin
             && self.assembled <= self.place - self.origin - self.data_bits
             && self.stored <= self.assembled
-            && self.folded <= 8 * self.assembled + self.data_bits / 64 * 64
+            && self.folded <= 8 * self.assembled
+            && self.last_bits <= 0xffff
     }
 
     /// The octets of the newest piece that are stored, or wait to be.

@@ -20,8 +20,9 @@ use std::cmp::min;
 /// The last sixteen of so many bits after sixteen others, the oldest lowest.
 #[inline(always)]
 fn newest(last_bits: u64, bits: u64, count: u64) -> u64
-    requires { count ≤ 56 }
-    ensures { last_bits < 65536 → result ≡ (last_bits + bits % 2 ^ 56 * 65536) / 2 ^ count % 65536 }
+    requires sixteen { last_bits < 65536 }
+    requires count { count ≤ 56 }
+    ensures { result ≡ (last_bits + bits % 2 ^ 56 * 65536) / 2 ^ count % 65536 }
 {
     let front = last_bits | bits << 16;
     let behind = last_bits >> 8 | bits << 8;

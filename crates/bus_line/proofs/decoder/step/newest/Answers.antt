@@ -6,12 +6,12 @@ use Rattle.bus_line.proofs.decoder.step.newest.Goals as goal
 use Rattle.bus_line.proofs.decoder.step.newest.Goals.{then-count-lt8, else-count-lt8}
 
 pub returns : goal.returns
-returns c = λ small.
+returns c =
     let x = c.if-count-lt8.newest in
     let low : bit_and x 65535 ≡ x % 65536 = and_mask x 16 in
     low ∙ elim c.if-count-lt8.branch [
       | then-count-lt8 w ↦ ap (λ (y : ℕ). y % 65536) w.newest-is
-          ∙ newest-front c.args.last_bits c.args.bits c.args.count small (omega (arith, w.if-count-lt8))
+          ∙ newest-front c.args.last_bits c.args.bits c.args.count c.requires.sixteen (omega (arith, w.if-count-lt8))
       | else-count-lt8 w ↦ ap (λ (y : ℕ). y % 65536) w.newest-is
-          ∙ newest-behind c.args.last_bits c.args.bits c.args.count small (omega (arith, w.if-count-lt8))
+          ∙ newest-behind c.args.last_bits c.args.bits c.args.count c.requires.sixteen (omega (arith, w.if-count-lt8))
     ]

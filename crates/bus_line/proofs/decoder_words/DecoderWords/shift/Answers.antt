@@ -12,7 +12,7 @@ use Rattle.bus_line.specs.Internal.LineView.{settles_from}
 use Rattle.bus_line.specs.Internal.Settled.{HasNoStop, data_in_word}
 use Rattle.bus_line.specs.Internal.Tracks.{Tracks}
 use Rattle.bus_line.specs.declared.decoder_words.DecoderWords.{DecoderWords}
-use Rattle.bus_line.proofs.TimeFillLemmas.{last-bits-small, settled-behind, word-front, word-is, word_of}
+use Rattle.bus_line.proofs.TimeFillLemmas.{settled-behind, word-front, word-is, word_of}
 use Rattle.bus_line.proofs.AdvancesToLemmas.{no_stop-front}
 use Rattle.bus_line.proofs.SettleLemmas.{Shifted, word-settled, word-unsettled}
 use Rattle.bus_line.proofs.StepLemmas.{settles-open}
@@ -22,13 +22,12 @@ use Rattle.bus_line.proofs.decoder_words.DecoderWords.shift.Goals as goal
 -- the newest bits, as the front of 56
 newest : {C : Type 0} {view : CheckView C} (old : DecoderWords) (check : C) (octets : List ℕ) (b : List Bool)
     (x n last : ℕ) → After view (state old check octets) b → n ≤ 56
-    → (old.last_bits < 65536 → last ≡ word_of old.last_bits x / 2 ^ n % 65536)
+    → last ≡ word_of old.last_bits x / 2 ^ n % 65536
     → HasNoStop b (bits_of n x) (length (bits_of n x) - 1)
     → Shifted view (state (record old { place = old.place + n; last_bits = last }) check octets)
     (word_of old.last_bits x) n b (bits_of 56 x)
 newest old check octets b x n last stands few is-last no_stop =
-    let small = last-bits-small (state old check octets) b stands.has_taken in
-    let next = ap (λ (y : ℕ). record old { place = old.place + n; last_bits = y }) (is-last small) in
+    let next = ap (λ (y : ℕ). record old { place = old.place + n; last_bits = y }) is-last in
     let long = length-bits n x in
     shifted old (record old { place = old.place + n; last_bits = last }) check octets b (bits_of 56 x)
     (word_of old.last_bits x) n next stands (word-is old.last_bits x b stands.has_taken.last_bits)
@@ -71,7 +70,6 @@ returns-clause-consumes g c check octets new appends =
       origin = ap (λ (d : LineState _). d.origin) appends.kept;
       place = ap (λ (d : LineState _). d.place) appends.kept ∙ omega (arith, length-bits n x);
       tracks = λ b stands no_stop.
-          let small = last-bits-small (state old check octets) b stands.has_taken in
           let shifted = newest old check octets b x n c.newest-self.result stands c.requires.count.1
           c.newest-self.ensures no_stop in
           let told = settles-told old.settles_at c.requires.within.settles_late in
@@ -81,7 +79,7 @@ returns-clause-consumes g c check octets new appends =
           let is-late : late ≡ min (old.place + n - (opened.0 + 8)) n =
           c.min-late.ensures ∙ (least (old.place + n - old.settles_at) n ∙ omega (arith, at)) in
           let value = c.data_in_word.ensures.value
-          ∙ (ap (λ (y : ℕ). data_in_word (y / 2 ^ (n - late)) late) (word-front old.last_bits x small)
+          ∙ (ap (λ (y : ℕ). data_in_word (y / 2 ^ (n - late)) late) (word-front old.last_bits x c.requires.within.sixteen)
           ∙ settled-behind (word_of old.last_bits x) (n - late) late (omega (arith, is-late, c.requires.count.1))) in
           front-tracks b x n c.requires.count.1
           (word-settled opened.0 late c.data_in_word.result.count c.data_in_word.result.bits shifted opened.1
