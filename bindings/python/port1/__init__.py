@@ -51,7 +51,7 @@ __all__ = [
 ]
 
 # The version of the library that this came with.
-__version__ = "3.0.0"
+__version__ = "3.1.0"
 
 NAME = "libport1.so.2"
 
