@@ -100,12 +100,12 @@ def uses() -> List[Use]:
         ),
         Use("zsh -fc 'autoload -U compinit; compinit -u -D; echo $_comps[port1]'", "_port1\n", "zsh"),
         Use("fish -c 'complete -C \"port1 enc\"' | cut -f 1", "encode\n", "fish"),
-        Use("ldconfig -p | grep -c 'libport1.so.2 '", "1\n"),
+        Use("ldconfig -p | grep -c 'libport1.so.3 '", "1\n"),
         Use("bus-summary --help | sed -n 's/ .*//p;q'", "usage:\n"),
         Use("cd /usr/share/port1; contrib/list-in-parts examples/one-call.ts2", ONE_FRAME),
         Use("pkg-config --modversion port1", f"{version()}\n", "pkg-config"),
         Use(f"cc -o list {EXAMPLE} $(pkg-config --cflags --libs port1); ./list < one.ts2", frame, "pkg-config"),
-        Use(f"cc -o list {EXAMPLE} -lport1; ldd list | grep -c /libport1.so.2; ./list < one.ts2", f"1\n{frame}"),
+        Use(f"cc -o list {EXAMPLE} -lport1; ldd list | grep -c /libport1.so.3; ./list < one.ts2", f"1\n{frame}"),
     ]
     loaded = Use(f'PYTHONPATH=/usr/share/port1/contrib/python python3 -B -c "{module}"', ONE_FRAME)
     return [*rows, loaded] if ARCHIVE.is_file() else rows

@@ -61,7 +61,7 @@ LIBRARY_FILES = {
     "usr/share/doc/libport1-dev/changelog.gz",
 }
 
-SHARED_FILES = {"usr/lib/{}/libport1.so", "usr/lib/{}/libport1.so.2", "usr/share/lintian/overrides/libport1-dev"}
+SHARED_FILES = {"usr/lib/{}/libport1.so", "usr/lib/{}/libport1.so.3", "usr/share/lintian/overrides/libport1-dev"}
 
 # What has another name in the package of the program than in the tarball.
 RENAMED = {
