@@ -357,7 +357,7 @@ def field(package: Path, name: str) -> str:
 def fields(_: Path) -> List[str]:
     """Who maintains the packages, for which machines they are, and on which they depend."""
     rows = {
-        "port1_amd64.deb": ("amd64", r"nodejs \(>= 18\), libc6 \(>= 2\.\d+\)", "electronics"),
+        "port1_amd64.deb": ("amd64", r"nodejs \(>= 18\.15\), libc6 \(>= 2\.\d+\)", "electronics"),
         "libport1-dev_amd64.deb": ("amd64", r"libc6-dev \| libc-dev(, libc6 \(>= 2\.\d+(\.\d+)?\))?", "libdevel"),
         "libport1-dev_arm64.deb": ("arm64", r"libc6-dev \| libc-dev", "libdevel"),
     }
