@@ -8,7 +8,7 @@ import subprocess
 from pathlib import Path
 from typing import Dict, Iterator, List, NamedTuple, Sequence, Tuple
 
-from needs import LOADER_OF_ARM, Skipped, needs, needs_file
+from needs import HEADER_OF_ARM, LOADER_OF_ARM, Skipped, needs, needs_file
 from tests import installing
 from tests.case import ARCHIVE, ONE_CALL, SECONDS, TOP, Word, needs_archive, packed, unlike
 from tests.packages import ONE_FRAME, told
@@ -114,7 +114,7 @@ def uses() -> List[Use]:
 def uses_of_both() -> List[Use]:
     """What is done with the library installed for both processors."""
     given = f"-o list {EXAMPLE} -lport1_c"
-    tools = f"{COMPILER_FOR_ARM} {EMULATED[0]} {LOADER_OF_ARM}"
+    tools = f"{COMPILER_FOR_ARM} {EMULATED[0]} {HEADER_OF_ARM} {LOADER_OF_ARM}"
     return [
         Use("dpkg --verify libport1-dev:amd64 libport1-dev:arm64", ""),
         Use(f"cc {given}; ./list < one.ts2", listed_by(ARCHIVE)),
@@ -234,6 +234,7 @@ def library_for_arm(folder: Path) -> List[str]:
     """The examples of the package for 64-bit ARM, linked with it, write under the emulator what those of the package
     for x86-64 write here."""
     needs("cc", "pkg-config", COMPILER_FOR_ARM, EMULATED[0])
+    needs_file(HEADER_OF_ARM)
     needs_file(LOADER_OF_ARM)
     if ARCHIVE.is_file() and not ARCHIVE_FOR_ARM.is_file():
         raise Skipped(f"no {LIBRARY_FOR_ARM}; c/targets/build builds it")

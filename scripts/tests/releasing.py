@@ -388,7 +388,7 @@ def control_files(folder: Path) -> List[str]:
         wanted = ["control", "md5sums", *(["shlibs", "triggers"] if shared else [])]
         problems += unlike(f"{name}: control files", wanted, sorted(path.name for path in place.iterdir()))
     known = (folder / "libport1-dev_amd64.deb" / "shlibs").read_text()
-    return problems + unlike("shlibs", f"libport1 2 libport1-dev (>= {version()})\n", known)
+    return problems + unlike("shlibs", f"libport1 3 libport1-dev (>= {version()})\n", known)
 
 
 def proved_by(_: Path) -> List[str]:
