@@ -37,7 +37,7 @@ SAME_FOLDERS = {
 }
 
 # What belongs to the work on the scripts and not to their use.
-TESTS_OF_SCRIPTS = {"tests", "self-test", "__pycache__"}
+TESTS_OF_SCRIPTS = {"tests", "self-test", "__pycache__", "out"}
 
 
 def made(target: str, words: Sequence[str], folder: Path) -> None:
