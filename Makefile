@@ -48,7 +48,7 @@ PROGRAM = crates/port1/out/port1
 SAMPLER = crates/port1_sample/out/port1_sample
 PAGE = page/out/port1.html
 LIBRARY = crates/port1_c/out/$(if $(TARGET),$(TARGET)/)libport1_c.a
-SONAME = libport1.so.2
+SONAME = libport1.so.3
 SHARED = $(if $(TARGET),,$(dir $(LIBRARY))$(SONAME))
 C_EXAMPLES = c/examples/Makefile $(wildcard c/examples/*.c)
 FIRMWARE = $(addprefix c/examples/mcu/,Makefile board.ld) $(wildcard c/examples/mcu/*.[ch])
@@ -118,8 +118,9 @@ install-program: $(PROGRAM) $(SAMPLER) install-scripts
 		install -m 644 cli/completions/_$$name "$(DESTDIR)$(ZSHDIR)/_$$name" && \
 		install -m 644 cli/completions/$$name.fish "$(DESTDIR)$(FISHDIR)/$$name.fish" || exit 1; done
 
-# Puts the files of a folder into one of share/port1/contrib, whose names are older than those here; tests stay here.
-put-in-contrib = find $(1) -mindepth 1 -name tests -prune -o -name __pycache__ -prune -o \
+# Puts the files of a folder into one of share/port1/contrib, whose names are older than those here; tests, and what
+# `make` put together there, stay here.
+put-in-contrib = find $(1) -mindepth 1 -name tests -prune -o -name __pycache__ -prune -o -name out -prune -o \
 	! -name self-test -type f -printf '%P\n' | while read -r file; do \
 		mode=644; test ! -x "$(1)/$$file" || mode=755; \
 		install -D -m $$mode "$(1)/$$file" "$(DESTDIR)$(OWNDIR)/contrib/$(2)$$file" || exit 1; done

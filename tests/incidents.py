@@ -108,6 +108,8 @@ SHOWN: List[Tuple[str, str]] = [
     ("#incidents-head", "Incident 1 of 2"),
 ]
 
+CUT_TIMES = "[...document.querySelectorAll('#lines .second')].some((time) => time.scrollWidth > time.clientWidth)"
+
 RESULT = "document.body.dataset.state === 'result' && !document.body.classList.contains('reading')"
 
 
@@ -146,6 +148,7 @@ def problems_of_one(page: Path, name: str) -> List[str]:
         session.value(DROP % json.dumps(tree_of(files)))
         session.wait_until(f"{RESULT} && /^03/.test(document.getElementById('chosen').textContent)")
         problems = [] if session.value("document.getElementById('incidents').hidden") else ["one incident is a list"]
+        problems += ["times of the listing are cut off"] if session.value(CUT_TIMES) else []
         session.value(DROP % json.dumps(tree_of(plain)))
         session.wait_until(f"{RESULT} && /^bits/.test(document.querySelector('#facts .name').textContent)")
         where, told = text_at(session, "#timeline .where"), text_at(session, "#status.fault")

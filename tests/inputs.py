@@ -177,6 +177,10 @@ INPUTS = [
         "no dictionary", {"a.bits": WELL}, "Not all judged",
         {LACKS: "^Nothing is damaged, missing or spoilt.*Judged by a draft of a dictionary.*See it", **NOT_LATE},
     ),
+    Input(
+        "one in 60 missing, and no dictionary", {"a.bits": OFTEN_MISSING}, "Fault",
+        {FIRST: r"^Station 1 gave no answer to 1 of 60 commands of type 0(?! \()"},
+    ),
     Input("a silent station, and no dictionary", {"a.bits": SILENT}, "Fault", {FIRST: "^Station 2 is silent"}),
     Input("frames without a type", {"a.bits": UNTYPED}, "Not judged", {LACKS: "There is no dictionary"}),
     Input(
@@ -208,6 +212,10 @@ INPUTS = [
         "channels out of order, and without names",
         {**DICT, "d.csv": rows_of(talk(10, well), ["D2", "D3", "D0", "D1"])}, "Fault",
         {FIRST: "came on line 2", "#channels": "D0"},
+    ),
+    Input(
+        "wires of the answers exchanged", {**DICT, "d.csv": rows_of(SHORT, ["D0", "D1", "D3", "D2"])}, "Fault",
+        {SHORTLY: "^Wires seem to be in each other's place . No station answers$", "#warnings": "D3 has the edges of a clock"},
     ),
     Input(
         "clocks inverted", {**DICT, "tap.csv": rows_of(SHORT, flipped=0b0101)}, "",

@@ -31,6 +31,8 @@ SPECS_OF_NEWLIB = "/usr/lib/arm-none-eabi/newlib/nosys.specs"
 
 LOADER_OF_ARM = "/usr/aarch64-linux-gnu/lib/ld-linux-aarch64.so.1"
 
+HEADER_OF_ARM = "/usr/aarch64-linux-gnu/include/stdint.h"
+
 GATE = [
     Package("bash-completion", files=[BASH_COMPLETION]),
     Package("binutils", ["ar", "nm", "readelf", "size"]),
@@ -67,7 +69,7 @@ GATE = [
 # Those of tests beside the gate, some of which run servers.
 BESIDE = [
     Package("gcc-aarch64-linux-gnu", ["aarch64-linux-gnu-gcc"]),
-    Package("libc6-arm64-cross", files=[LOADER_OF_ARM]),
+    Package("libc6-dev-arm64-cross", files=[HEADER_OF_ARM, LOADER_OF_ARM]),
     Package("libnewlib-arm-none-eabi", files=[SPECS_OF_NEWLIB]),
     Package("lintian", ["lintian"]),
     Package("munge", ["munged"]),

@@ -63,6 +63,11 @@ def summary_of(listing: str, *words: str) -> str:
     return subprocess.run(words, input=listing.encode(), capture_output=True, check=True).stdout.decode()
 
 
+# Whether the choice of commands lies over the picture of their reply times.
+COVERS = """((choice, picture) => choice.bottom > picture.top + 1)(
+  ...['select', 'svg'].map((name) => document.querySelector(`#replies ${name}`).getBoundingClientRect()))"""
+
+
 def problems_of_page(page: Path, name: str) -> List[str]:
     """Reads files as a user does, and looks at all that is shown."""
     bench()
@@ -80,6 +85,7 @@ def problems_of_page(page: Path, name: str) -> List[str]:
         problems += problems_of_table(session, summary)
         problems += problems_of_search(session, wanted)
         problems += problems_of_marks(session)
+        problems += ["the choice of commands covers reply times"] if session.value(COVERS) else []
         problems += [f"the console says {text}" for text in session.complaints()]
     return problems
 

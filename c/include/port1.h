@@ -61,9 +61,9 @@ extern "C" {
 #endif
 
 /* The version of this header and of the library that came with it. */
-#define PORT1_VERSION "3.0.0"
+#define PORT1_VERSION "3.1.0"
 #define PORT1_VERSION_MAJOR 3
-#define PORT1_VERSION_MINOR 0
+#define PORT1_VERSION_MINOR 1
 #define PORT1_VERSION_PATCH 0
 
 /* What a call returns. */

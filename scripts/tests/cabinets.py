@@ -71,11 +71,13 @@ def cabinets(_: Path) -> List[str]:
 
 
 def many_cabinets(_: Path) -> List[str]:
-    """Phases and cuts, many of them: recordings that begin and end anywhere."""
+    """Phases and cuts, many of them: recordings that begin and end anywhere, but that the last levels stand."""
     problems = []
     for seed in range(200):
         made = Cabinet(1000 + seed, PPM[seed % 7], seed % 2 == 0, 2_000_000, polls=12, whole=False)
-        problems += problems_of(recorded_of(made), f"seed {seed}", made.samples)
+        recorded = recorded_of(made)
+        stands = recorded._replace(samples=np.append(recorded.samples, recorded.samples[-1:]))
+        problems += problems_of(stands, f"seed {seed}", made.samples)
     return problems
 
 

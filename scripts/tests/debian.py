@@ -8,7 +8,7 @@ import subprocess
 from pathlib import Path
 from typing import Dict, Iterator, List, NamedTuple, Sequence, Tuple
 
-from needs import LOADER_OF_ARM, Skipped, needs, needs_file
+from needs import HEADER_OF_ARM, LOADER_OF_ARM, Skipped, needs, needs_file
 from tests import installing
 from tests.case import ARCHIVE, ONE_CALL, SECONDS, TOP, Word, needs_archive, packed, unlike
 from tests.packages import ONE_FRAME, told
@@ -100,12 +100,12 @@ def uses() -> List[Use]:
         ),
         Use("zsh -fc 'autoload -U compinit; compinit -u -D; echo $_comps[port1]'", "_port1\n", "zsh"),
         Use("fish -c 'complete -C \"port1 enc\"' | cut -f 1", "encode\n", "fish"),
-        Use("ldconfig -p | grep -c 'libport1.so.2 '", "1\n"),
+        Use("ldconfig -p | grep -c 'libport1.so.3 '", "1\n"),
         Use("bus-summary --help | sed -n 's/ .*//p;q'", "usage:\n"),
         Use("cd /usr/share/port1; contrib/list-in-parts examples/one-call.ts2", ONE_FRAME),
         Use("pkg-config --modversion port1", f"{version()}\n", "pkg-config"),
         Use(f"cc -o list {EXAMPLE} $(pkg-config --cflags --libs port1); ./list < one.ts2", frame, "pkg-config"),
-        Use(f"cc -o list {EXAMPLE} -lport1; ldd list | grep -c /libport1.so.2; ./list < one.ts2", f"1\n{frame}"),
+        Use(f"cc -o list {EXAMPLE} -lport1; ldd list | grep -c /libport1.so.3; ./list < one.ts2", f"1\n{frame}"),
     ]
     loaded = Use(f'PYTHONPATH=/usr/share/port1/contrib/python python3 -B -c "{module}"', ONE_FRAME)
     return [*rows, loaded] if ARCHIVE.is_file() else rows
@@ -114,7 +114,7 @@ def uses() -> List[Use]:
 def uses_of_both() -> List[Use]:
     """What is done with the library installed for both processors."""
     given = f"-o list {EXAMPLE} -lport1_c"
-    tools = f"{COMPILER_FOR_ARM} {EMULATED[0]} {LOADER_OF_ARM}"
+    tools = f"{COMPILER_FOR_ARM} {EMULATED[0]} {HEADER_OF_ARM} {LOADER_OF_ARM}"
     return [
         Use("dpkg --verify libport1-dev:amd64 libport1-dev:arm64", ""),
         Use(f"cc {given}; ./list < one.ts2", listed_by(ARCHIVE)),
@@ -234,6 +234,7 @@ def library_for_arm(folder: Path) -> List[str]:
     """The examples of the package for 64-bit ARM, linked with it, write under the emulator what those of the package
     for x86-64 write here."""
     needs("cc", "pkg-config", COMPILER_FOR_ARM, EMULATED[0])
+    needs_file(HEADER_OF_ARM)
     needs_file(LOADER_OF_ARM)
     if ARCHIVE.is_file() and not ARCHIVE_FOR_ARM.is_file():
         raise Skipped(f"no {LIBRARY_FOR_ARM}; c/targets/build builds it")

@@ -82,7 +82,7 @@ def things_missing(folder: Path) -> List[str]:
     tools.mkdir()
     for tool in ("sh", "readlink", "dirname"):
         (tools / tool).symlink_to(str(shutil.which(tool)))
-    said = "needs Node 18 or later (Debian: nodejs)"
+    said = "needs Node 18.15 or later (Debian: nodejs)"
     without_node = {**os.environ, "PATH": str(tools)}
     problems += unlike(said, (2, [f"check-dictionary: {said}"]), checked(folder, WINDOWS, env=without_node))
     dead = folder / "dead"

@@ -37,13 +37,13 @@ SAME_FOLDERS = {
 }
 
 # What belongs to the work on the scripts and not to their use.
-TESTS_OF_SCRIPTS = {"tests", "self-test", "__pycache__"}
+TESTS_OF_SCRIPTS = {"tests", "self-test", "__pycache__", "out"}
 
 
 def made(target: str, words: Sequence[str], folder: Path) -> None:
     """Runs make with the built program, and with files for library and page, which need not be built for this."""
     library, page = folder / "library.a", folder / "page.html"
-    for path in (library, folder / "libport1.so.2", page):
+    for path in (library, folder / "libport1.so.3", page):
         path.write_bytes(b"no library\n")
     given = [f"PROGRAM={os.environ['PORT1']}", f"LIBRARY={library}", f"PAGE={page}", *words]
     subprocess.run(["make", "-s", "-C", TOP, target, *given], check=True, capture_output=True, timeout=SECONDS)
@@ -109,7 +109,7 @@ def problems_of_use(prefix: Path, folder: Path) -> List[str]:
 # What is written when it is installed, and what is built.
 MADE = {
     *["lib/pkgconfig/port1.pc", "lib/cmake/port1/port1Config.cmake", "lib/cmake/port1/port1ConfigVersion.cmake"],
-    *["bin/port1", "bin/port1-sample", "lib/libport1_c.a", "lib/libport1.so", "lib/libport1.so.2", "share/port1/page/port1.html"],
+    *["bin/port1", "bin/port1-sample", "lib/libport1_c.a", "lib/libport1.so", "lib/libport1.so.3", "share/port1/page/port1.html"],
     "share/port1/examples",
 }
 
@@ -166,7 +166,7 @@ def problems_of_modes(prefix: Path) -> List[str]:
 def problems_of_library(prefix: Path) -> List[str]:
     """Whether the library is in place in both forms, and port1.pc tells where, wherever that is."""
     libraries = prefix / "lib"
-    rows = {"libport1_c.a": b"no library\n", "libport1.so.2": b"no library\n", "libport1.so": b"no library\n"}
+    rows = {"libport1_c.a": b"no library\n", "libport1.so.3": b"no library\n", "libport1.so": b"no library\n"}
     problems = [f"lib/{name}: another" for name, octets in rows.items() if (libraries / name).read_bytes() != octets]
     text = (libraries / "pkgconfig" / "port1.pc").read_text(encoding="ascii")
     told = dict(re.findall(r"^(\w+)=\$\{pcfiledir\}/(.*)$", text, re.MULTILINE))

@@ -121,7 +121,7 @@ def made_without_a_toolchain(folder: Path) -> List[str]:
 def shared_library(folder: Path) -> List[str]:
     """Its name, that it exports the functions of the header alone, and that its text is shared."""
     needs("nm", "readelf")
-    library = moved(folder) / "lib" / "libport1.so.2"
+    library = moved(folder) / "lib" / "libport1.so.3"
     header = (TOP / "c" / "include" / "port1.h").read_text(encoding="ascii")
     wanted = sorted(re.findall(r"^uint32_t (port1_\w+)\(", header, re.MULTILINE))
     exported = re.findall(r" (\w) (\S+)$", told(["nm", "-D", "--defined-only", library]), re.MULTILINE)
@@ -129,10 +129,10 @@ def shared_library(folder: Path) -> List[str]:
     link = library.with_name("libport1.so")
     return [
         *unlike("exported", [("T", name) for name in wanted], sorted(exported, key=lambda pair: pair[1])),
-        *unlike("name", ["libport1.so.2"], re.findall(r"\(SONAME\).*\[(.*)\]", entries)),
+        *unlike("name", ["libport1.so.3"], re.findall(r"\(SONAME\).*\[(.*)\]", entries)),
         *unlike("libraries that it needs", ["libc.so.6"], re.findall(r"\(NEEDED\).*\[(.*)\]", entries)),
         *unlike("text that is changed where it is loaded", False, "TEXTREL" in entries),
-        *unlike("link", "libport1.so.2", os.readlink(link)),
+        *unlike("link", "libport1.so.3", os.readlink(link)),
     ]
 
 
@@ -150,7 +150,7 @@ def by_pkg_config(folder: Path) -> List[str]:
         problems += unlike(f"{name}: cc", "", told(words, b"", **settings))
         problems += unlike(name, ONE_FRAME, told([folder / name], ONE_CALL, **settings))
         needed = told(["readelf", "-d", folder / name])
-        problems += unlike(f"{name} needs it", name == "shared", "[libport1.so.2]" in needed)
+        problems += unlike(f"{name} needs it", name == "shared", "[libport1.so.3]" in needed)
     shown = told(["pkg-config", "--modversion", "port1"], PKG_CONFIG_PATH=str(prefix / "lib" / "pkgconfig"))
     version = told([os.environ["PORT1"], "--version"]).split()[1]
     return problems + unlike("version", f"{version}\n", shown)
@@ -179,7 +179,7 @@ def by_cmake(folder: Path) -> List[str]:
         live = told([work / "out" / f"live-{target}"], ONE_CALL[16:])
         problems += unlike(f"live-{target}", "49: 10 83 00 fd e5\n", live)
         needed = told(["readelf", "-d", work / "out" / f"list-{target}"])
-        problems += unlike(f"list-{target} needs it", target == "shared", "[libport1.so.2]" in needed)
+        problems += unlike(f"list-{target} needs it", target == "shared", "[libport1.so.3]" in needed)
     return problems
 
 

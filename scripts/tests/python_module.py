@@ -228,13 +228,13 @@ def places_of_the_library(folder: Path) -> List[str]:
     (alone / "port1").mkdir(parents=True)
     module = alone / "port1" / "__init__.py"
     module.write_bytes((MODULE / "port1" / "__init__.py").read_bytes())
-    library = prefix / "lib" / "libport1.so.2"
+    library = prefix / "lib" / "libport1.so.3"
     missing = "cannot open shared object file: No such file or directory; `make install-library` makes it, and PORT1_LIBRARY says where it is"
     rows: List[Tuple[Path, Optional[Path], str]] = [
         (prefix / "lib" / "python", None, "made"),
         (MODULE, library, "made"),
         (alone, library, "made"),
-        (alone, None, f"libport1.so.2: {missing}"),
+        (alone, None, f"libport1.so.3: {missing}"),
         (prefix / "lib" / "python", Path("/none.so"), f"/none.so: {missing}"),
     ]
     problems = []

@@ -61,7 +61,7 @@ LIBRARY_FILES = {
     "usr/share/doc/libport1-dev/changelog.gz",
 }
 
-SHARED_FILES = {"usr/lib/{}/libport1.so", "usr/lib/{}/libport1.so.2", "usr/share/lintian/overrides/libport1-dev"}
+SHARED_FILES = {"usr/lib/{}/libport1.so", "usr/lib/{}/libport1.so.3", "usr/share/lintian/overrides/libport1-dev"}
 
 # What has another name in the package of the program than in the tarball.
 RENAMED = {
@@ -357,7 +357,7 @@ def field(package: Path, name: str) -> str:
 def fields(_: Path) -> List[str]:
     """Who maintains the packages, for which machines they are, and on which they depend."""
     rows = {
-        "port1_amd64.deb": ("amd64", r"nodejs \(>= 18\), libc6 \(>= 2\.\d+\)", "electronics"),
+        "port1_amd64.deb": ("amd64", r"nodejs \(>= 18\.15\), libc6 \(>= 2\.\d+\)", "electronics"),
         "libport1-dev_amd64.deb": ("amd64", r"libc6-dev \| libc-dev(, libc6 \(>= 2\.\d+(\.\d+)?\))?", "libdevel"),
         "libport1-dev_arm64.deb": ("arm64", r"libc6-dev \| libc-dev", "libdevel"),
     }
@@ -388,7 +388,7 @@ def control_files(folder: Path) -> List[str]:
         wanted = ["control", "md5sums", *(["shlibs", "triggers"] if shared else [])]
         problems += unlike(f"{name}: control files", wanted, sorted(path.name for path in place.iterdir()))
     known = (folder / "libport1-dev_amd64.deb" / "shlibs").read_text()
-    return problems + unlike("shlibs", f"libport1 2 libport1-dev (>= {version()})\n", known)
+    return problems + unlike("shlibs", f"libport1 3 libport1-dev (>= {version()})\n", known)
 
 
 def proved_by(_: Path) -> List[str]:

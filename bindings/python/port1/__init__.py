@@ -18,7 +18,7 @@ is a number of bits: that of the decoder's first bit is `origin`. A report says 
 just before `past`, and `str(report)` is the line that `port1 list` writes without a dictionary. Nothing is shared
 between two decoders or encoders, so each thread may have its own; a call holds Python's global lock.
 
-The library is libport1.so.2: that of the environment variable PORT1_LIBRARY, else one beside this module, or in `lib`
+The library is libport1.so.3: that of the environment variable PORT1_LIBRARY, else one beside this module, or in `lib`
 of a folder above it, where `make install-library` puts it. Else it is one that was built in the repository, or what the
 system's loader finds. The library is proved; this module, which calls it by ctypes, is not. It runs on 64-bit Linux.
 """
@@ -51,9 +51,9 @@ __all__ = [
 ]
 
 # The version of the library that this came with.
-__version__ = "3.0.0"
+__version__ = "3.1.0"
 
-NAME = "libport1.so.2"
+NAME = "libport1.so.3"
 
 # What a call returns: OK, and why it refused.
 OK, BAD_LENGTH, PLACE_LIMIT, BAD_STATE, BAD_ARGUMENT, NO_ROOM = range(6)

@@ -67,7 +67,7 @@ fn whole_command<'a>(alloc: Global) -> Result<Command<'a>, Error> {
     Ok(
         Command::new(alloc, "port1")
             .bin_name("port1")?
-            .version("3.0.0")
+            .version("3.1.0")
             .about("Analyses the Port 1 bus of a traffic-signal cabinet, from the bits on it")
             .after_help(help::WHOLE)
             .no_binary_name(true)

@@ -166,7 +166,7 @@ const LEVELS: [ArgumentRow; 7] = [
 fn whole_command<'a>(alloc: Global) -> Result<Command<'a>, Error> {
     let command = Command::new(alloc, "port1-sample")
         .bin_name("port1-sample")?
-        .version("3.0.0")
+        .version("3.1.0")
         .about("Takes the bits of the Port 1 bus from the samples of a logic analyser")
         .override_usage("port1-sample [OPTIONS] TXC TXD [RXC RXD] < SAMPLES")
         .after_help(AFTER)

@@ -1,6 +1,7 @@
 import { counted } from "../../../scripts/modules/text.js";
 import { element, make } from "./dom.js";
 import { VERDICTS } from "./signs.js";
+import { EXCHANGED } from "./words.js";
 
 /** @typedef {import("./page.js").Summary} Summary */
 /** @typedef {keyof typeof COUNTS} Counted */
@@ -10,6 +11,7 @@ const WORDS = { fault: "Fault", doubt: "Look closer", well: "No fault found", un
 
 const NOT_JUDGED = "Not judged";
 const NO_FRAMES = "Nothing to judge";
+const CROSSED = "Wires seem to be in each other's place";
 const WELL = "Every answer came in time, nothing is damaged, and no gap stands out.";
 
 /** What is counted, in the singular and in the plural. */
@@ -43,7 +45,9 @@ export class Verdict {
     section.className = `${verdict.level}-level`;
     /** @type {SVGPathElement} */ (section.querySelector("path")).setAttribute("d", VERDICTS[verdict.level]);
     element("verdict-word").textContent = wordOf(verdict, frames);
-    element("verdict-short").textContent = shortOf(verdict, findings, doubtsOf(fault, warnings));
+    const areExchanged = warnings.some(({ sort }) => EXCHANGED.has(sort));
+    const doubts = areExchanged ? [CROSSED] : doubtsOf(fault, warnings);
+    element("verdict-short").textContent = shortOf(verdict, findings, doubts, areExchanged);
     /** @param {Counted} name */
     const isJudged = (name) => ALWAYS.has(name) || (name === "late" ? verdict.isLateJudged : verdict.isJudged);
     /** @param {Counted} name */
@@ -85,16 +89,17 @@ function doubtsOf(fault, warnings) {
 
 /**
  * The worst in short, and how many more there are, or else what was not judged. A doubtful recording comes after the
- * worst fault, and before anything else.
+ * worst fault, and before anything else; wires in each other's place come before all that they may have made.
  * @param {Summary["verdict"]} verdict
  * @param {Summary["findings"]} findings
  * @param {string[]} doubts
+ * @param {boolean} areFirst
  */
-function shortOf({ level, lacks }, findings, doubts) {
+function shortOf({ level, lacks }, findings, doubts, areFirst) {
   if (level === "well") return WELL;
   const own = findings.map(({ short }) => short).filter((short) => short);
   if (own.length + doubts.length === 0) return lacks[0]?.shown ?? "";
-  const all = level === "fault" ? [...own.slice(0, 1), ...doubts, ...own.slice(1)] : [...doubts, ...own];
+  const all = level === "fault" && !areFirst ? [...own.slice(0, 1), ...doubts, ...own.slice(1)] : [...doubts, ...own];
   const rest = all.length - MOST_TOLD;
   const more = rest > 0 ? [counted(rest, "more finding")] : [];
   return [...all.slice(0, MOST_TOLD), ...more].join(" \u00b7 ");

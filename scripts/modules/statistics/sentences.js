@@ -47,12 +47,13 @@ const isOrAre = (count) => (count === 1 ? "is" : "are");
 const sum = (numbers) => numbers.reduce((total, number) => total + number, 0);
 
 /**
- * A type with its name, where the dictionary has one.
+ * A type with its name, where the dictionary has one that a draft did not make of the type itself.
  * @param {{ type: number|null }} kind
  * @param {string} name
  */
 export function typeNamed(kind, name) {
-  return name !== "" && !isUnfit(name) ? `type ${kind.type} (${name})` : `type ${kind.type}`;
+  const isTold = name !== "" && name !== `type${kind.type}` && !isUnfit(name);
+  return isTold ? `type ${kind.type} (${name})` : `type ${kind.type}`;
 }
 
 /**
