@@ -1,17 +1,11 @@
 //! The wires of a recording.
 
-ghost use Rattle.std.specs.Prelude.{◌≡◌, ◌^◌, ◌/◌, ◌%◌, ◌==◌, ◌<◌, ◌+◌, ◌≤◌, ℕ, length, map, slice_index};
+ghost use Rattle.std.specs.Prelude.{◌≡◌, ◌^◌, ◌/◌, ◌%◌, ◌==◌, ◌<◌, ℕ, length, map, slice_index};
 ghost use Rattle.bus_tap.specs.Blocks.{IsBlockOf, has_bit};
 ghost use Rattle.bus_tap.specs.Tapped.{channels, wire_level};
 
 use crate::block::{LevelBlock, LineBlock};
-use bus_bits::eight_at;
-
-/// The lowest bit of each of eight octets.
-const LOWEST: u64 = 0x0101_0101_0101_0101;
-
-/// The product of this and eight octets, each 0 or 1, has these as the bits of its highest octet, the first the lowest.
-const GATHER: u64 = 0x0102_0408_1020_4080;
+use crate::gather::Gather;
 
 /// A wire, which is a bit of each sample of a recording.
 #[derive(Clone, Copy, Debug, PartialEq, Eq)]
@@ -54,45 +48,28 @@ fn level(wire: Option<Wire>, sample: u64) -> bool
     }
 }
 
-/// A bit of each of eight octets from number `from` on, the first the lowest.
+/// A bit of each of 64 octets.
 #[inline(always)]
-fn eight_bits(octets: &[u8], from: usize, at: u8) -> u64
-    requires at { at < 8 }
-    requires within { from + 8 ≤ length octets.now }
-    ensures few { result < 256 }
-    ensures bits { (i : ℕ) → i < 8 → has_bit result i ≡ (slice_index octets.now (from + i) / 2 ^ at % 2 == 1) }
-{
-    let found = eight_at(octets, from) & LOWEST << at;
-    found.wrapping_mul(GATHER >> at) >> 56
-}
-
-/// A bit of each of 64 octets. By words and not by lanes, since for the mask of lanes LLVM has no code on each target
-/// of `c/targets/build`.
-#[inline(always)]
-fn bits(octets: &[u8], at: u8) -> u64
+fn bits<G: Gather>(octets: &[u8], at: u8) -> u64
     requires { length octets.now ≡ 64 }
     ensures { (i : ℕ) → i < 64 → has_bit result i ≡ (slice_index octets.now i / 2 ^ at % 2 == 1) }
 {
     if at >= 8 {
         return 0;
     }
-    let mut word = 0;
-    for taken in 0..8usize {
-        word = word * 256 + eight_bits(octets, 56 - 8 * taken, at);
-    }
-    word
+    G::gather(octets, at)
 }
 
 /// The levels of a wire in 64 samples of an octet each.
 #[inline(always)]
-fn levels(wire: Option<Wire>, octets: &[u8]) -> u64
+fn levels<G: Gather>(wire: Option<Wire>, octets: &[u8]) -> u64
     requires { length octets.now ≡ 64 }
     ensures { (i : ℕ) → i < 64 → has_bit result i ≡ wire_level wire (slice_index octets.now i) }
 {
     match wire {
         None => 0,
         Some(wire) => {
-            let word = bits(octets, wire.number);
+            let word = bits::<G>(octets, wire.number);
             if wire.is_inverted { !word } else { word }
         }
     }
@@ -122,18 +99,18 @@ impl Wires {
 
     /// The levels in 64 samples of an octet each.
     #[inline(always)]
-    pub fn block(&self, octets: &[u8]) -> LevelBlock
+    pub fn block<G: Gather>(&self, octets: &[u8]) -> LevelBlock
         requires { length octets.now ≡ 64 }
         ensures { IsBlockOf result (map (channels self.now) octets.now) }
     {
         LevelBlock {
             first: LineBlock {
-                clock: levels(self.first_clock, octets),
-                bits: levels(self.first_data, octets),
+                clock: levels::<G>(self.first_clock, octets),
+                bits: levels::<G>(self.first_data, octets),
             },
             second: LineBlock {
-                clock: levels(self.second_clock, octets),
-                bits: levels(self.second_data, octets),
+                clock: levels::<G>(self.second_clock, octets),
+                bits: levels::<G>(self.second_data, octets),
             },
         }
     }

@@ -3,12 +3,12 @@ use Rattle.std.proofs.Common.{◌≡◌, ℕ, zero, suc, ◌+◌, ◌-◌, ◌*�
 use Rattle.std.proofs.Common.{drop, replicate, flat_map, length-append}
 use Rattle.std.proofs.Common.{refl, sym, ap, ◌∙◌, arith, subst, inl, inr, get_or, slice_set, append_assoc, append-nil}
 use Rattle.std.proofs.lemmas.Bool.{cases_lt}
-use Rattle.std.proofs.lemmas.List.{drop-set, drop_more, get_or-drop, length-drop, map-append, length-map}
+use Rattle.std.proofs.lemmas.List.{drop-set, drop_more, get_or-drop, get_or-replicate, get_or-take, length-drop, map-append, length-map}
 use Rattle.std.proofs.lemmas.List.Concat.{flat_map-cons}
 use Rattle.std.proofs.Math.Seq.{drop-cons, set-append_seam, take-suc}
 use Rattle.bus_tap.specs.Arrival.{Arrival}
 use Rattle.std.proofs.lemmas.Grind.{flat_map-append}
-use Rattle.std.specs.Prelude.{bit_or, take}
+use Rattle.std.specs.Prelude.{bit_or, slice_index, take}
 use Rattle.bus_tap.specs.Blocks.{block_arrivals, edges_in, ones_in}
 use Rattle.bus_tap.specs.declared.block.EdgeBlock.{EdgeBlock}
 use Rattle.bus_tap.proofs.BlockLemmas.{arrivals-ones, none-in}
@@ -244,6 +244,22 @@ octet-at : (octets : List ℕ) (k : ℕ) → k < length octets → record_at 1 o
 octet-at octets k inside =
     let place : k * 1 ≡ k = omega arith in
     rw (place, drop-cons octets k 0 inside) (omega arith)
+
+-- octets that are the same are samples that are
+pub octets-alike : (octets : List ℕ) (at end n sample : ℕ) → end ≤ length octets → n ≤ end - at →
+    take n (take (end - at) (drop at octets)) ≡ replicate n (slice_index (take (end - at) (drop at octets)) 0) →
+    sample ≡ record_at 1 octets at → (k : ℕ) → k < n → record_at 1 octets (at + k) ≡ sample
+octets-alike octets at end n sample within few alike first k inside =
+    let some = take (end - at) (drop at octets) in
+    let zero : at + 0 ≡ at = omega arith in
+    let there : (i : ℕ) → i < n → get_or some i 0 ≡ record_at 1 octets (at + i) = λ i below.
+    get_or-take (end - at) (drop at octets) i 0 (omega (arith, below, few))
+    ∙ (get_or-drop at octets i 0 ∙ sym (octet-at octets (at + i) (omega (arith, below, few, within)))) in
+    sym (there k inside)
+    ∙ (sym (get_or-take n some k 0 inside)
+    ∙ (ap (λ l. get_or l k 0) alike
+    ∙ (get_or-replicate n k (slice_index some 0) 0 inside
+    ∙ (there 0 (omega (arith, inside)) ∙ (ap (record_at 1 octets) zero ∙ sym first)))))
 
 pub samples-octets : (octets : List ℕ) (at n : ℕ) → at + n ≤ length octets →
     samples_from 1 octets at n ≡ take n (drop at octets)

@@ -10,7 +10,9 @@ ghost use Rattle.port1_c.specs.Tap.{HasTapped, TapsMore, TapsRuns, samples_from}
 
 use crate::arrival::{Port1Arrival, put_edges, put_sample};
 use crate::wires::Port1Wires;
-use bus_tap::{SampleLimit, StopRule, Tap, TapWords, Wires, number_of};
+use bus_tap::{
+    ByWords, SampleLimit, StopRule, Tap, TapWords, Wires, alike as octets_alike, number_of,
+};
 
 /// The most samples of a recording.
 pub(crate) const MOST: u64 = 1 << 60;
@@ -155,6 +157,9 @@ fn alike(octets: &[u8], width: usize, at: usize, end: usize, sample: u64) -> usi
     ensures some { (1 ≤ result) × (at + result ≤ end) }
     ensures same { (k : ℕ) → k < result → record_at width octets.now (at + k) ≡ sample }
 {
+    if width == 1 {
+        return octets_alike(&octets[at..end]);
+    }
     let mut count = 1;
     while at + count < end && sample_at(octets, width, at + count) == sample {
         count += 1;
@@ -180,7 +185,7 @@ fn take_block(
     ensures taken { TapsMore tap.old stops.old arrivals.old arrived.old (map (channels wires.now) octets.now) tap.new
         stops.new arrivals.new arrived.new }
 {
-    let block = wires.block(octets);
+    let block = wires.block::<ByWords>(octets);
     let from = tap.samples();
     let edges = tap.consume_block(&block);
     put_edges(from, &edges, stops, arrivals, arrived);

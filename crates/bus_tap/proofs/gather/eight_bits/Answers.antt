@@ -1,7 +1,7 @@
 use Rattle.std.proofs.Common.{ℕ, ◌<◌, slice_index, arith}
 use Rattle.bus_bits.proofs.WordLemmas.{eight-is}
 use Rattle.bus_tap.proofs.WireLemmas.{eight-bits}
-use Rattle.bus_tap.proofs.wires.eight_bits.Goals as goal
+use Rattle.bus_tap.proofs.gather.eight_bits.Goals as goal
 
 pub returns-clause-bits : goal.returns-clause-bits
 returns-clause-bits c = λ i inside.

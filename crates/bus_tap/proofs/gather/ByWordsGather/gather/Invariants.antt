@@ -1,6 +1,6 @@
 use Rattle.std.proofs.Common.{◌≡◌, ◌+◌, ◌-◌, ◌*◌, ◌/◌, ◌%◌, ◌^◌, ◌<◌, ◌==◌, ℕ, slice_index}
 use Rattle.bus_tap.specs.Blocks.{has_bit}
-use Rattle.bus_tap.proofs.wires.bits.Given as goal
+use Rattle.bus_tap.proofs.gather.ByWordsGather.gather.Given as goal
 
 -- the bits of so many eights from the end
 abbrev pub invariant-loop-taken : goal.invariant-loop-taken
