@@ -19,7 +19,7 @@ static struct {
     uint64_t first, past;
     uint8_t has_begun[8];
 } clocked;
-static struct port1_arrival many[80 * PORT1_TAP_ROOM]; /* for 64 samples at once, and some */
+static struct port1_arrival many[64 * PORT1_TAP_ROOM + 4]; /* for 64 samples at once */
 static struct port1_clocks sound_clocks;           /* that only the library wrote */
 
 static uint32_t note_tapped(uint32_t status) { return note_call(status, &tapped, sizeof tapped); }
@@ -59,7 +59,7 @@ static uint32_t tap_push(void) {
 static uint32_t tap_feed_many(void) {
     uint8_t samples[200];
     uint32_t status, count = below(sizeof samples + 1);
-    uint64_t most = 64 * PORT1_TAP_ROOM + below(16 * PORT1_TAP_ROOM) - below(4);
+    uint64_t most = sizeof many / sizeof *many - below(9);
     fill(samples, sizeof samples);
     tapped.at = below(8) == 0 ? below(200) : 0;
     status = port1_tap_feed(&tapped.tap, samples, count, 1, &tapped.at, many, most, &tapped.arrived);
