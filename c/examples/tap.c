@@ -10,7 +10,7 @@
 #include <stdlib.h>
 
 #define MOST 4096
-#define ROOM 512
+#define ROOM 4096
 #define IDLE_ONES 15
 
 static const char *const kinds[] = {"", "frame", "damaged", "overlong", "abort", "idle"};

@@ -49,7 +49,7 @@ static struct port1_seen seen;
 static struct port1_tap tap;
 static struct port1_rest rest;
 static struct port1_clocks clocks;
-static struct port1_arrival arrivals[PORT1_TAP_ROOM];
+static struct port1_arrival arrivals[64 * PORT1_TAP_ROOM];
 static uint64_t past, arrived;
 static uint8_t rests;
 
@@ -89,9 +89,14 @@ static void pair_take(void) {
 static void tap_init(void) { port1_tap_init(&tap, &wires, 1, 2, 3); }
 static void tap_push(void) { at = 3, port1_tap_push(&tap, 5, &at, arrivals, PORT1_TAP_ROOM, &arrived); }
 static void tap_feed(void) {
-    static const uint8_t samples[] = {0, 0, 10, 10, 15, 15, 15, 15, 15, 15, 15, 15, 15, 15, 0, 0, 10, 5, 5, 1, 1};
+    static const uint8_t some[] = {0, 0, 10, 10, 15, 15, 15, 15, 15, 15, 15, 15, 15, 15, 0, 0, 10, 5, 5, 1, 1};
+    static uint8_t samples[4 * sizeof some];
+    for (uint32_t i = 0; i < sizeof samples; i++)
+        samples[i] = some[i % sizeof some];
     for (at = 0; at < sizeof samples;)
         port1_tap_feed(&tap, samples, sizeof samples, 1, &at, arrivals, PORT1_TAP_ROOM, &arrived);
+    at = 0;
+    port1_tap_feed(&tap, samples, sizeof samples, 1, &at, arrivals, sizeof arrivals / sizeof *arrivals, &arrived);
 }
 static void tap_feed_runs(void) {
     uint64_t runs[] = {0x200, 0x20a, 0x20f, 0x80f, 0x200, 0x10a, 0x205, 0x201};

@@ -19,6 +19,7 @@ static struct {
     uint64_t first, past;
     uint8_t has_begun[8];
 } clocked;
+static struct port1_arrival many[64 * PORT1_TAP_ROOM + 4]; /* for 64 samples at once */
 static struct port1_clocks sound_clocks;           /* that only the library wrote */
 
 static uint32_t note_tapped(uint32_t status) { return note_call(status, &tapped, sizeof tapped); }
@@ -40,8 +41,8 @@ static uint32_t tap_init(void) {
     wires.first_clock.used &= 1;
     wires.second_clock.number &= 7;
     if (below(8) == 0) {
-        uint32_t hold = below(4);
-        status = port1_tap_init(&tapped.tap, &wires, hold, below(9), below(12));
+        uint32_t hold = below(4), jump = below(9), rest = below(12);
+        status = port1_tap_init(&tapped.tap, &wires, hold, jump, rest);
     }
     damage(&tapped.tap, sizeof tapped.tap);
     return note_tapped(status);
@@ -54,11 +55,25 @@ static uint32_t tap_push(void) {
     return note_tapped(port1_tap_push(&tapped.tap, sample, &tapped.at, tapped.arrivals, count, &tapped.arrived));
 }
 
+/* Samples of an octet, with room for many at once. */
+static uint32_t tap_feed_many(void) {
+    uint8_t samples[200];
+    uint32_t status, count = below(sizeof samples + 1);
+    uint64_t most = sizeof many / sizeof *many - below(9);
+    fill(samples, sizeof samples);
+    tapped.at = below(8) == 0 ? below(200) : 0;
+    status = port1_tap_feed(&tapped.tap, samples, count, 1, &tapped.at, many, most, &tapped.arrived);
+    note(many, sizeof many);
+    return note_tapped(status);
+}
+
 /* Samples that often are the same as the one before. */
 static uint32_t tap_feed(void) {
     uint8_t samples[64];
     uint32_t width = below(8) > 0 ? 1 + below(4) : below(10), count = below(sizeof samples + 1);
     uint64_t most = below(ARRIVALS + 1);
+    if (below(16) == 0)
+        return tap_feed_many();
     fill(samples, sizeof samples);
     for (uint32_t k = width; k < sizeof samples; k++)
         if (below(4) > 0)

@@ -42,6 +42,89 @@ static void tap_facts(void) {
     WANT(tap.first_clock.level == 1 && tap.first_data.level == 1 && tap.second.bits.count == 0 && tap.begun);
 }
 
+static uint64_t draw(void) {
+    static uint64_t state = 88172645463325252u;
+    state ^= state << 13;
+    state ^= state >> 7;
+    state ^= state << 17;
+    return state;
+}
+
+/* Samples of four wires, each of which changes with one in `slow` of them, but for those that stand for a while. */
+enum { SAMPLES = 1200 };
+static uint8_t samples[SAMPLES];
+
+static void fill_samples(unsigned slow) {
+    for (size_t k = 0; k < SAMPLES; k++) {
+        samples[k] = k == 0 ? 0 : samples[k - 1];
+        for (unsigned wire = 0; wire < 4 && k % 500 < 400; wire++)
+            samples[k] ^= (uint8_t)((draw() % slow == 0) << wire);
+    }
+}
+
+/* The levels that count after sample `at`: of each wire the level that stood in the last `hold` + 1 samples, if one did. */
+static unsigned counted_after(size_t at, size_t hold, unsigned counted) {
+    unsigned same = 15, now = samples[at] ^ 4u;
+    for (size_t back = 1; back <= hold; back++)
+        same &= ~(now ^ samples[at > back ? at - back : 0] ^ 4u);
+    return (counted & ~same) | (now & same);
+}
+
+/* What these samples are to bring, and with which of them the last bit of each line came. */
+static struct {
+    struct port1_arrival arrivals[32 * SAMPLES];
+    size_t count, last[2];
+} wanted;
+
+static void want_bit(unsigned line, unsigned bit) {
+    wanted.arrivals[wanted.count].line = (uint8_t)(line + 1);
+    wanted.arrivals[wanted.count++].bit = (uint8_t)bit;
+}
+
+/* Where the clock of a line rises, the level of its data just before; behind a stop of that clock after fifteen 1s. */
+static void want_line(unsigned line, unsigned before, unsigned counted, size_t at, size_t rest) {
+    int is_late = rest > 0 && wanted.last[line] > 0 && at - wanted.last[line] > rest;
+    if (((~before & counted) >> 2 * line & 1) == 0)
+        return;
+    for (unsigned ones = 0; is_late && ones < 15; ones++)
+        want_bit(line, 1);
+    want_bit(line, before >> (2 * line + 1) & 1);
+    wanted.last[line] = at;
+}
+
+static void want_samples(size_t hold, size_t rest) {
+    unsigned counted = samples[0] ^ 4u;
+    memset(&wanted, 0, sizeof wanted);
+    for (size_t at = 1; at < SAMPLES; at++) {
+        unsigned before = counted;
+        counted = counted_after(at, hold, counted);
+        want_line(0, before, counted, at, rest);
+        want_line(1, before, counted, at, rest);
+    }
+}
+
+/* Many samples at once bring the same bits, whatever room there is, and however long a level has to stand. */
+static void tap_blocks(void) {
+    static const struct {
+        uint32_t hold;
+        unsigned slow, rest;
+        uint64_t room;
+    } rows[] = {{0, 2, 0, 4096}, {1, 2, 0, 4096}, {1, 2, 9, 4096}, {0, 3, 1, 2048},  {1, 9, 20, 2079},
+                {2, 3, 0, 4096}, {9, 3, 5, 4096}, {1, 3, 4, 2047}, {0, 4, 30, 9999}, {1, 5, 7, PORT1_TAP_ROOM}};
+    static struct port1_arrival got[32 * SAMPLES];
+    for (size_t k = 0; k < sizeof rows / sizeof *rows; k++) {
+        uint64_t at = 0, all = 0, arrived = 9;
+        fill_samples(rows[k].slow);
+        want_samples(rows[k].hold, rows[k].rest);
+        WANT(port1_tap_init(&tap, &wires, rows[k].hold, 2, rows[k].rest) == PORT1_OK);
+        for (; at < SAMPLES; all += arrived) {
+            WANT(port1_tap_feed(&tap, samples, SAMPLES, 1, &at, got + all, rows[k].room, &arrived) == PORT1_OK);
+            WANT(at == SAMPLES || arrived + PORT1_TAP_ROOM > rows[k].room);
+        }
+        WANT(all == wanted.count && all > 30 && memcmp(got, wanted.arrivals, all * sizeof *got) == 0);
+    }
+}
+
 /* Runs of samples: they stop where the room does, and say how many are left. */
 static void tap_runs(void) {
     uint64_t count = LIMIT - 3, arrived = 9, at = 0;
@@ -150,14 +233,6 @@ static int is_tap(void) {
     return tap.samples <= LIMIT && is_within(&tap.first, tap.samples) && is_within(&tap.second, tap.samples)
         && tap.first_clock.others <= tap.hold && tap.first_data.others <= tap.hold
         && tap.second_clock.others <= tap.hold && tap.second_data.others <= tap.hold;
-}
-
-static uint64_t draw(void) {
-    static uint64_t state = 88172645463325252u;
-    state ^= state << 13;
-    state ^= state >> 7;
-    state ^= state << 17;
-    return state;
 }
 
 /* Any octets, in three of four with numbers that a tap may have, but for one of them in one of these. */
@@ -396,6 +471,7 @@ static void clocks_refusals(void) {
 int main(void) {
     tap_bits();
     tap_facts();
+    tap_blocks();
     tap_runs();
     tap_blocks_of_runs();
     tap_runs_refused();

@@ -3,4 +3,5 @@ pub mod CaseLemmas
 pub mod ListLemmas
 pub mod OctetLemmas
 pub mod OneMoreLemmas
+pub mod ProductLemmas
 pub mod WordLemmas

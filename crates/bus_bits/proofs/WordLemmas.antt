@@ -3,8 +3,8 @@ use Rattle.std.proofs.Common.{◌≡◌, ℕ, zero, suc, ◌+◌, ◌-◌, ◌*�
 use Rattle.std.proofs.Common.{length, take, drop, get_or, All, refl, sym, ap, ◌∙◌, arith}
 use Rattle.std.specs.Prelude.{slice_index}
 use Rattle.std.proofs.lemmas.List.{drop_at}
-use Rattle.bus_bits.specs.Octet.{bits_of, bits_of_octets}
-use Rattle.bus_bits.proofs.OctetLemmas.{bits_of_octets-cons, bits-split, bits-front, bits-low, length-bits}
+use Rattle.bus_bits.specs.Octet.{bits_of, bits_of_octets, number}
+use Rattle.bus_bits.proofs.OctetLemmas.{bits_of_octets-cons, bits-split, bits-front, bits-low, length-bits, number-bits}
 use Rattle.std.specs.Int.{w64, from_le_bytes}
 use Rattle.bus_bits.specs.Bits.{bits_from}
 use Rattle.bus_bits.proofs.BitLemmas.{bits-in, bits-more, bits-taken, length-from}
@@ -90,7 +90,7 @@ eight all q =
     ∷ slice_index all (q + 4) ∷ slice_index all (q + 5)
     ∷ slice_index all (q + 6) ∷ slice_index all (q + 7) ∷ []
 
-eight-items : (all : List ℕ) (q k : ℕ) → k < 8 → get_or (eight all q) k 0 ≡ slice_index all (q + k)
+pub eight-items : (all : List ℕ) (q k : ℕ) → k < 8 → get_or (eight all q) k 0 ≡ slice_index all (q + k)
 eight-items all q zero below = ap (slice_index all) (omega arith)
 eight-items all q (suc zero) below = refl
 eight-items all q (suc (suc zero)) below = refl
@@ -101,7 +101,7 @@ eight-items all q (suc (suc (suc (suc (suc (suc zero)))))) below = refl
 eight-items all q (suc (suc (suc (suc (suc (suc (suc zero))))))) below = refl
 eight-items all q (suc (suc (suc (suc (suc (suc (suc (suc k)))))))) below = absurd (omega (arith, below))
 
-eight-small : (all : List ℕ) (q : ℕ) → ((i : ℕ) → slice_index all i < 256) → All (λ o. o < 256) (eight all q)
+pub eight-small : (all : List ℕ) (q : ℕ) → ((i : ℕ) → slice_index all i < 256) → All (λ o. o < 256) (eight all q)
 eight-small all q small zero d below = small q
 eight-small all q small (suc zero) d below = small (q + 1)
 eight-small all q small (suc (suc zero)) d below = small (q + 2)
@@ -119,6 +119,26 @@ bits-eight all q small =
     ap (bits_of 64) (word-eight (eight all q) refl)
     ∙ (word-front (eight all q) [] (eight-small all q small)
     ∙ bits-octets (eight all q) all q (8 * q) 64 refl refl (eight-items all q))
+
+-- a number with the bits of eight octets is theirs
+pub eight-is : (all : List ℕ) (q n : ℕ) → ((i : ℕ) → slice_index all i < 256) → n < 2 ^ 64 →
+    bits_of 64 n ≡ bits_from all (8 * q) 64 → n ≡ word (eight all q)
+unfolding word
+eight-is all q n small fits is =
+    let read : from_le_bytes w64 (eight all q) ≡ word (eight all q) = word-eight (eight all q) refl in
+    sym (number-bits 64 n fits)
+    ∙ (ap number (is ∙ sym (bits-eight all q small) ∙ ap (bits_of 64) read)
+    ∙ number-bits 64 (word (eight all q)) (omega (
+      arith,
+      small q,
+      small (q + 1),
+      small (q + 2),
+      small (q + 3),
+      small (q + 4),
+      small (q + 5),
+      small (q + 6),
+      small (q + 7),
+    )))
 
 -- likewise the first eight, each given by its value
 pub bits-first : (all : List ℕ) (a b c d e f g h : ℕ) → a ≡ slice_index all 0 → b ≡ slice_index all 1 →

@@ -1,48 +1,24 @@
 -- Eight marks in one number, and the octets with their bits.
 use Rattle.std.proofs.Common.{◌≡◌, ℕ, zero, suc, ◌+◌, ◌-◌, ◌*◌, ◌/◌, ◌%◌, ◌<◌, ◌==◌, ◌⊎◌, inl, inr, Bool, true}
 use Rattle.std.proofs.Common.{◌&&◌, cond, nat_lt, List, [], ◌∷◌, length, map, bit_and, refl, sym, ap, ◌∙◌, arith}
-use Rattle.std.proofs.lemmas.Bool.{cases_order, and_parts, and_from, eqb-true}
+use Rattle.std.proofs.lemmas.Bool.{and_parts, and_from, eqb-true}
 use Rattle.std.proofs.lemmas.Bool.Decides.{nat_tests}
 use Rattle.std.proofs.lemmas.List.{length-map}
 use Rattle.std.proofs.lemmas.List.Elements.{All-head, All-tail, All-cons}
-use Rattle.std.proofs.lemmas.Nat.{xor_of_8, and_block, xor_block}
+use Rattle.std.proofs.lemmas.Nat.{xor_of_8, xor_block}
 use Rattle.std.proofs.lemmas.Simd.{map-map}
 use Rattle.std.specs.Int.{w64, from_le_bytes}
 use Rattle.std.specs.Int.RustNames.{bit_xor}
 use Rattle.std.specs.List.{All, list_all}
-use Rattle.bus_bits.specs.Octet.{bits_of, number}
+use Rattle.bus_bits.specs.Octet.{bits_of}
 use Rattle.bus_formats.specs.Internal.Marks.{HasMarks}
 use Rattle.bus_bits.specs.Text.{is_bit}
 use Rattle.bus_formats.specs.Capture.{is_pair, mark_pair}
 use Rattle.std.specs.Prelude.{zip}
 use Rattle.bus_bits.proofs.CaseLemmas.{same}
 use Rattle.bus_bits.proofs.WordLemmas.{word, word-eight}
-use Rattle.bus_bits.proofs.OctetLemmas.{bits-number, number-lt}
-
--- ---- tests of all numbers
-
--- a test of each number below n
-unfoldable pub upto : (ℕ → Bool) → ℕ → Bool
-upto p zero = true
-upto p (suc n) = p n && upto p n
-
-pub upto-all : (p : ℕ → Bool) (n : ℕ) → upto p n ≡ true → (i : ℕ) → i < n → p i ≡ true
-unfolding upto
-upto-all p zero all i below = absurd (omega (arith, below))
-upto-all p (suc n) all i below =
-    let both = and_parts (p n) (upto p n) all in
-    elim (cases_order i n) [
-      | inl last ↦ rw last both.0
-      | inr (inl less) ↦ upto-all p n both.1 i less
-      | inr (inr less) ↦ absurd (omega (arith, below, less))
-    ]
-
--- ---- numbers of octets
-
--- one octet many times
-copies : ℕ → ℕ → ℕ
-copies c zero = 0
-copies c (suc n) = copies c n * 256 + c
+use Rattle.bus_bits.proofs.OctetLemmas.{bits-number}
+use Rattle.bus_bits.proofs.ProductLemmas.{copies, gathered, gathered-is, upto, upto-all, word-and}
 
 -- an operation on bits works on each octet
 word-xor : (c : ℕ) (bs : List ℕ) → c < 256 → All (λ b. b < 256) bs
@@ -52,14 +28,6 @@ word-xor c [] octet small = refl
 word-xor c (b ∷ bs) octet small =
     xor_block 8 (word bs) (copies c (length bs)) b c (All-head (λ n. n < 256) b bs small) octet
     ∙ ap (λ n. n * 256 + bit_xor b c) (word-xor c bs octet (All-tail (λ n. n < 256) b bs small))
-
-word-and : (c : ℕ) (bs : List ℕ) → c < 256 → All (λ b. b < 256) bs
-    → bit_and (word bs) (copies c (length bs)) ≡ word (map (λ b. bit_and b c) bs)
-unfolding word copies
-word-and c [] octet small = refl
-word-and c (b ∷ bs) octet small =
-    and_block 8 (word bs) (copies c (length bs)) b c (All-head (λ n. n < 256) b bs small) octet
-    ∙ ap (λ n. n * 256 + bit_and b c) (word-and c bs octet (All-tail (λ n. n < 256) b bs small))
 
 -- ---- marks
 
@@ -189,27 +157,6 @@ second_bits [] all = refl
 second_bits (b ∷ bs) all =
     let both = and_parts (is_pair b) (list_all is_pair bs) all in
     omega (arith, mark_second b both.0, second_bits bs both.1)
-
--- ---- the product
-
--- eight octets, each 0 or 1, as the bits of the highest octet of a product
-abbrev pub gathered : ℕ → ℕ
-gathered n = n * 72624976668147840 % 18446744073709551616 / 72057594037927936
-
-gathers : ℕ → Bool
-gathers o = gathered (word (map (λ b. cond b 1 0) (bits_of 8 o))) == o
-
-all-gathers : upto gathers 256 ≡ true
-unfolding upto gathers word bits_of
-all-gathers = refl
-
-gathered-is : (ys : List Bool) → length ys ≡ 8 → gathered (word (map (λ b. cond b 1 0) ys)) ≡ number ys
-unfolding gathers
-gathered-is ys eight =
-    let small : number ys < 256 = rw eight at (number-lt ys) in
-    ap (λ (z : List Bool). gathered (word (map (λ b. cond b 1 0) z))) (sym (bits-number ys 8 eight))
-    ∙ eqb-true (gathered (word (map (λ b. cond b 1 0) (bits_of 8 (number ys))))) (number ys)
-    (upto-all gathers 256 all-gathers (number ys) small)
 
 -- ---- eight octets
 

@@ -11,7 +11,7 @@ use Rattle.std.specs.Prelude.{zip}
 use Rattle.bus_bits.specs.Octet.{bits_of}
 use Rattle.bus_formats.specs.Packed.{in_pairs}
 use Rattle.bus_bits.proofs.CaseLemmas.{le_or_lt}
-use Rattle.bus_formats.proofs.EightBitsLemmas.{upto, upto-all}
+use Rattle.bus_bits.proofs.ProductLemmas.{upto, upto-all}
 
 -- ---- bits at even places
 

@@ -4,5 +4,4 @@ pub mod RunLemmas
 pub mod ReadLemmas
 pub mod CloseLemmas
 pub mod LookLemmas
-pub mod AlikeLemmas
 pub mod ReadBackLemmas

@@ -6,7 +6,6 @@ mod facts;
 mod fault;
 pub mod laws;
 mod marks;
-mod octets;
 mod options;
 mod reader;
 mod recording_reader;

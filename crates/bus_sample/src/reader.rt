@@ -19,11 +19,10 @@ ghost use Rattle.arrayvec.specs.ArrayVec.{array_vec_len};
 use crate::facts::put_facts;
 use crate::fault::SampleFault;
 use crate::marks::Marks;
-use crate::octets::alike;
 use crate::options::{Form, SampleOptions};
 use crate::recording_reader::RecordingReader;
 use arrayvec::ArrayVec;
-use bus_tap::{Tap, TapFacts, Wires, number_of};
+use bus_tap::{ByLanes, Tap, TapFacts, Wires, alike, number_of};
 use std::io::Write;
 
 /// How many octets are asked for at once.
@@ -140,7 +139,7 @@ impl SampleRun {
         ensures same { IsSameRecord self.old self.new }
         ensures sound { IsSoundRun self.new }
     {
-        let block = wires.block(octets);
+        let block = wires.block::<ByLanes>(octets);
         let from = self.tap.samples();
         let edges = self.tap.consume_block(&block);
         match self.marks.put_block(from, &edges, w) {

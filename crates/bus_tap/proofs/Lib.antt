@@ -1,4 +1,5 @@
 pub mod EachLemmas
+mod AlikeLemmas
 pub mod ArrivalLemmas
 pub mod ArrivedLemmas
 pub mod PlacesLemmas
@@ -18,4 +19,5 @@ pub mod OnesLemmas
 mod CarryLemmas
 mod CountedBlockLemmas
 pub mod BlockLemmas
+mod LaneLemmas
 mod WireLemmas

@@ -4,8 +4,10 @@
 
 mod block;
 mod facts;
+mod gather;
 pub mod laws;
 mod number;
+mod octets;
 mod places;
 mod rest;
 mod sampler;
@@ -16,7 +18,9 @@ mod words;
 
 pub use block::{EdgeBlock, LevelBlock, LineBlock, LineEdges, LowestOne, lowest_one};
 pub use facts::{Gap, Levels, LineFacts, Occurrences, TapFacts};
+pub use gather::{ByLanes, ByWords, Gather};
 pub use number::number_of;
+pub use octets::alike;
 pub use places::BitPlaces;
 pub use rest::RestRule;
 pub use sampler::{Edges, Sampler};

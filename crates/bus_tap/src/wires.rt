@@ -1,11 +1,11 @@
 //! The wires of a recording.
 
-ghost use Rattle.std.specs.Prelude.{◌≡◌, ◌^◌, ◌/◌, ◌%◌, ◌==◌, ◌<◌, ℕ, map, slice_index};
+ghost use Rattle.std.specs.Prelude.{◌≡◌, ◌^◌, ◌/◌, ◌%◌, ◌==◌, ◌<◌, ℕ, length, map, slice_index};
 ghost use Rattle.bus_tap.specs.Blocks.{IsBlockOf, has_bit};
 ghost use Rattle.bus_tap.specs.Tapped.{channels, wire_level};
 
 use crate::block::{LevelBlock, LineBlock};
-use std::simd::prelude::*;
+use crate::gather::Gather;
 
 /// A wire, which is a bit of each sample of a recording.
 #[derive(Clone, Copy, Debug, PartialEq, Eq)]
@@ -50,27 +50,26 @@ fn level(wire: Option<Wire>, sample: u64) -> bool
 
 /// A bit of each of 64 octets.
 #[inline(always)]
-fn bits(octets: &[u8; 64], at: u8) -> u64
-    requires { (i : ℕ) → slice_index octets.now i < 256 }
+fn bits<G: Gather>(octets: &[u8], at: u8) -> u64
+    requires { length octets.now ≡ 64 }
     ensures { (i : ℕ) → i < 64 → has_bit result i ≡ (slice_index octets.now i / 2 ^ at % 2 == 1) }
 {
     if at >= 8 {
         return 0;
     }
-    let mask = 1 << at;
-    let found = u8x64::from_array(*octets) & u8x64::splat(mask);
-    found.simd_eq(u8x64::splat(mask)).to_bitmask()
+    G::gather(octets, at)
 }
 
 /// The levels of a wire in 64 samples of an octet each.
 #[inline(always)]
-fn levels(wire: Option<Wire>, octets: &[u8; 64]) -> u64
+fn levels<G: Gather>(wire: Option<Wire>, octets: &[u8]) -> u64
+    requires { length octets.now ≡ 64 }
     ensures { (i : ℕ) → i < 64 → has_bit result i ≡ wire_level wire (slice_index octets.now i) }
 {
     match wire {
         None => 0,
         Some(wire) => {
-            let word = bits(octets, wire.number);
+            let word = bits::<G>(octets, wire.number);
             if wire.is_inverted { !word } else { word }
         }
     }
@@ -100,17 +99,18 @@ impl Wires {
 
     /// The levels in 64 samples of an octet each.
     #[inline(always)]
-    pub fn block(&self, octets: &[u8; 64]) -> LevelBlock
+    pub fn block<G: Gather>(&self, octets: &[u8]) -> LevelBlock
+        requires { length octets.now ≡ 64 }
         ensures { IsBlockOf result (map (channels self.now) octets.now) }
     {
         LevelBlock {
             first: LineBlock {
-                clock: levels(self.first_clock, octets),
-                bits: levels(self.first_data, octets),
+                clock: levels::<G>(self.first_clock, octets),
+                bits: levels::<G>(self.first_data, octets),
             },
             second: LineBlock {
-                clock: levels(self.second_clock, octets),
-                bits: levels(self.second_data, octets),
+                clock: levels::<G>(self.second_clock, octets),
+                bits: levels::<G>(self.second_data, octets),
             },
         }
     }

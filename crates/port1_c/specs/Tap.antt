@@ -50,6 +50,16 @@ pub record PutsArrivals (count : ℕ) (old : List Port1Arrival) (xs : List Arriv
   pub put : (start : List Port1Arrival) (ys : List Arrival) → count ≡ length ys → length start ≡ length old
       → old ≡ put_over start ys → new ≡ put_over start (ys ++ xs)
 
+-- bits that arrive with these samples, at most `most` of them with the 1s behind stops, were put behind the first
+-- `count` arrivals
+pub record PutsTimed (most : ℕ) (ts : List Timed) (rule : StopRule) (old : List Port1Arrival) (count : ℕ)
+    (stops : StopRule) (new : List Port1Arrival) (past : ℕ) : Type 0 where
+  pub xs : List Arrival
+  pub few : length xs ≤ most
+  pub number : past ≡ count + length xs
+  pub put : PutsArrivals count old xs new
+  pub rested : AdvancesStops rule ts xs stops
+
 -- with these levels, the bits that arrived were put, `count` of them, with those put in behind stops
 pub record HasTapped (from : TapState) (rule : StopRule) (start : List Port1Arrival) (levels : List ℕ) (tap : TapState)
     (stops : StopRule) (arrivals : List Port1Arrival) (count : ℕ) : Type 0 where

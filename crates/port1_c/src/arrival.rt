@@ -3,13 +3,15 @@
 ghost use Rattle.std.specs.Prelude.{◌≡◌, ◌+◌, ◌≤◌, ◌<◌, ◌↔◌, ◌∷◌, [], List, IsSome, IfSome, length, true};
 ghost use Rattle.bus_tap.specs.Arrival.{Arrival};
 ghost use Rattle.bus_tap.specs.Rested.{fill};
-ghost use Rattle.bus_tap.specs.Sampled.{bit_on, with_sample};
-ghost use Rattle.bus_tap.specs.Stopped.{AdvancesStops, stop_fill};
+ghost use Rattle.bus_bits.specs.Limits.{most_places};
+ghost use Rattle.bus_tap.specs.Blocks.{block_arrivals};
+ghost use Rattle.bus_tap.specs.Sampled.{bit_on, bits_of_edges, with_sample};
+ghost use Rattle.bus_tap.specs.Stopped.{stop_fill};
 ghost use Rattle.port1_c.specs.Rest.{arrival_told};
-ghost use Rattle.port1_c.specs.Tap.{PutsArrivals, coded};
+ghost use Rattle.port1_c.specs.Tap.{PutsArrivals, PutsTimed, coded};
 
 use bus_line::Line;
-use bus_tap::StopRule;
+use bus_tap::{EdgeBlock, Edges, StopRule, lowest_one};
 
 /// 1s that make a line idle (ISO/IEC 13239, idle state).
 const IDLE_ONES: u8 = 15;
@@ -49,7 +51,7 @@ impl Port1Arrival {
     }
 }
 
-/// PutsArrivals a bit of a line behind the first `count` arrivals.
+/// Puts a bit of a line behind the first `count` arrivals.
 fn put_arrival(line: Line, bit: bool, arrivals: &mut [Port1Arrival], count: &mut usize)
     requires room { count.old < length arrivals.old }
     ensures count { count.new ≡ count.old + 1 }
@@ -59,7 +61,7 @@ fn put_arrival(line: Line, bit: bool, arrivals: &mut [Port1Arrival], count: &mut
     *count += 1;
 }
 
-/// PutsArrivals the fifteen 1s of a line at rest.
+/// Puts the fifteen 1s of a line at rest.
 fn put_ones(line: Line, arrivals: &mut [Port1Arrival], count: &mut usize)
     requires room { count.old + 15 ≤ length arrivals.old }
     ensures count { count.new ≡ count.old + 15 }
@@ -70,7 +72,7 @@ fn put_ones(line: Line, arrivals: &mut [Port1Arrival], count: &mut usize)
     }
 }
 
-/// PutsArrivals a bit of a line, and fifteen 1s of the second line right behind it where that comes to rest.
+/// Puts a bit of a line, and fifteen 1s of the second line right behind it where that comes to rest.
 pub(crate) fn put_rested(
     line: Line,
     bit: bool,
@@ -88,8 +90,8 @@ pub(crate) fn put_rested(
     }
 }
 
-/// PutsArrivals a bit of a line, if one arrives with this sample, behind fifteen 1s if its clock stood still.
-pub(crate) fn put_bit(
+/// Puts a bit of a line, if one arrives with this sample, behind fifteen 1s if its clock stood still.
+fn put_bit(
     line: Line,
     sample: u64,
     bit: Option<bool>,
@@ -98,9 +100,8 @@ pub(crate) fn put_bit(
     count: &mut usize,
 )
     requires room { count.old + 16 ≤ length arrivals.old }
-    ensures { (xs : List Arrival) × (length xs ≤ 16) × (count.new ≡ count.old + length xs)
-        × PutsArrivals count.old arrivals.old xs arrivals.new
-        × AdvancesStops stops.old (with_sample sample (bit_on line bit)) xs stops.new }
+    ensures { PutsTimed 16 (with_sample sample (bit_on line bit)) stops.old arrivals.old count.old stops.new
+        arrivals.new count.new }
 {
     let Some(bit) = bit else {
         return;
@@ -109,4 +110,42 @@ pub(crate) fn put_bit(
         put_ones(line, arrivals, count);
     }
     put_arrival(line, bit, arrivals, count);
+}
+
+/// Puts the bits that arrive with this sample.
+pub(crate) fn put_sample(
+    sample: u64,
+    edges: Edges,
+    stops: &mut StopRule,
+    arrivals: &mut [Port1Arrival],
+    count: &mut usize,
+)
+    requires room { count.old + 32 ≤ length arrivals.old }
+    ensures { PutsTimed 32 (with_sample sample (bits_of_edges edges)) stops.old arrivals.old count.old stops.new
+        arrivals.new count.new }
+{
+    put_bit(Line::First, sample, edges.first, stops, arrivals, count);
+    put_bit(Line::Second, sample, edges.second, stops, arrivals, count);
+}
+
+/// Puts the bits that arrive with 64 samples, the first of which is `from`.
+pub(crate) fn put_edges(
+    from: u64,
+    edges: &EdgeBlock,
+    stops: &mut StopRule,
+    arrivals: &mut [Port1Arrival],
+    count: &mut usize,
+)
+    requires places { from + 64 ≤ most_places }
+    requires room { count.old + 2048 ≤ length arrivals.old }
+    ensures { PutsTimed 2048 (block_arrivals from edges.now) stops.old arrivals.old count.old stops.new
+        arrivals.new count.new }
+{
+    let mut left = edges.first.rises | edges.second.rises;
+    while left != 0 {
+        let one = lowest_one(left);
+        let sample = from + u64::from(one.place);
+        put_sample(sample, edges.at(one.place), stops, arrivals, count);
+        left = one.rest;
+    }
 }

@@ -3,20 +3,27 @@
 ghost use Rattle.std.specs.Prelude.{◌≡◌, ◌≢◌, ◌+◌, ◌-◌, ◌*◌, ◌/◌, ◌≤◌, ◌<◌, ◌++◌, List, ℕ, length, map, replicate};
 ghost use Rattle.std.specs.Prelude.{IsTrue, IsFalse, slice_get, slice_index};
 ghost use Rattle.bus_bits.specs.Limits.{most_places};
+ghost use Rattle.bus_tap.specs.Blocks.{TakesBlocks};
 ghost use Rattle.bus_tap.specs.Recorded.{record_at};
 ghost use Rattle.bus_tap.specs.Tapped.{channels};
 ghost use Rattle.port1_c.specs.Tap.{HasTapped, TapsMore, TapsRuns, samples_from};
 
-use crate::arrival::{Port1Arrival, put_bit};
+use crate::arrival::{Port1Arrival, put_edges, put_sample};
 use crate::wires::Port1Wires;
-use bus_line::Line;
-use bus_tap::{SampleLimit, StopRule, Tap, TapWords, Wires, number_of};
+use bus_tap::{
+    ByWords, SampleLimit, StopRule, Tap, TapWords, Wires, alike as octets_alike, number_of,
+};
 
 /// The most samples of a recording.
 pub(crate) const MOST: u64 = 1 << 60;
 
 /// What a sample may bring: a bit of each line, behind fifteen 1s.
 pub(crate) const MOST_ARRIVALS: usize = 32;
+
+/// How many samples are taken at once, and what they may bring.
+const BLOCK: usize = 64;
+
+const MOST_OF_BLOCK: usize = BLOCK * MOST_ARRIVALS;
 
 /// A tap between two calls. Its layout is that of `c/include/port1.h`.
 #[repr(C)]
@@ -54,23 +61,7 @@ fn take_some(
         Ok(taken) => taken,
         Err(SampleLimit) => unreachable!(),
     };
-    let last = tap.samples() - 1;
-    put_bit(
-        Line::First,
-        last,
-        taken.edges.first,
-        stops,
-        arrivals,
-        arrived,
-    );
-    put_bit(
-        Line::Second,
-        last,
-        taken.edges.second,
-        stops,
-        arrivals,
-        arrived,
-    );
+    put_sample(tap.samples() - 1, taken.edges, stops, arrivals, arrived);
     taken.samples
 }
 
@@ -166,11 +157,76 @@ fn alike(octets: &[u8], width: usize, at: usize, end: usize, sample: u64) -> usi
     ensures some { (1 ≤ result) × (at + result ≤ end) }
     ensures same { (k : ℕ) → k < result → record_at width octets.now (at + k) ≡ sample }
 {
+    if width == 1 {
+        return octets_alike(&octets[at..end]);
+    }
     let mut count = 1;
     while at + count < end && sample_at(octets, width, at + count) == sample {
         count += 1;
     }
     count
+}
+
+/// Takes 64 samples of an octet each, and puts the bits that arrive behind the first `arrived` arrivals.
+fn take_block(
+    tap: &mut Tap,
+    stops: &mut StopRule,
+    wires: &Wires,
+    octets: &[u8],
+    arrivals: &mut [Port1Arrival],
+    arrived: &mut usize,
+)
+    requires long { length octets.now ≡ 64 }
+    requires takes { TakesBlocks tap.old }
+    requires room { arrived.old + 2048 ≤ length arrivals.old }
+    ensures long { length arrivals.new ≡ length arrivals.old }
+    ensures few { arrived.new ≤ arrived.old + 2048 }
+    ensures samples { tap.new.samples ≡ tap.old.samples + 64 }
+    ensures taken { TapsMore tap.old stops.old arrivals.old arrived.old (map (channels wires.now) octets.now) tap.new
+        stops.new arrivals.new arrived.new }
+{
+    let block = wires.block::<ByWords>(octets);
+    let from = tap.samples();
+    let edges = tap.consume_block(&block);
+    put_edges(from, &edges, stops, arrivals, arrived);
+}
+
+/// Takes samples of `width` octets each, from number `at` on and before number `end`: 64 of an octet each at once, if
+/// there is room for what these may bring, or else some that are the same, and puts the bits that arrive. Returns how
+/// many samples.
+fn take_front(
+    tap: &mut Tap,
+    stops: &mut StopRule,
+    wires: &Wires,
+    octets: &[u8],
+    width: usize,
+    at: usize,
+    end: usize,
+    arrivals: &mut [Port1Arrival],
+    arrived: &mut usize,
+) -> usize
+    requires width { (1 ≤ width) × (width ≤ 8) }
+    requires order { at < end }
+    requires within { end * width ≤ length octets.now }
+    requires fits { tap.old.samples + (end - at) ≤ most_places }
+    requires room { arrived.old + 32 ≤ length arrivals.old }
+    ensures count { (1 ≤ result) × (at + result ≤ end) }
+    ensures long { (length arrivals.new ≡ length arrivals.old) × (arrived.new ≤ length arrivals.old) }
+    ensures samples { tap.new.samples ≡ tap.old.samples + result }
+    ensures taken { TapsMore tap.old stops.old arrivals.old arrived.old
+        (map (channels wires.now) (samples_from width octets.now at result)) tap.new stops.new arrivals.new
+        arrived.new }
+{
+    let has_room = arrivals.len() - *arrived >= MOST_OF_BLOCK;
+    if width == 1 && end - at >= BLOCK && has_room && tap.takes_blocks() {
+        let block = &octets[at..at + BLOCK];
+        take_block(tap, stops, wires, block, arrivals, arrived);
+        return BLOCK;
+    }
+    let sample = sample_at(octets, width, at);
+    let count = alike(octets, width, at, end, sample) as u64;
+    let levels = wires.channels(sample);
+    take_some(tap, stops, levels, count, arrivals, arrived) as usize
 }
 
 /// Takes samples of `width` octets each, from number `at` on and before number `end`, while there is room for what one
@@ -198,9 +254,8 @@ pub(crate) fn take_samples(
         arrivals.new arrived.new }
 {
     while *at < end && arrivals.len() - *arrived >= MOST_ARRIVALS {
-        let sample = sample_at(octets, width, *at);
-        let count = alike(octets, width, *at, end, sample) as u64;
-        let levels = wires.channels(sample);
-        *at += take_some(tap, stops, levels, count, arrivals, arrived) as usize;
+        *at += take_front(
+            tap, stops, wires, octets, width, *at, end, arrivals, arrived,
+        );
     }
 }

@@ -32,9 +32,8 @@ export class ClockedDecoder {
     const { places, pointers } = library.places(sizes);
     this.places = places;
     this.pointers = pointers;
-    const { port1_clocks_init: makeClocks, port1_rest_init: makeRest } = library.calls;
-    library.demand(makeClocks(pointers.clocks, BigInt(longestOf(entries)), 0n), "port1_clocks_init");
-    library.demand(makeRest(pointers.rest, BigInt(silence)), "port1_rest_init");
+    library.call("port1_clocks_init", pointers.clocks, BigInt(longestOf(entries)), 0n);
+    library.call("port1_rest_init", pointers.rest, BigInt(silence));
   }
 
   get listing() {
@@ -89,8 +88,7 @@ export class ClockedDecoder {
     const { rest, arrived, rested, next, put } = pointers;
     library.view.setBigUint64(places.next, 0n, true);
     while (library.number(places.next) < count) {
-      const status = library.calls.port1_rest_feed(rest, arrived, BigInt(count), next, rested, BigInt(ROOM), put);
-      library.demand(status, "port1_rest_feed");
+      library.call("port1_rest_feed", rest, arrived, BigInt(count), next, rested, BigInt(ROOM), put);
       const all = library.number(places.put);
       keep(library.octets.subarray(places.rested, places.rested + ARRIVAL.size * all));
       this.decode(all);
@@ -106,8 +104,7 @@ export class ClockedDecoder {
     const { clocks, rested, at, report } = pointers;
     library.view.setBigUint64(places.at, 0n, true);
     for (;;) {
-      const status = library.calls.port1_clocks_feed(clocks, rested, BigInt(count), at, report);
-      library.demand(status, "port1_clocks_feed");
+      library.call("port1_clocks_feed", clocks, rested, BigInt(count), at, report);
       if (library.view.getUint32(places.report + REPORT.kind, true) === 0) return;
       const last = places.rested + ARRIVAL.size * (library.number(places.at) - 1);
       const line = library.octets[last + ARRIVAL.line];
@@ -126,7 +123,7 @@ export class ClockedDecoder {
   tellOpen(number) {
     const { library, places } = this;
     const { clocks, flag, first, past } = this.pointers;
-    library.demand(library.calls.port1_clocks_open(clocks, number, flag, first, past), "port1_clocks_open");
+    library.call("port1_clocks_open", clocks, number, flag, first, past);
     if (library.octets[places.flag] === 0) return;
     this.listing.addPiece(number, library.number(places.first), library.number(places.past), OPEN, 0);
   }

@@ -32,7 +32,7 @@ class BusLine {
     const { places, pointers } = library.places(sizes);
     this.places = places;
     this.pointers = pointers;
-    library.demand(library.calls.port1_line_init(pointers.line, BigInt(longest), 0n), "port1_line_init");
+    library.call("port1_line_init", pointers.line, BigInt(longest), 0n);
   }
 
   /**
@@ -52,8 +52,7 @@ class BusLine {
     const { line, bits, at, report } = this.pointers;
     this.hasReport = false;
     if (this.at >= end) return;
-    const status = library.calls.port1_line_feed(line, bits, BigInt((end + 7) >> 3), at, BigInt(end), report);
-    library.demand(status, "port1_line_feed");
+    library.call("port1_line_feed", line, bits, BigInt((end + 7) >> 3), at, BigInt(end), report);
     this.at = library.view.getUint32(places.at, true);
     this.hasReport = library.view.getUint32(places.report, true) !== 0;
   }
@@ -61,7 +60,7 @@ class BusLine {
   /** The place of the first bit of a piece that nothing has ended yet, or null. */
   open() {
     const { library, places, pointers } = this;
-    library.demand(library.calls.port1_line_open(pointers.line, pointers.flag, pointers.first), "port1_line_open");
+    library.call("port1_line_open", pointers.line, pointers.flag, pointers.first);
     return library.octets[places.flag] === 0 ? null : library.number(places.first);
   }
 

@@ -118,12 +118,14 @@ export class Library {
   }
 
   /**
-   * Makes sure that a call did what it was asked.
-   * @param {number} status
-   * @param {string} what
+   * Calls the library, which has to do what it is asked.
+   * @template {keyof Calls} Name
+   * @param {Name} name
+   * @param {Parameters<Calls[Name]>} words
    */
-  demand(status, what) {
-    if (status !== 0) throw new Fault(`${what}: the decoder returned ${status}`);
+  call(name, ...words) {
+    const status = /** @type {(...words: Pointer[]) => number} */ (this.calls[name])(...words);
+    if (status !== 0) throw new Fault(`${name}: the decoder returned ${status}`);
   }
 }
 

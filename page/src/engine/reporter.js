@@ -17,7 +17,7 @@ class Pairing {
     this.places = places;
     this.pointers = pointers;
     for (const entry of entries) this.enter(entry);
-    library.demand(library.calls.port1_pair_init(pointers.pair), "port1_pair_init");
+    library.call("port1_pair_init", pointers.pair);
   }
 
   /** @param {Entry} entry */
@@ -41,10 +41,7 @@ class Pairing {
     const { library } = this;
     const { pair, table, seen } = this.pointers;
     const [told, octets] = [library.pointer(report), library.pointer(line + LINE.octets)];
-    library.demand(
-      library.calls.port1_pair_take(pair, table, BigInt(TYPES), number, told, octets, BigInt(count), seen),
-      "port1_pair_take",
-    );
+    library.call("port1_pair_take", pair, table, BigInt(TYPES), number, told, octets, BigInt(count), seen);
   }
 }
 

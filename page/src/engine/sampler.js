@@ -33,8 +33,7 @@ export class Sampler {
     this.places = places;
     this.pointers = pointers;
     this.nameWires(wires, turned);
-    const status = library.calls.port1_tap_init(pointers.tap, pointers.wires, hold, BigInt(jump), BigInt(rest));
-    library.demand(status, "port1_tap_init");
+    library.call("port1_tap_init", pointers.tap, pointers.wires, hold, BigInt(jump), BigInt(rest));
   }
 
   /**
@@ -76,13 +75,10 @@ export class Sampler {
    * @param {number} octets
    */
   feed(octets) {
-    const { tap, samples, at, arrived } = this.pointers;
-    const { port1_tap_feed: feed, port1_tap_feed_runs: feedRuns } = this.library.calls;
-    const goal = /** @type {const} */ ([at, this.library.pointer(this.arrivals), BigInt(ROOM), arrived]);
-    const status = this.hasRuns
-      ? feedRuns(tap, samples, BigInt(octets / RUN), ...goal)
-      : feed(tap, samples, BigInt(octets), this.width, ...goal);
-    this.library.demand(status, "port1_tap_feed");
+    const { library, pointers: { tap, samples, at, arrived } } = this;
+    const goal = /** @type {const} */ ([at, library.pointer(this.arrivals), BigInt(ROOM), arrived]);
+    if (this.hasRuns) library.call("port1_tap_feed_runs", tap, samples, BigInt(octets / RUN), ...goal);
+    else library.call("port1_tap_feed", tap, samples, BigInt(octets), this.width, ...goal);
   }
 
   /**

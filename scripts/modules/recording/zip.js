@@ -28,14 +28,24 @@ const REMAINDERS = Uint32Array.from({ length: 256 }, (_, octet) => {
   return rest;
 });
 
+/** The same with one, two and three octets of 0 behind it. */
+const behind = (/** @type {number} */ rest) => (rest >>> 8) ^ REMAINDERS[rest & 255];
+const SECOND = REMAINDERS.map(behind);
+const THIRD = SECOND.map(behind);
+const FOURTH = THIRD.map(behind);
+
 /**
  * A checksum without its final inversion, so that octets can be added.
  * @param {Uint8Array} octets
  * @param {number} sum of those before
  */
 function summed(octets, sum) {
-  for (let at = 0; at < octets.length; at++) sum = (sum >>> 8) ^ REMAINDERS[(sum ^ octets[at]) & 255];
-  return sum;
+  const past = octets.length & ~3;
+  for (let at = 0; at < past; at += 4) {
+    sum ^= octets[at] | (octets[at + 1] << 8) | (octets[at + 2] << 16) | (octets[at + 3] << 24);
+    sum = FOURTH[sum & 255] ^ THIRD[(sum >>> 8) & 255] ^ SECOND[(sum >>> 16) & 255] ^ REMAINDERS[sum >>> 24];
+  }
+  return octets.subarray(past).reduce((rest, octet) => behind(rest ^ octet), sum);
 }
 
 /** @param {Part} blob */

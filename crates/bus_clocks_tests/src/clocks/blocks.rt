@@ -2,7 +2,7 @@
 
 use crate::expect::{holds, same};
 use bus_rows::next_number;
-use bus_tap::{Edges, Tap, Wire, Wires};
+use bus_tap::{ByLanes, ByWords, Edges, Gather, Tap, Wire, Wires};
 use std::alloc::Global;
 use std::process::Abort;
 
@@ -99,14 +99,14 @@ impl Taken {
     }
 
     /// Takes samples by 64, and those behind by one.
-    fn take_blocks(&mut self, rt: &impl Abort, wires: &Wires, samples: &[u8]) {
+    fn take_blocks<G: Gather>(&mut self, rt: &impl Abort, wires: &Wires, samples: &[u8]) {
         let mut rest = samples;
         for _ in 0..SAMPLES {
             let Some(block) = rest.first_chunk::<64>() else {
                 break;
             };
             assert!(rt; self.tap.takes_blocks());
-            let edges = self.tap.consume_block(&wires.block(block));
+            let edges = self.tap.consume_block(&wires.block::<G>(block));
             for sample in 0..64u32 {
                 self.mark(rt, edges.at(sample));
             }
@@ -117,7 +117,7 @@ impl Taken {
 }
 
 /// However a recording is cut, blocks bring the bits and the facts of its samples.
-fn check_cuts(rt: &impl Abort, alloc: Global, wires: &Wires, samples: &[u8], hold: u32) {
+fn check_cuts<G: Gather>(rt: &impl Abort, alloc: Global, wires: &Wires, samples: &[u8], hold: u32) {
     let mut want = Taken::new(alloc, hold);
     want.take(rt, wires, samples);
     for cut in 1..=64usize {
@@ -125,7 +125,7 @@ fn check_cuts(rt: &impl Abort, alloc: Global, wires: &Wires, samples: &[u8], hol
         let mut taken = Taken::new(alloc, hold);
         let (front, rest) = samples.split_at_checked(cut).expect(rt, "samples");
         taken.take(rt, wires, front);
-        taken.take_blocks(rt, wires, rest);
+        taken.take_blocks::<G>(rt, wires, rest);
         same(rt, taken.text.as_str(), want.text.as_str(), &case);
         same(rt, taken.tap.facts(), want.tap.facts(), &case);
     }
@@ -138,8 +138,10 @@ fn blocks_of_samples(rt: HostRuntime) {
         let samples = recording(&rt, alloc, stand);
         for row in WIRES.lines() {
             let wires = wires_of(&rt, row);
-            check_cuts(&rt, alloc, &wires, &samples, 0);
-            check_cuts(&rt, alloc, &wires, &samples, 1);
+            for hold in 0..2u32 {
+                check_cuts::<ByLanes>(&rt, alloc, &wires, &samples, hold);
+                check_cuts::<ByWords>(&rt, alloc, &wires, &samples, hold);
+            }
         }
     }
 }

@@ -8,7 +8,7 @@ inverted true = refl
 inverted false = refl
 
 pub returns-then-wire : goal.returns-then-wire
-returns-then-wire c = λ i inside.
+returns-then-wire g c = λ i inside.
     rw (c.in-Some.is, c.if-wire.true)
     (bit-not c.bits-word.result i c.bits-word.type_inv inside
     ∙ (ap not (c.bits-word.ensures i inside) ∙ inverted _))

@@ -8,13 +8,13 @@ use Rattle.port1_c.proofs.arrival.put_bit.Goals as goal
 use Rattle.port1_c.proofs.arrival.put_bit.Goals.{then-push, else-push}
 
 pub returns-in_default : goal.returns-in_default
-returns-in_default c = rw (c.in_default.is) (
-  [],
-  omega arith,
-  omega arith,
-  puts-nothing c.args.count.now c.args.arrivals.now,
-  stops-nothing c.args.stops.now,
-)
+returns-in_default c = rw (c.in_default.is) (record {
+  xs = [];
+  few = omega arith;
+  number = omega arith;
+  put = puts-nothing c.args.count.now c.args.arrivals.now;
+  rested = stops-nothing c.args.stops.now;
+})
 
 pub returns : goal.returns
 returns c =
@@ -28,11 +28,11 @@ returns c =
       | then-push w ↦ rw (w.if-push.true, w.arrivals-is) w.put_ones.ensures.put
       | else-push w ↦ rw (w.if-push.false, w.arrivals-is) (puts-nothing c.args.count.now c.args.arrivals.now)
     ] in
-    rw (c.in-Some.is) (
-      fill ++ x ∷ [],
-      omega (arith, few.0, length-append fill (x ∷ [])),
-      omega (arith, few.1, c.put_arrival.ensures.count, length-append fill (x ∷ [])),
-      puts-further c.args.count.now c.if-push.count c.args.arrivals.now c.if-push.arrivals c.put_arrival.new.arrivals
-          fill (x ∷ []) few.1 put c.put_arrival.ensures.put,
-      c.push.ensures c.in-Some.bit,
-    )
+    rw (c.in-Some.is) (record {
+      xs = fill ++ x ∷ [];
+      few = omega (arith, few.0, length-append fill (x ∷ []));
+      number = omega (arith, few.1, c.put_arrival.ensures.count, length-append fill (x ∷ []));
+      put = puts-further c.args.count.now c.if-push.count c.args.arrivals.now c.if-push.arrivals
+          c.put_arrival.new.arrivals fill (x ∷ []) few.1 put c.put_arrival.ensures.put;
+      rested = c.push.ensures c.in-Some.bit;
+    })

@@ -2,6 +2,8 @@
 
 ghost use Rattle.std.specs.Prelude.{◌≡◌, ◌-◌, ◌≤◌, ◌++◌, length, replicate, take, slice_index};
 
+use bus_bits::eight_at;
+
 /// How many of these octets, from the first on and by eights, are this one.
 fn eights_alike(octets: &[u8], first: u8) -> usize
     ensures same { take result octets.now ≡ replicate result first }
@@ -9,17 +11,14 @@ fn eights_alike(octets: &[u8], first: u8) -> usize
 {
     let eight = u64::from_le_bytes([first; 8]);
     let mut count: usize = 0;
-    while let Some(next) = octets[count..].first_chunk::<8>() {
-        if u64::from_le_bytes(*next) != eight {
-            return count;
-        }
+    while octets.len() - count >= 8 && eight_at(octets, count) == eight {
         count += 8;
     }
     count
 }
 
 /// How many of these octets, from the first on, are the same.
-pub(crate) fn alike(octets: &[u8]) -> usize
+pub fn alike(octets: &[u8]) -> usize
     requires { 1 ≤ length octets.now }
     ensures same { take result octets.now ≡ replicate result (slice_index octets.now 0) }
     ensures some { (1 ≤ result) × (result ≤ length octets.now) }
