@@ -100,8 +100,11 @@ MEASURED hardest_arriving(void) { arrive(hardest, sizeof hardest); }
 
 MEASURED others(void) {
     static const struct port1_arrival given[] = {{1, 0}, {2, 1}};
+    uint64_t runs[] = {0x1a00, 0x1a05};
     at = sizeof samples;
     status = port1_tap_push(&tap, 0, &at, arrivals, 64, &arrived);
+    at = 0;
+    status = port1_tap_feed_runs(&tap, runs, 2, &at, arrivals, 64, &arrived);
     status = port1_clocks_open(&clocks, 2, &has_begun, &first, &past);
     at = 0;
     status = port1_rest_feed(&rest, given, 2, &at, arrivals, 64, &arrived);
