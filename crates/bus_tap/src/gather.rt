@@ -24,7 +24,7 @@ pub trait Gather {
 /// By lanes, which is quicker where a processor makes a mask of them.
 pub struct ByLanes;
 
-/// By words. Where `c/targets/build` compiles for processors that the toolchain does not know, LLVM has no mask of lanes.
+/// By words. For processors that `c/targets/build` alone compiles for, LLVM has no mask of lanes.
 pub struct ByWords;
 
 /// The bits with number `at` of eight octets from number `from` on, that of the first the lowest.

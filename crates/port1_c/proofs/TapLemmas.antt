@@ -3,7 +3,8 @@ use Rattle.std.proofs.Common.{◌≡◌, ℕ, zero, suc, ◌+◌, ◌-◌, ◌*�
 use Rattle.std.proofs.Common.{drop, replicate, flat_map, length-append}
 use Rattle.std.proofs.Common.{refl, sym, ap, ◌∙◌, arith, subst, inl, inr, get_or, slice_set, append_assoc, append-nil}
 use Rattle.std.proofs.lemmas.Bool.{cases_lt}
-use Rattle.std.proofs.lemmas.List.{drop-set, drop_more, get_or-drop, get_or-replicate, get_or-take, length-drop, map-append, length-map}
+use Rattle.std.proofs.lemmas.List.{drop-set, drop_more, get_or-drop, get_or-replicate, get_or-take, length-drop}
+use Rattle.std.proofs.lemmas.List.{map-append, length-map}
 use Rattle.std.proofs.lemmas.List.Concat.{flat_map-cons}
 use Rattle.std.proofs.Math.Seq.{drop-cons, set-append_seam, take-suc}
 use Rattle.bus_tap.specs.Arrival.{Arrival}
@@ -22,7 +23,8 @@ use Rattle.bus_tap.specs.declared.wires.Wires.{Wires}
 use Rattle.bus_tap.proofs.EachLemmas.{length-more}
 use Rattle.bus_tap.proofs.StopLemmas.{stops-further, stops-nothing}
 use Rattle.bus_tap.proofs.TapLemmas.{advances-further, advances-nothing, replicate-both, replicate-more}
-use Rattle.port1_c.specs.Tap.{HasTapped, PutsArrivals, PutsTimed, TapsMore, TapsRuns, coded, levels_from, put_over, run_levels}
+use Rattle.port1_c.specs.Tap.{HasTapped, PutsArrivals, PutsTimed, TapsMore, TapsRuns, coded, levels_from, put_over}
+use Rattle.port1_c.specs.Tap.{run_levels}
 use Rattle.port1_c.specs.Tap.{samples_from}
 use Rattle.port1_c.specs.declared.arrival.Port1Arrival.{Port1Arrival}
 

@@ -79,7 +79,8 @@ returns-clause-consumes g c check octets new appends =
           let is-late : late ≡ min (old.place + n - (opened.0 + 8)) n =
           c.min-late.ensures ∙ (least (old.place + n - old.settles_at) n ∙ omega (arith, at)) in
           let value = c.data_in_word.ensures.value
-          ∙ (ap (λ (y : ℕ). data_in_word (y / 2 ^ (n - late)) late) (word-front old.last_bits x c.requires.within.sixteen)
+          ∙ (ap (λ (y : ℕ). data_in_word (y / 2 ^ (n - late)) late)
+          (word-front old.last_bits x c.requires.within.sixteen)
           ∙ settled-behind (word_of old.last_bits x) (n - late) late (omega (arith, is-late, c.requires.count.1))) in
           front-tracks b x n c.requires.count.1
           (word-settled opened.0 late c.data_in_word.result.count c.data_in_word.result.bits shifted opened.1
