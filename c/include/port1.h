@@ -344,7 +344,7 @@ uint32_t port1_tap_push(struct port1_tap *tap, uint64_t sample, uint64_t *count,
 
 /* Takes samples of `width` octets each, 1 to 8, the lowest first, from sample `*at` on, until the arrivals have room
  * for fewer than PORT1_TAP_ROOM more. `*at` is then the next sample to take. Octets behind the last whole sample are
- * left alone. Samples of an octet are taken by 64 at once where `hold` is 0 or 1, and room for 64 times as many.
+ * left alone. Samples of an octet are taken 64 at once where `hold` is 0 or 1 and there is room for 2048 arrivals.
  *
  * PORT1_OK: `*at` is `count` / `width`, or call again. PORT1_BAD_ARGUMENT: just where `width` is not 1 to 8, or `*at` >
  * `count` / `width`. Nothing has changed. Else it returns what port1_tap_push returns. */
