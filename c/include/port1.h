@@ -423,8 +423,8 @@ uint32_t port1_clocks_push(struct port1_clocks *clocks, const struct port1_arriv
  * take, and `*report` what the last one decided on its line, as port1_clocks_push tells it.
  *
  * PORT1_OK: with PORT1_NONE in the report `*at` is `count`; else call again.
- * PORT1_PLACE_LIMIT, PORT1_BAD_ARGUMENT, PORT1_BAD_STATE: what port1_clocks_push returns for bit `*at`. Those before
- * were taken, and decided nothing. */
+ * PORT1_PLACE_LIMIT, PORT1_BAD_ARGUMENT: what port1_clocks_push returns for bit `*at`. Those before were taken, and
+ * decided nothing. PORT1_BAD_STATE: the memory does not hold two decoders. */
 uint32_t port1_clocks_feed(struct port1_clocks *clocks, const struct port1_arrival *arrivals, uint64_t count, uint64_t *at,
                            struct port1_report *report);
 

@@ -414,6 +414,7 @@ static void clocks_by_blocks(void) {
     WANT(port1_clocks_feed(&clocks, given, GIVEN + 1, &at, &report) == PORT1_BAD_ARGUMENT && at == GIVEN);
     memset(&clocks.second, 0, sizeof clocks.second), at = 0;
     WANT(port1_clocks_feed(&clocks, given, GIVEN, &at, &report) == PORT1_BAD_STATE && at == 0);
+    WANT(port1_clocks_feed(&clocks, given, 0, &at, &report) == PORT1_BAD_STATE && at == 0);
     WANT(port1_clocks_init(&clocks, 256, LIMIT - 1) == PORT1_OK);
     WANT(port1_clocks_feed(&clocks, given, GIVEN, &at, &report) == PORT1_PLACE_LIMIT && at == 2 && report.kind == 0);
 }

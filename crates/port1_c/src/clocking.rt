@@ -67,12 +67,37 @@ pub extern "C" fn port1_clocks_push(
         arrived_told clocks.old (xs ++ arrival_told arrival.now ∷ [])
         ≡ arrived_told clocks.old xs ++ decided_told clocks.new (arrival_told arrival.now).0 report.new }
 {
-    let Some(line) = arrival.line() else {
+    if arrival.line().is_none() {
         return BAD_ARGUMENT;
-    };
+    }
     if !clocks.is_sound() {
         return BAD_STATE;
     }
+    take(clocks, arrival, report)
+}
+
+/// Takes a bit that arrives, as [`port1_clocks_push`], where the memory holds two decoders.
+#[inline(always)]
+fn take(clocks: &mut Port1Clocks, arrival: &Port1Arrival, report: &mut Port1Report) -> u32
+    requires sound { AreSound clocks.old }
+    ensures status { (result ≡ OK) ⊎ (result ≡ PLACE_LIMIT) ⊎ (result ≡ BAD_ARGUMENT) }
+    ensures argument { result ≡ BAD_ARGUMENT ↔ (arrival.now.line < 1) ⊎ (2 < arrival.now.line) }
+    ensures limit { result ≢ BAD_ARGUMENT → (result ≡ PLACE_LIMIT
+        ↔ most_places ≤ (memory_of clocks.old (arrival_told arrival.now).0).words.place) }
+    ensures kept { result ≢ OK → (clocks.new ≡ clocks.old) × (report.new ≡ report.old) }
+    ensures sound { AreSound clocks.new }
+    ensures coded { result ≡ OK → IsCoded report.new }
+    ensures given { (clocks.new.first.words.longest ≡ clocks.old.first.words.longest)
+        × (clocks.new.first.words.origin ≡ clocks.old.first.words.origin) }
+    ensures after { result ≡ OK → (xs : List Arrival) → ClocksAfter clocks.old xs →
+        ClocksAfter clocks.new (xs ++ arrival_told arrival.now ∷ []) }
+    ensures adds { result ≡ OK → (xs : List Arrival) → ClocksAfter clocks.old xs →
+        arrived_told clocks.old (xs ++ arrival_told arrival.now ∷ [])
+        ≡ arrived_told clocks.old xs ++ decided_told clocks.new (arrival_told arrival.now).0 report.new }
+{
+    let Some(line) = arrival.line() else {
+        return BAD_ARGUMENT;
+    };
     let Ok(event) = clocks.push(line, arrival.bit != 0) else {
         return PLACE_LIMIT;
     };
@@ -83,9 +108,8 @@ pub extern "C" fn port1_clocks_push(
 /// Takes bits that arrive, from number `at` on, up to the first that decides a report. `at` is then the next to take,
 /// and the report what the last one decided on its line, in places; a frame's octets are in that line.
 ///
-/// Returns OK; where it is not OK, the bits before `at` were taken and decided nothing: PLACE_LIMIT where the line of
-/// that bit has no place for it, BAD_ARGUMENT where it is of no line, or BAD_STATE where the memory does not hold two
-/// decoders.
+/// Returns OK; PLACE_LIMIT where the line of that bit has no place for it, or BAD_ARGUMENT where it is of no line, and
+/// the bits before it were taken and decided nothing; or BAD_STATE where the memory does not hold two decoders.
 #[unsafe(no_mangle)]
 pub extern "C" fn port1_clocks_feed(
     clocks: &mut Port1Clocks,
@@ -95,6 +119,8 @@ pub extern "C" fn port1_clocks_feed(
 ) -> u32
     ensures status { (result ≡ OK) ⊎ (result ≡ PLACE_LIMIT) ⊎ (result ≡ BAD_STATE) ⊎ (result ≡ BAD_ARGUMENT) }
     ensures state { AreSound clocks.old → (result ≢ BAD_STATE) × AreSound clocks.new }
+    ensures refused { result ≢ BAD_STATE → AreSound clocks.old }
+    ensures kept { result ≡ BAD_STATE → (clocks.new ≡ clocks.old) × (at.new ≡ at.old) }
     ensures coded { IsCoded report.new }
     ensures bound { (at.old ≤ at.new) × (at.old ≤ length arrivals.now → at.new ≤ length arrivals.now) }
     ensures all { result ≡ OK → report.new.kind ≡ 0 → length arrivals.now ≤ at.new }
@@ -106,8 +132,11 @@ pub extern "C" fn port1_clocks_feed(
     ensures decides { report.new.kind ≢ 0 → LastDecides clocks.old arrivals.now at.old at.new report.new clocks.new }
 {
     *report = Port1Report::none();
+    if !clocks.is_sound() {
+        return BAD_STATE;
+    }
     while *at < arrivals.len() {
-        let status = port1_clocks_push(clocks, &arrivals[*at], report);
+        let status = take(clocks, &arrivals[*at], report);
         if status != OK {
             return status;
         }

@@ -12,24 +12,27 @@ loop-at-init c = record {
   within = λ inside. inside;
   kind = c.none.ensures.kind;
   cause = c.none.ensures.coded.others (λ two. omega (arith, two, c.none.ensures.kind));
-  sound = λ sound. sound;
+  sound = c.is_sound.ensures.0 c.if-not-is_sound.false;
   longest = refl;
   origin = refl;
   after = takes-none c.args.clocks.now c.args.arrivals.now c.args.at.now;
   none = decide-none c.args.clocks.now c.args.arrivals.now c.args.at.now;
 }
 
+pub returns-then-not-is_sound-clause-after : goal.returns-then-not-is_sound-clause-after
+returns-then-not-is_sound-clause-after c = takes-none c.args.clocks.now c.args.arrivals.now c.args.at.now
+
 pub returns-then-report-ne-NONE-clause-after : goal.returns-then-report-ne-NONE-clause-after
 returns-then-report-ne-NONE-clause-after c =
     let before = c.loop-at.invariant in
-    let push = c.port1_clocks_push-status in
+    let push = c.take-status in
     takes-more c.args.clocks.now c.loop-at.clocks push.new.clocks c.args.arrivals.now c.args.at.now c.loop-at.at
     before.order c.loop-at-test.true before.after (push.ensures.after c.if-status-ne-OK.false)
 
 pub returns-then-report-ne-NONE-clause-decides : goal.returns-then-report-ne-NONE-clause-decides
 returns-then-report-ne-NONE-clause-decides c = λ some.
     let before = c.loop-at.invariant in
-    let push = c.port1_clocks_push-status in
+    let push = c.take-status in
     let x = arrival_at c.args.arrivals.now c.loop-at.at in (
       x,
       last-taken c.args.arrivals.now c.loop-at.at c.loop-at-test.true,
@@ -42,7 +45,7 @@ returns-then-report-ne-NONE-clause-decides c = λ some.
 pub loop-at-preserved : goal.loop-at-preserved
 loop-at-preserved c =
     let before = c.loop-at.invariant in
-    let push = c.port1_clocks_push-status in
+    let push = c.take-status in
     let ok = c.if-status-ne-OK.false in
     let kind = c.if-report-ne-NONE.false in
     let x = arrival_at c.args.arrivals.now c.loop-at.at in
@@ -55,9 +58,9 @@ loop-at-preserved c =
       within = λ inside. omega (arith, c.loop-at-test.true);
       kind = kind;
       cause = (push.ensures.coded ok).others (λ two. omega (arith, two, kind));
-      sound = λ sound. push.ensures.sound ok;
-      longest = (push.ensures.given ok).0 ∙ before.longest;
-      origin = (push.ensures.given ok).1 ∙ before.origin;
+      sound = push.ensures.sound;
+      longest = push.ensures.given.0 ∙ before.longest;
+      origin = push.ensures.given.1 ∙ before.origin;
       after = takes-more c.args.clocks.now c.loop-at.clocks push.new.clocks c.args.arrivals.now c.args.at.now
           c.loop-at.at
           before.order c.loop-at-test.true before.after (push.ensures.after ok);

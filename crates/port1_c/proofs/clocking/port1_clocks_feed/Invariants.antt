@@ -9,7 +9,7 @@ invariant-loop-at l = record {
   within : l.initial.at ≤ length l.arrivals → l.at ≤ length l.arrivals;
   kind : l.report.kind ≡ 0;
   cause : l.report.cause ≡ 0;
-  sound : AreSound l.initial.clocks → AreSound l.clocks;
+  sound : AreSound l.clocks;
   longest : l.clocks.first.words.longest ≡ l.initial.clocks.first.words.longest;
   origin : l.clocks.first.words.origin ≡ l.initial.clocks.first.words.origin;
   after : TakesArrivals l.initial.clocks l.arrivals l.initial.at l.at l.clocks;

@@ -7,7 +7,7 @@ use Rattle.bus_tap.proofs.ArrivedLemmas.{arrived-more}
 use Rattle.port1_c.specs.Clocks.{arrived_told, memory_of}
 use Rattle.port1_c.specs.Line.{octets_of}
 use Rattle.port1_c.specs.Rest.{arrival_told}
-use Rattle.port1_c.proofs.clocking.port1_clocks_push.Goals as goal
+use Rattle.port1_c.proofs.clocking.take.Goals as goal
 
 pub returns-clause-adds : goal.returns-clause-adds
 returns-clause-adds c = λ ok xs after.
