@@ -5,8 +5,8 @@ import assert from "node:assert/strict";
 import { test } from "node:test";
 import { Fault } from "../../scripts/modules/fault.js";
 import { FORMS } from "../../scripts/modules/capture/forms.js";
-import { PackedReader, TextReader } from "../src/engine/capture.js";
-import { Packer } from "../src/engine/marks.js";
+import { PackedReader } from "../../scripts/modules/capture/packed.js";
+import { TextReader } from "../../scripts/modules/capture/text.js";
 import { piecesOf } from "../src/worker/pieces.js";
 import { read } from "../src/worker/source.js";
 
@@ -97,16 +97,18 @@ for (const [name, kind, octets, lines, fault] of CAPTURES) {
     for (let size = 1; size <= octets.length; size++) {
       const bits = lines.map(() => "");
       const { width } = FORMS[kind];
-      const sink = new Packer(kind, (octets, count) => {
-        for (let at = 0; at < width * count; at++) bits[at % width] += (octets[at >> 3] >> (at & 7)) & 1;
-      });
-      const reader = name.startsWith("a text") ? new TextReader(kind, sink) : new PackedReader(kind, sink);
+      const give = (octets, marks) => {
+        for (const octet of octets) {
+          for (let at = 0; at < width * marks; at++) bits[at % width] += (octet >> at) & 1;
+        }
+      };
+      const reader = new (name.startsWith("a text") ? TextReader : PackedReader)(FORMS[kind], give);
       const readAll = () => {
         for (let at = 0; at < octets.length; at += size) reader.take(octets.subarray(at, at + size));
         reader.end();
       };
       if (fault === null) readAll();
-      else assert.throws(readAll, { constructor: Fault, message: `capture: ${fault}` });
+      else assert.throws(readAll, { constructor: Fault, message: fault });
       assert.deepEqual(bits, lines, `in pieces of ${size}`);
     }
   });

@@ -1,10 +1,12 @@
-import { PackedReader, TextReader } from "../engine/capture.js";
 import { ClockedDecoder } from "../engine/clocked.js";
 import { Decoder } from "../engine/decoder.js";
 import { ARRIVAL } from "../engine/layout.js";
 import { libraryOf } from "../engine/library.js";
 import { KeptMarks, Packer } from "../engine/marks.js";
 import { Sampler } from "../engine/sampler.js";
+import { FORMS } from "../../../scripts/modules/capture/forms.js";
+import { PackedReader } from "../../../scripts/modules/capture/packed.js";
+import { TextReader } from "../../../scripts/modules/capture/text.js";
 import { Fault } from "../../../scripts/modules/fault.js";
 import { ListingReader } from "../../../scripts/modules/listing/read.js";
 import { doubtsOf, edgesOf } from "../../../scripts/modules/recording/doubts.js";
@@ -188,12 +190,32 @@ async function readListing(job, heard) {
   return { listing: reader.end(), bits: null, again: null, fault: null, notes: [], warnings: [] };
 }
 
-/** @param {BitsSource} job @param {Kind} kind @param {Road} road @param {Heard} heard */
-async function takeCapture(job, kind, { packer }, heard) {
-  const reader = job.form === "packed" ? new PackedReader(kind, packer) : new TextReader(kind, packer);
-  const pieces = piecesOf(job.file, heard);
-  for await (const piece of job.form === "text" ? plainPieces(pieces) : pieces) reader.take(piece);
-  reader.end();
+/**
+ * Takes the marks of a capture; those before a fault are taken, too.
+ * @param {BitsSource} job
+ * @param {Kind} kind
+ * @param {Road} road
+ * @param {Heard} heard
+ */
+async function takeCapture({ file, form }, kind, { packer }, heard) {
+  const Reader = form === "packed" ? PackedReader : TextReader;
+  const reader = new Reader(FORMS[kind], (octets, marks) => packer.addOctets(octets, octets.length * marks));
+  const pieces = piecesOf(file, heard);
+  try {
+    for await (const piece of form === "text" ? plainPieces(pieces) : pieces) ofCapture(() => reader.take(piece));
+    ofCapture(() => reader.end());
+  } finally {
+    packer.flush();
+  }
+}
+
+/** @param {() => void} step whose faults are those of a capture */
+function ofCapture(step) {
+  try {
+    step();
+  } catch (fault) {
+    throw fault instanceof Fault ? new Fault(`capture: ${fault.message}`) : fault;
+  }
 }
 
 /** Wires of clocks and of the data of either line, as the sampler has them. */
