@@ -87,16 +87,31 @@ MEASURED sampled(void) {
     }
 }
 
+static inline __attribute__((always_inline)) struct port1_arrival arrival(const uint8_t *octets, uint32_t k) {
+    return (struct port1_arrival){(uint8_t)(1 + k % 2), octets[k / 16] >> k / 2 % 8 & 1};
+}
+
 static inline __attribute__((always_inline)) void arrive(const uint8_t *octets, uint32_t size) {
     for (uint32_t k = 0; k < 16 * size; k++) {
-        const struct port1_arrival arrival = {(uint8_t)(1 + k % 2), octets[k / 16] >> k / 2 % 8 & 1};
-        status = port1_rest_push(&rest, &arrival, &rests);
-        status = port1_clocks_push(&clocks, &arrival, &report);
+        const struct port1_arrival one = arrival(octets, k);
+        status = port1_rest_push(&rest, &one, &rests);
+        status = port1_clocks_push(&clocks, &one, &report);
+    }
+}
+
+static inline __attribute__((always_inline)) void arrive_16(const uint8_t *octets, uint32_t size) {
+    for (uint32_t k = 0; k < 16 * size; k += 16) {
+        for (uint32_t i = 0; i < 16; i++)
+            arrivals[i] = arrival(octets, k + i);
+        for (at = 0; at < 16;)
+            status = port1_clocks_feed(&clocks, arrivals, 16, &at, &report);
     }
 }
 
 MEASURED arriving(void) { arrive(polling, sizeof polling); }
 MEASURED hardest_arriving(void) { arrive(hardest, sizeof hardest); }
+MEASURED arriving_16(void) { arrive_16(polling, sizeof polling); }
+MEASURED hardest_arriving_16(void) { arrive_16(hardest, sizeof hardest); }
 
 MEASURED others(void) {
     static const struct port1_arrival given[] = {{1, 0}, {2, 1}};
@@ -136,6 +151,7 @@ int main(void) {
     high_first(), pushed(), paired();
     sent_again(), longest_sent();
     sampled(), arriving(), hardest_arriving();
+    arriving_16(), hardest_arriving_16();
     others();
     return 0;
 }

@@ -8,12 +8,14 @@ from typing import Callable, Dict, Iterable, Iterator, List, NamedTuple, Sequenc
 
 # The functions of cost.c that call the library.
 CALLERS = ["polling_1", "polling_8", "polling_32", "hardest_1", "hardest_8", "hardest_32", "high_first", "pushed"]
-CALLERS += ["paired", "sent_again", "longest_sent", "sampled", "arriving", "hardest_arriving", "others"]
+CALLERS += ["paired", "sent_again", "longest_sent", "sampled", "arriving", "hardest_arriving", "arriving_16"]
+CALLERS += ["hardest_arriving_16", "others"]
 
 # The calls that have rows of their own.
 FEED, HIGH_FIRST, PUSH = "port1_line_feed", "port1_line_feed_high_first", "port1_line_push"
 SEND, PAIR, SAMPLE, ARRIVE = "port1_send_frame", "port1_pair_take", "port1_tap_feed", "port1_clocks_push"
-SHOWN = [FEED, HIGH_FIRST, PUSH, SEND, PAIR, SAMPLE, ARRIVE]
+ARRIVALS = "port1_clocks_feed"
+SHOWN = [FEED, HIGH_FIRST, PUSH, SEND, PAIR, SAMPLE, ARRIVE, ARRIVALS]
 
 # The samples in which cost.c has an octet of each line.
 SAMPLES = 8 * 26
@@ -113,6 +115,10 @@ ROWS: List[Row] = [
     (f"`{PAIR}`", lambda of: f"{of.mean('paired', PAIR, of.costs['paired', PAIR].calls):.0f}, {of.most(PAIR)}"),
     (f"`{SAMPLE}`", lambda of: f"{of.mean('sampled', SAMPLE, of.traffic.polling * SAMPLES):.0f}, {of.most(SAMPLE)}"),
     (f"`{ARRIVE}`", lambda of: f"{of.mean('arriving', ARRIVE, of.traffic.polling * 16):.0f}, {of.most(ARRIVE)}"),
+    (
+        f"`{ARRIVALS}`, 16 a call",
+        lambda of: f"{of.mean('arriving_16', ARRIVALS, of.traffic.polling * 16):.0f}, {of.most(ARRIVALS)}",
+    ),
     ("any other call", lambda of: str(max(of.most(name) for name in of.others()))),
 ]
 
