@@ -64,6 +64,7 @@ impl Port1Clocks {
     }
 
     /// A bit of the first line arrives.
+    #[inline(always)]
     fn push_first(&mut self, bit: bool) -> Result<Option<Event>, PlaceLimit>
         requires sound { AreSound self.old }
         ensures limit { IsErr result ↔ (most_places ≤ self.old.first.words.place) }
@@ -78,6 +79,7 @@ impl Port1Clocks {
     }
 
     /// A bit of the second line arrives.
+    #[inline(always)]
     fn push_second(&mut self, bit: bool) -> Result<Option<Event>, PlaceLimit>
         requires sound { AreSound self.old }
         ensures limit { IsErr result ↔ (most_places ≤ self.old.second.words.place) }
